@@ -1,8 +1,13 @@
 -- The fields of whatever the checker decoded are within their bounds: each row of the table cuts them so.
-use Rattle.std.proofs.Common.{◌≡◌, ℕ, Bool, true, false, cond, List, [], ◌∷◌, ◌+◌, ◌==◌, nat_le, Option, Some, None, refl, subst, ◌<◌, pos, negsuc}
-use Rattle.std.proofs.lemmas.Option.{same_Some, none-some}
-use Rattle.machine_parts.specs.thumb_isa.Rows.{Row, fits, first_fit, rows, decoded_of}
+use Rattle.std.proofs.Common.{◌≡◌, ℕ, Bool, true, false, cond, List, [], ◌∷◌, inl, inr, ◌+◌, ◌==◌, nat_le, Option, Some, None, refl, subst}
+use Rattle.machine_parts.specs.thumb_isa.declared.profile.Profile.{Profile}
+use Rattle.machine_parts.specs.thumb_isa.Rows.{Row, fits, first_fit, rows, decoded_of, decoded_for}
+use Rattle.machine_parts.specs.thumb_isa.Range.{InRange}
+use Rattle.machine_parts.specs.thumb_isa.Laws.{is_late}
+use Rattle.machine_parts.proofs.thumb_isa.LateFields.{first_or_late}
+use Rattle.machine_parts.specs.image_memory.Profiles.{profile_of}
 use Rattle.machine_parts.specs.thumb_isa.declared.instr.Instr.{Instr}
+use Rattle.machine_parts.specs.thumb_isa.declared.instr.Instr.TheVariants.{ShiftImm, AddSubReg, AddSubImm3, Imm8, Alu, AddHigh, CmpHigh, MovHigh, Bx, Blx, LdrLit, MemReg, MemImm, MemSp, Adr, AddRdSp, AddSp, SubSp, Extend, Rev, Push, Pop, Hint, Stm, Ldm, BCond, Svc, B, Bl, Barrier, Cbz, BWide, MovW, MovT, Div}
 use Rattle.machine_parts.specs.thumb_isa.declared.instr.Decoded.TheVariants.{Is, Undefined, Unpredictable, NotInProfile}
 use Rattle.machine_parts.specs.thumb_isa.declared.instr.Decoded.{Decoded}
 use Rattle.machine_parts.specs.frame_graph.declared.places.Standing.TheVariants.{Instruction, Udf}
@@ -10,8 +15,6 @@ use Rattle.machine_parts.specs.frame_graph.FlowGraph.{FlowGraph}
 use Rattle.machine_parts.specs.frame_graph.Places.{of_decoded, wide_of, standing_by, standing_at, is_udf, halfword_of}
 use Rattle.machine_parts.specs.frame_check.Accepts.{Accepted}
 use Rattle.machine_parts.specs.frame_check.Roots.{flow_graph_of}
-use Rattle.machine_parts.specs.thumb_isa.declared.instr.Instr.TheVariants.{ShiftImm, AddSubReg, AddSubImm3, Imm8, Alu, Adr, AddRdSp, Extend, Rev}
-use Rattle.machine_parts.specs.frame_facts.Machine.{works_on}
 use Rattle.accepted_code.specs.Bounds.{Bounds, AreInRange}
 use Rattle.accepted_code.proofs.RowBounds.{AllMean, rows_mean}
 
@@ -27,42 +30,70 @@ decoded_bounds : (f s : ℕ) (i : Instr) (n : ℕ) → decoded_of f s ≡ Is i n
 unfolding decoded_of
 decoded_bounds f s i n e = found rows rows_mean f s i n e
 
+-- those that only the second profile has
+late_bounds : (i : Instr) → is_late i ≡ true → InRange i → Bounds i
+late_bounds (ShiftImm op d m n) l r = absurd cc
+late_bounds (AddSubReg sub d n m) l r = absurd cc
+late_bounds (AddSubImm3 sub d n imm) l r = absurd cc
+late_bounds (Imm8 op d imm) l r = absurd cc
+late_bounds (Alu op d m) l r = absurd cc
+late_bounds (AddHigh d m) l r = absurd cc
+late_bounds (CmpHigh n m) l r = absurd cc
+late_bounds (MovHigh d m) l r = absurd cc
+late_bounds (Bx m) l r = absurd cc
+late_bounds (Blx m) l r = absurd cc
+late_bounds (LdrLit t off) l r = absurd cc
+late_bounds (MemReg op t n m) l r = absurd cc
+late_bounds (MemImm op t n off) l r = absurd cc
+late_bounds (MemSp load t off) l r = absurd cc
+late_bounds (Adr d off) l r = absurd cc
+late_bounds (AddRdSp d off) l r = absurd cc
+late_bounds (AddSp off) l r = absurd cc
+late_bounds (SubSp off) l r = absurd cc
+late_bounds (Extend op d m) l r = absurd cc
+late_bounds (Rev op d m) l r = absurd cc
+late_bounds (Push list) l r = absurd cc
+late_bounds (Pop list) l r = absurd cc
+late_bounds (Hint n) l r = absurd cc
+late_bounds (Stm n list) l r = absurd cc
+late_bounds (Ldm n list) l r = absurd cc
+late_bounds (BCond cond off) l r = absurd cc
+late_bounds (Svc imm) l r = absurd cc
+late_bounds (B off) l r = absurd cc
+late_bounds (Bl off) l r = absurd cc
+late_bounds (Barrier op option) l r = absurd cc
+late_bounds (Cbz nonzero n off) l r = r
+late_bounds (BWide off) l r = r
+late_bounds (MovW d imm) l r = r
+late_bounds (MovT d imm) l r = r
+late_bounds (Div signed d n m) l r = r
+
+bounds_for : (p : Profile) (f s : ℕ) (i : Instr) (n : ℕ) → decoded_for p f s ≡ Is i n → Bounds i
+bounds_for p f s i n e = elim (first_or_late p f s i n e) [
+  | inl first ↦ decoded_bounds f s i n first
+  | inr (second, late) ↦ late_bounds i late.late late.fields
+]
+
 pub standing_bounds : (s : FlowGraph) (p : ℕ) (i : Instr) (size : ℕ) → standing_at s p ≡ Instruction i size → Bounds i
 unfolding standing_at
-standing_bounds s p i size e = by_halves (halfword_of s p) (halfword_of s (p + 1)) e
+standing_bounds s p i size e = by_halves (profile_of s.image) (halfword_of s p) (halfword_of s (p + 1)) e
   where
-    by_decoded : (f g : ℕ) (d : Decoded) → decoded_of f g ≡ d → of_decoded d ≡ Instruction i size → Bounds i
-    by_decoded f g (Is j n) h q = let same : j ≡ i = cc in subst Bounds same (decoded_bounds f g j n h)
-    by_decoded f g Undefined h q = absurd cc
-    by_decoded f g Unpredictable h q = absurd cc
-    by_decoded f g NotInProfile h q = absurd cc
+    by_decoded : (r : Profile) (f g : ℕ) (d : Decoded) → decoded_for r f g ≡ d → of_decoded d ≡ Instruction i size → Bounds i
+    by_decoded r f g (Is j n) h q = let same : j ≡ i = cc in subst Bounds same (bounds_for r f g j n h)
+    by_decoded r f g Undefined h q = absurd cc
+    by_decoded r f g Unpredictable h q = absurd cc
+    by_decoded r f g NotInProfile h q = absurd cc
 
-    by_size : (u b : Bool) (first : ℕ) (w : Option ℕ) → cond u Udf (cond ((cond b 4 2) == 2) (of_decoded (decoded_of first 0)) (wide_of first w)) ≡ Instruction i size → Bounds i
-    by_size true b first w g = absurd cc
-    by_size false false first w g = by_decoded first 0 (decoded_of first 0) refl g
-    by_size false true first None g = absurd cc
-    by_size false true first (Some second) g = by_decoded first second (decoded_of first second) refl g
+    by_size : (r : Profile) (u b : Bool) (first : ℕ) (w : Option ℕ)
+        → cond u Udf (cond ((cond b 4 2) == 2) (of_decoded (decoded_for r first 0)) (wide_of r first w)) ≡ Instruction i size → Bounds i
+    by_size r true b first w g = absurd cc
+    by_size r false false first w g = by_decoded r first 0 (decoded_for r first 0) refl g
+    by_size r false true first None g = absurd cc
+    by_size r false true first (Some second) g = by_decoded r first second (decoded_for r first second) refl g
 
-    by_halves : (o w : Option ℕ) → standing_by o w ≡ Instruction i size → Bounds i
-    by_halves None w g = absurd cc
-    by_halves (Some first) w g = by_size (is_udf first) (nat_le 0xe800 first) first w g
+    by_halves : (r : Profile) (o w : Option ℕ) → standing_by r o w ≡ Instruction i size → Bounds i
+    by_halves r None w g = absurd cc
+    by_halves r (Some first) w g = by_size r (is_udf first) (nat_le 0xe800 first) first w g
 
 pub are_in_range : (x : Accepted) → AreInRange x
 are_in_range x f p i size c e = standing_bounds (flow_graph_of x.image f) p i size e
-
--- the register that an instruction of the data group works on is a low one
-to_low : (e d : ℕ) → (let o : Option ℕ = Some e in o) ≡ Some d → e < 8 → d < 8
-to_low e d h l = subst (λ n. n < 8) (same_Some e d h) l
-
-pub works_low : (i : Instr) (d : ℕ) → works_on i ≡ Some d → Bounds i → d < 8
-works_low (ShiftImm op e m n) d h b = to_low e d h b
-works_low (AddSubReg sub e n m) d h b = to_low e d h b
-works_low (AddSubImm3 sub e n imm) d h b = to_low e d h b
-works_low (Imm8 op e imm) d h b = to_low e d h b
-works_low (Alu op e m) d h b = to_low e d h b
-works_low (Adr e off) d h b = to_low e d h b
-works_low (AddRdSp e (pos off)) d h b = to_low e d h b.0
-works_low (AddRdSp e (negsuc off)) d h b = absurd (none-some d h)
-works_low (Extend op e m) d h b = to_low e d h b
-works_low (Rev op e m) d h b = to_low e d h b
-works_low i d h b = absurd (none-some d h)

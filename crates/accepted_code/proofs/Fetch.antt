@@ -24,9 +24,10 @@ use Rattle.machine_parts.specs.eh_bus.declared.map.TheConstants.{STACK_START, ST
 use Rattle.machine_parts.specs.thumb_isa.declared.instr.Instr.{Instr}
 use Rattle.machine_parts.specs.thumb_isa.declared.instr.Decoded.{Decoded}
 use Rattle.machine_parts.specs.thumb_isa.declared.instr.Decoded.TheVariants.{Is, Undefined, Unpredictable, NotInProfile}
-use Rattle.machine_parts.specs.thumb_isa.Rows.{decoded_of}
+use Rattle.machine_parts.specs.thumb_isa.Rows.{decoded_for}
+use Rattle.machine_parts.specs.image_memory.Profiles.{profile_of}
 use Rattle.machine_parts.specs.thumb_core.declared.regs.Regs.{Regs}
-use Rattle.machine_parts.specs.thumb_core.Step.{step_of, effect, instr_at, outcome_of, instr_of}
+use Rattle.machine_parts.specs.thumb_core.Step.{step_for, effect, instr_for, outcome_of, instr_of}
 use Rattle.machine_parts.specs.frame_graph.declared.places.Standing.TheVariants.{Instruction, Udf}
 use Rattle.machine_parts.specs.frame_graph.Places.{of_decoded, wide_of, standing_by, standing_at, is_udf, address_of, is_place, halfword_in, halfword_at, halfword_of}
 use Rattle.machine_parts.proofs.frame_reach.Stands.{stands_inside, stands_size}
@@ -189,8 +190,8 @@ module _ (image : Image) (f : Function) (ss : List Segment) (sound : IsImage ima
 
   -- an instruction that stands at pc is what a step does, and what stands there
   pub record IsFetched (i : Instr) (size : ℕ) (regs : Regs) (m : Memory) : Type 0 where
-    pub step : step_of regs m ≡ effect i size regs m
-    pub stands : instr_at m regs.pc ≡ Some (i, size)
+    pub step : step_for (profile_of image) regs m ≡ effect i size regs m
+    pub stands : instr_for (profile_of image) m regs.pc ≡ Some (i, size)
 
   pub fetched : (p : ℕ) (i : Instr) (size : ℕ) (regs : Regs) (m : Memory) → m.segments ≡ ss → regs.pc ≡ address_of flow_graph p → standing_at flow_graph p ≡ Instruction i size → IsFetched i size regs m
   unfolding standing_at
@@ -222,15 +223,15 @@ module _ (image : Image) (f : Function) (ss : List Segment) (sound : IsImage ima
       narrow first NotInProfile h = absurd cc
 
       by_size : (u b : Bool) (first : ℕ) (w : Option ℕ) → nat_le 0xe800 first ≡ b → halfword_of flow_graph p ≡ Some first → halfword_of flow_graph (p + 1) ≡ w
-          → cond u Udf (cond ((cond b 4 2) == 2) (of_decoded (decoded_of first 0)) (wide_of first w)) ≡ Instruction i size → IsFetched i size regs m
+          → cond u Udf (cond ((cond b 4 2) == 2) (of_decoded (decoded_for (profile_of image) first 0)) (wide_of (profile_of image) first w)) ≡ Instruction i size → IsFetched i size regs m
       by_size true b first w is_wide h k g = absurd cc
       by_size false false first w is_wide h k g =
-          let n = narrow first (decoded_of first 0) g in record { step = rw (first_at first h, is_wide) n.0; stands = rw (first_at first h, is_wide) n.1 }
+          let n = narrow first (decoded_for (profile_of image) first 0) g in record { step = rw (first_at first h, is_wide) n.0; stands = rw (first_at first h, is_wide) n.1 }
       by_size false true first None is_wide h k g = absurd cc
       by_size false true first (Some second) is_wide h k g =
-          let n = narrow first (decoded_of first second) g in
+          let n = narrow first (decoded_for (profile_of image) first second) g in
           record { step = rw (first_at first h, is_wide, second_at second k) n.0; stands = rw (first_at first h, is_wide, second_at second k) n.1 }
 
-      by_halves : (o w : Option ℕ) → halfword_of flow_graph p ≡ o → halfword_of flow_graph (p + 1) ≡ w → standing_by o w ≡ Instruction i size → IsFetched i size regs m
+      by_halves : (o w : Option ℕ) → halfword_of flow_graph p ≡ o → halfword_of flow_graph (p + 1) ≡ w → standing_by (profile_of image) o w ≡ Instruction i size → IsFetched i size regs m
       by_halves None w h k g = absurd cc
       by_halves (Some first) w h k g = by_size (is_udf first) (nat_le 0xe800 first) first w refl h k g

@@ -9,6 +9,7 @@ pub use Rattle.machine_parts.proofs.flow
 pub use Rattle.machine_parts.proofs.eh_phase
 pub use Rattle.machine_parts.proofs.eh_cxa
 pub use Rattle.machine_parts.proofs.thumb_core
+pub use Rattle.machine_parts.proofs.thumb_isa
 pub use Rattle.machine_parts.proofs.eh_bus
 mod Sources
 pub mod Folding

@@ -1,8 +1,8 @@
 -- What the fields of a decoded instruction may be, whichever its halfwords: so much of thumb_isa's InRange as is told by the fields alone.
 use Rattle.std.specs.Prelude.{◌%◌, ◌<◌, ◌≤◌, ◌^◌, ◌≡◌, ℕ, Contains}
-use Rattle.machine_parts.specs.thumb_isa.Range.{IsForward}
+use Rattle.machine_parts.specs.thumb_isa.Range.{IsForward, IsBranch, IsGeneral}
 use Rattle.machine_parts.specs.thumb_isa.declared.instr.Instr.{Instr}
-use Rattle.machine_parts.specs.thumb_isa.declared.instr.Instr.TheVariants.{ShiftImm, AddSubReg, AddSubImm3, Imm8, Alu, AddHigh, MovHigh, LdrLit, MemReg, MemImm, MemSp, Adr, AddRdSp, AddSp, SubSp, Extend, Rev, Push, Pop, Stm, Ldm}
+use Rattle.machine_parts.specs.thumb_isa.declared.instr.Instr.TheVariants.{ShiftImm, AddSubReg, AddSubImm3, Imm8, Alu, AddHigh, MovHigh, LdrLit, MemReg, MemImm, MemSp, Adr, AddRdSp, AddSp, SubSp, Extend, Rev, Push, Pop, Stm, Ldm, Cbz, BWide, MovW, MovT, Div}
 use Rattle.machine_parts.specs.elf_image.Functions.{Function}
 use Rattle.machine_parts.specs.frame_graph.declared.places.Standing.TheVariants.{Instruction}
 use Rattle.machine_parts.specs.frame_graph.Places.{standing_at}
@@ -31,6 +31,11 @@ Bounds (Push list) = (0 ≤ list) × (list < 2 ^ 15) × (list % 2 ^ 14 < 2 ^ 8)
 Bounds (Pop list) = (0 ≤ list) × (list < 2 ^ 16) × (list % 2 ^ 15 < 2 ^ 8)
 Bounds (Stm n list) = (n < 8) × (0 ≤ list) × (list < 2 ^ 8)
 Bounds (Ldm n list) = (n < 8) × (0 ≤ list) × (list < 2 ^ 8)
+Bounds (Cbz nonzero n off) = (n < 8) × IsForward 2 128 off
+Bounds (BWide off) = IsBranch (2 ^ 24) off
+Bounds (MovW d imm) = IsGeneral d × (imm < 2 ^ 16)
+Bounds (MovT d imm) = IsGeneral d × (imm < 2 ^ 16)
+Bounds (Div signed d n m) = IsGeneral d × IsGeneral n × IsGeneral m
 Bounds i = Unit {0}
 
 -- every instruction that the checker decoded has its fields in range

@@ -7,7 +7,8 @@ use Rattle.machine_parts.specs.eh_bus.Memory.{Memory}
 use Rattle.machine_parts.specs.eh_bus.Segment.{Segment}
 use Rattle.machine_parts.specs.image_memory.Start.{image_start}
 use Rattle.machine_parts.specs.thumb_isa.declared.instr.Instr.{Instr}
-use Rattle.machine_parts.specs.thumb_core.Step.{step_of, effect, instr_at}
+use Rattle.machine_parts.specs.image_memory.Profiles.{profile_of}
+use Rattle.machine_parts.specs.thumb_core.Step.{step_for, effect, instr_for}
 use Rattle.machine_parts.specs.thumb_core.declared.regs.Regs.{Regs}
 use Rattle.machine_parts.specs.frame_graph.declared.places.Standing.TheVariants.{Instruction}
 use Rattle.machine_parts.specs.frame_graph.Places.{address_of, standing_at}
@@ -21,11 +22,12 @@ use Rattle.accepted_code.specs.Bounds.{AreInRange}
 abbrev pub FieldsAreInRange : Type 0
 FieldsAreInRange = (x : Accepted) → AreInRange x
 
--- Over segments in which nothing read-only was changed, a step at an instruction that the checker saw has that instruction's effect.
+-- Over segments in which nothing read-only was changed, a step at an instruction that the checker saw has that instruction's effect: both decode by
+-- the image's profile.
 abbrev pub CodeIsFetched : Type 0
 CodeIsFetched = (image : Image) (f : Function) (ss : List Segment) → IsSound image → Contains image.functions f → SameMap (image_start image).memory.segments ss
     → (p : ℕ) (i : Instr) (size : ℕ) (regs : Regs) (m : Memory) → m.segments ≡ ss → regs.pc ≡ address_of (flow_graph_of image f) p → standing_at (flow_graph_of image f) p ≡ Instruction i size
-    → (step_of regs m ≡ effect i size regs m) × (instr_at m regs.pc ≡ Some (i, size))
+    → (step_for (profile_of image) regs m ≡ effect i size regs m) × (instr_for (profile_of image) m regs.pc ≡ Some (i, size))
 
 -- Every reached site of a function that is well is covered by the entry that covers the function's start.
 abbrev pub SitesShareAnEntry : Type 0

@@ -49,9 +49,10 @@ module _ (exist : MarksExist) (image : Image) (s t : Table) (u : AreRoles image 
   same_role : look s a ≡ look t a
   same_role =
       let instr = same_test (look s a).is_instr (look t a).is_instr (u.instr a) (v.instr a) in
+      let lowers = same_test (look s a).lowers (look t a).lowers (u.lowers a) (v.lowers a) in
       let starts = u.starts a ∙ sym (v.starts a) in
       let saves = same_saves in
-      λ i. record { is_instr = instr i; is_function = starts i; saves = saves i }
+      λ i. record { is_instr = instr i; lowers = lowers i; is_function = starts i; saves = saves i }
 
 pub answers : GraphsAreOne → MarksExist → AnswersAreOne
 answers graphs exist x y sx sy e =
@@ -70,5 +71,5 @@ programs one x y sx sy e =
     λ i. record {
       image = e i;
       types = types i;
-      look = λ a. record { is_instr = (roles a i).is_instr; is_function = begins_function (e i).functions a; saves = (roles a i).saves };
+      look = λ a. record { is_instr = (roles a i).is_instr; lowers = (roles a i).lowers; is_function = begins_function (e i).functions a; saves = (roles a i).saves };
     }

@@ -115,6 +115,9 @@ module _ (x : Accepted) (is : IsProgram x) (s : Recorded) (k : Keeps x s) (at : 
   abbrev P : Prologue
   P = (code x at.function at.marks).prologue
 
+  abbrev lowering : Bool
+  lowering = (code x at.function at.marks).lowers at.place
+
   abbrev place : ℕ
   place = address_of (flow_graph_of x.image at.function) at.place
 
@@ -128,23 +131,23 @@ module _ (x : Accepted) (is : IsProgram x) (s : Recorded) (k : Keeps x s) (at : 
   top = let home = k.corresponds.map.home in let above = chain_top x s.segments s.home s.first.caller s.outer k.chain in omega (arith, above, home.high)
 
   -- registers are left, and the memory is as before
-  pub plain_on : (regs : Regs) (h : Fact) → after_of P false place i f ≡ Ok h → regs.pc ≡ s.regs.pc → Holds P h s.first s.segments (with_next size regs) → On (Done, with_next size regs, memory_of s)
+  pub plain_on : (regs : Regs) (h : Fact) → after_of P lowering place i f ≡ Ok h → regs.pc ≡ s.regs.pc → Holds P h s.first s.segments (with_next size regs) → On (Done, with_next size regs, memory_of s)
   plain_on regs h e same holds = record {
     map = k.corresponds.map;
     pc = ap (λ n. (n + size) % 2 ^ 32 - (n + size) % 2 ^ 32 % 2) same ∙ pc_after;
-    holds = λ g e'. subst (λ y. Holds P y s.first s.segments (with_next size regs)) (same_ok h g (sym e ∙ e')) holds;
+    holds = λ r g e'. subst (λ y. Holds P y s.first s.segments (with_next size regs)) (same_ok h g (sym e ∙ e')) holds;
   }
 
-  pub loaded_on : (r : Result ℕ BusFault) (t : ℕ) (h : Fact) → after_of P false place i f ≡ Ok h → ((v : ℕ) → r ≡ Ok v → Holds P h s.first s.segments (with_next size (with_reg s.regs t v)))
+  pub loaded_on : (r : Result ℕ BusFault) (t : ℕ) (h : Fact) → after_of P lowering place i f ≡ Ok h → ((v : ℕ) → r ≡ Ok v → Holds P h s.first s.segments (with_next size (with_reg s.regs t v)))
       → On (with_memory (loaded r t size s.regs) (memory_of s))
   loaded_on (Err fault) t h e g = tt
   loaded_on (Ok v) t h e g = plain_on (with_reg s.regs t v) h e refl (g v refl)
 
-  lost_on : (r : Result ℕ BusFault) (t : ℕ) → t < 8 → after_of P false place i f ≡ Ok (lost t f) → On (with_memory (loaded r t size s.regs) (memory_of s))
+  lost_on : (r : Result ℕ BusFault) (t : ℕ) → t < 8 → after_of P lowering place i f ≡ Ok (lost t f) → On (with_memory (loaded r t size s.regs) (memory_of s))
   lost_on r t low e = loaded_on r t (lost t f) e (λ v o. written_holds P f s.first s.segments s.regs (with_next size (with_reg s.regs t v)) t (word_in t v) Other at.holds low k.sound.words.count refl tt)
 
   -- a store
-  stored_on : (n a v : ℕ) → after_of P false place i f ≡ Ok f → On (store_end (store n (memory_of s) a v) size s.regs s.regs)
+  stored_on : (n a v : ℕ) → after_of P lowering place i f ≡ Ok f → On (store_end (store n (memory_of s) a v) size s.regs s.regs)
   stored_on n a v e = go (store n (memory_of s) a v) refl
     where
       go : (o : Result (Unit {0}) BusFault × Memory) → store n (memory_of s) a v ≡ o → On (store_end o size s.regs s.regs)
@@ -152,12 +155,12 @@ module _ (x : Accepted) (is : IsProgram x) (s : Recorded) (k : Keeps x s) (at : 
       go (Ok tt, m) w = record {
         map = store_is_map n (memory_of s) a v m w k.corresponds.map;
         pc = pc_after;
-        holds = λ g e'. subst (λ y. Holds P y s.first s.segments (with_next size s.regs)) (same_ok f g (sym e ∙ e'))
+        holds = λ r g e'. subst (λ y. Holds P y s.first s.segments (with_next size s.regs)) (same_ok f g (sym e ∙ e'))
             (moved_holds P f s.first s.segments s.regs (with_next size s.regs) at.holds (λ j. inr refl) refl);
       }
 
   -- a run of stores, and a low register written
-  run_on : (a n v : ℕ) (ws : List ℕ) → n < 8 → after_of P false place i f ≡ Ok (lost n f) → On (store_end (store_run (memory_of s) a ws) size s.regs (with_reg s.regs n v))
+  run_on : (a n v : ℕ) (ws : List ℕ) → n < 8 → after_of P lowering place i f ≡ Ok (lost n f) → On (store_end (store_run (memory_of s) a ws) size s.regs (with_reg s.regs n v))
   run_on a n v ws low e = go (store_run (memory_of s) a ws) refl
     where
       go : (o : Result (Unit {0}) BusFault × Memory) → store_run (memory_of s) a ws ≡ o → On (store_end o size s.regs (with_reg s.regs n v))
@@ -165,7 +168,7 @@ module _ (x : Accepted) (is : IsProgram x) (s : Recorded) (k : Keeps x s) (at : 
       go (Ok tt, m) w = record {
         map = run_is_map (memory_of s) a ws m w k.corresponds.map;
         pc = pc_after;
-        holds = λ g e'. subst (λ y. Holds P y s.first s.segments (with_next size (with_reg s.regs n v))) (same_ok (lost n f) g (sym e ∙ e'))
+        holds = λ r g e'. subst (λ y. Holds P y s.first s.segments (with_next size (with_reg s.regs n v))) (same_ok (lost n f) g (sym e ∙ e'))
             (written_holds P f s.first s.segments s.regs (with_next size (with_reg s.regs n v)) n (word_in n v) Other at.holds low k.sound.words.count refl tt);
       }
 
@@ -174,7 +177,7 @@ module _ (x : Accepted) (is : IsProgram x) (s : Recorded) (k : Keeps x s) (at : 
   either false y z p q = q
 
   -- STR STRH STRB LDRSB LDR LDRH LDRB LDRSH
-  reg_on : (op t a : ℕ) → t < 8 → ((b : Bool) → nat_lt op 3 ≡ b → after_of P false place i f ≡ Ok (cond b f (lost t f))) → On (reg_access op t a size s.regs (memory_of s))
+  reg_on : (op t a : ℕ) → t < 8 → ((b : Bool) → nat_lt op 3 ≡ b → after_of P lowering place i f ≡ Ok (cond b f (lost t f))) → On (reg_access op t a size s.regs (memory_of s))
   reg_on op t a low e = go (op == 0) refl (op == 1) refl (op == 2) refl
     where
       stores : nat_lt op 3 ≡ true → (n : ℕ) → On (store_end (store n (memory_of s) a (reg s.regs t % 256 ^ n)) size s.regs s.regs)
@@ -203,7 +206,7 @@ module _ (x : Accepted) (is : IsProgram x) (s : Recorded) (k : Keeps x s) (at : 
           high (inr l) = l
 
   -- STR LDR STRB LDRB STRH LDRH
-  imm_on : (op t a : ℕ) → op < 6 → t < 8 → ((b : Bool) → ((op == 1) || (op == 3) || (op == 5)) ≡ b → after_of P false place i f ≡ Ok (cond b (lost t f) f)) → On (imm_access op t a size s.regs (memory_of s))
+  imm_on : (op t a : ℕ) → op < 6 → t < 8 → ((b : Bool) → ((op == 1) || (op == 3) || (op == 5)) ≡ b → after_of P lowering place i f ≡ Ok (cond b (lost t f) f)) → On (imm_access op t a size s.regs (memory_of s))
   imm_on zero t a l low e = stored_on 4 a (reg s.regs t % 256 ^ 4) (e false refl)
   imm_on (suc zero) t a l low e = lost_on (load 4 (memory_of s) a) t low (e true refl)
   imm_on (suc (suc zero)) t a l low e = stored_on 1 a (reg s.regs t % 256 ^ 1) (e false refl)
@@ -213,7 +216,7 @@ module _ (x : Accepted) (is : IsProgram x) (s : Recorded) (k : Keeps x s) (at : 
   imm_on (suc (suc (suc (suc (suc (suc op)))))) t a l low e = absurd (omega (arith, l))
 
   -- a load of a word of the stack
-  word_on : (t off : ℕ) → t < 8 → after_of P false place i f ≡ Ok (with_source f t (stack_word P f (pos off)))
+  word_on : (t off : ℕ) → t < 8 → after_of P lowering place i f ≡ Ok (with_source f t (stack_word P f (pos off)))
       → On (with_memory (loaded (load 4 (memory_of s) ((reg_in s SP + off) % 2 ^ 32)) t size s.regs) (memory_of s))
   word_on t off low e = loaded_on (load 4 (memory_of s) ((reg_in s SP + off) % 2 ^ 32)) t (with_source f t (stack_word P f (pos off))) e
       (λ v o. written_holds P f s.first s.segments s.regs (with_next size (with_reg s.regs t v)) t (word_in t v) (stack_word P f (pos off)) at.holds low k.sound.words.count refl
@@ -224,7 +227,7 @@ module _ (x : Accepted) (is : IsProgram x) (s : Recorded) (k : Keeps x s) (at : 
       low_word d v l = let no : (d == 13) ≡ false = grind (arith, nat_tests) in ap (λ b. cond b (v % 2 ^ 32 - v % 2 ^ 32 % 4) (v % 2 ^ 32)) no
 
   -- LDM
-  module _ (n list : ℕ) (low : n < 8) (few : list < 2 ^ 8) (e : after_of P false place i f ≡ Ok (lost n (clobbered (listed list) f))) where
+  module _ (n list : ℕ) (low : n < 8) (few : list < 2 ^ 8) (e : after_of P lowering place i f ≡ Ok (lost n (clobbered (listed list) f))) where
     abbrev a : ℕ
     a = reg s.regs n
 

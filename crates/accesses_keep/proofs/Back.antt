@@ -16,7 +16,8 @@ use Rattle.steps_keep.specs.thumb_isa.declared.instr.Instr.{Instr}
 use Rattle.steps_keep.specs.thumb_core.Laws.{AreSound, KeepsMap}
 use Rattle.steps_keep.specs.thumb_core.Outcome.{Outcome as Stepping}
 use Rattle.steps_keep.specs.thumb_core.Registers.{even}
-use Rattle.steps_keep.specs.thumb_core.Step.{step_of, instr_at}
+use Rattle.steps_keep.specs.image_memory.Profiles.{profile_of}
+use Rattle.steps_keep.specs.thumb_core.Step.{step_for, instr_for}
 use Rattle.steps_keep.proofs.thumb_core.Follows.{step_follows}
 use Rattle.steps_keep.specs.thumb_core.declared.regs.TheConstants.{SP}
 use Rattle.steps_keep.specs.thumb_core.declared.regs.Regs.{Regs}
@@ -45,6 +46,7 @@ use Rattle.steps_keep.specs.stands_for.Chain.{StandsAt, StandsAtCall, Chain}
 use Rattle.steps_keep.specs.stands_for.Cleanups.{goal_at, IsHeld, IsWithin, AreInProgress}
 use Rattle.steps_keep.specs.stands_for.Stands.{Keeps, IsProgram, OnEvent, Turns}
 use Rattle.accesses_keep.proofs.Left.{stands_after}
+use Rattle.steps_keep.proofs.stands_for.SpTests.{sp_passes}
 use Rattle.steps_keep.proofs.stands_for.Slots.{first_slots, none_or}
 use Rattle.steps_keep.proofs.stands_for.Onward.{reguarded_is, map_left}
 use Rattle.accesses_keep.proofs.Returns.{caller_same}
@@ -56,9 +58,9 @@ none_there (g ∷ more) h = absurd (h g (inl refl))
 
 module _ (x : Accepted) (is : IsProgram x) (s : Recorded) (k : Keeps x s) (at : StandsAt x s.first s.segments s.regs s.regs.pc) (i : Instr) (size : ℕ)
     (stands : standing_at (flow_graph_of x.image at.function) at.place ≡ Instruction i size)
-    (regs : Regs) (step : step_of s.regs (memory_of s) ≡ (Return s.first.caller.back, regs, memory_of s)) (sp_is : slice_index regs.r SP ≡ s.first.caller.sp)
+    (regs : Regs) (step : step_for (profile_of x.image) s.regs (memory_of s) ≡ (Return s.first.caller.back, regs, memory_of s)) (sp_is : slice_index regs.r SP ≡ s.first.caller.sp)
     (saved_is : (j : ℕ) → j < 8 → slice_index regs.r (j + 4) ≡ slice_index s.first.caller.saved j) (pc_is : regs.pc ≡ even s.first.caller.back)
-    (none : pushes_some (instr_at (memory_of s) s.regs.pc) ≡ 0) where
+    (none : pushes_some (instr_for (profile_of x.image) (memory_of s) s.regs.pc) ≡ 0) where
   abbrev caller : Caller
   caller = s.first.caller
 
@@ -66,10 +68,10 @@ module _ (x : Accepted) (is : IsProgram x) (s : Recorded) (k : Keeps x s) (at : 
   new = slice_index regs.r SP
 
   sound : AreSound regs.r regs.pc
-  sound = subst (λ (o : Stepping). AreSound o.1.r o.1.pc) step ((step_follows s.regs (memory_of s)).sound k.sound)
+  sound = subst (λ (o : Stepping). AreSound o.1.r o.1.pc) step ((step_follows (profile_of x.image) s.regs (memory_of s)).sound k.sound)
 
   keeps_map : KeepsMap (memory_of s) (memory_of s)
-  keeps_map = subst (λ (o : Stepping). KeepsMap (memory_of s) o.2) step (step_follows s.regs (memory_of s)).memory
+  keeps_map = subst (λ (o : Stepping). KeepsMap (memory_of s) o.2) step (step_follows (profile_of x.image) s.regs (memory_of s)).memory
 
   same_regs : returned caller regs ≡ regs
   same_regs =
@@ -191,20 +193,15 @@ module _ (x : Accepted) (is : IsProgram x) (s : Recorded) (k : Keeps x s) (at : 
       go false h = refl
 
   module _ (input : List ℕ) where
-    no_landing : (b : Bool) → leaves_cleanup (innermost_in (cleanups_in s.cleanups)) (reg_in s SP) new ≡ b
-        → cond b (Some (the_end.Trap kind.SpInCleanup new s.regs.pc)) (cond (nat_lt new s.home.0) (Some (the_end.Trap kind.StackLimit new s.regs.pc)) None) ≡ None
-        → leaves_cleanup (innermost_in (cleanups_in s.cleanups)) (reg_in s SP) new ≡ false
-    no_landing true l h = absurd cc
-    no_landing false l h = l
-
     tested : (o : Option End) → acts.tests (program_of x) s (Return caller.back) regs ≡ o
         → OnEvent x (acts.onward (program_of x) s (acts.tested (program_of x) s (Return caller.back) regs (memory_of s) o) input)
     tested (Some end) e = k
     tested None e =
-        let two = none_or (sp_end (innermost_in (cleanups_in s.cleanups)) s.home.0 s.regs.pc (reg_in s SP) new) (acts.return_end (program_of x) s.regs.pc s.outer regs) e in
-        moved_keeps s.outer refl (no_landing (leaves_cleanup (innermost_in (cleanups_in s.cleanups)) (reg_in s SP) new) refl two.0) two.1
+        let two = none_or (sp_end (look x.roles s.regs.pc).lowers (innermost_in (cleanups_in s.cleanups)) s.home.0 s.regs.pc (reg_in s SP) new) (acts.return_end (program_of x) s.regs.pc s.outer regs) e in
+        let passed = sp_passes (look x.roles s.regs.pc).lowers (innermost_in (cleanups_in s.cleanups)) s.home.0 s.regs.pc (reg_in s SP) new two.0 in
+        moved_keeps s.outer refl passed.landing_stays two.1
 
-    checked : OnEvent x (acts.onward (program_of x) s (acts.stepped (program_of x) s (step_of s.regs (memory_of s))) input)
+    checked : OnEvent x (acts.onward (program_of x) s (acts.stepped (program_of x) s (step_for (profile_of x.image) s.regs (memory_of s))) input)
     checked =
         subst (λ (o : Stepping). OnEvent x (acts.onward (program_of x) s (acts.stepped (program_of x) s o) input)) (sym step)
         (subst (λ (r : Regs). OnEvent x (acts.onward (program_of x) s (acts.with_tests (program_of x) s (Return caller.back) r (memory_of s)) input)) (sym same_regs)

@@ -237,7 +237,7 @@ module _ (x : Accepted) (is : IsProgram x) (ranges : AreInRange x) (s : Recorded
   pub first_push_turns : (input : List ℕ) → Turns x s input
   first_push_turns input = push_turns x is s k list does at_g input
     where
-      at_g : (m : Memory) → store_run (memory_of s) (push.a x is s k list does) (words_of list s.regs) ≡ (Ok tt, m) → (g : Fact) → after_of P false (address_of flow_graph at.place) (Push list) f ≡ Ok g
+      at_g : (m : Memory) → store_run (memory_of s) (push.a x is s k list does) (words_of list s.regs) ≡ (Ok tt, m) → (g : Fact) → after_of P ((code x at.function at.marks).lowers at.place) (address_of flow_graph at.place) (Push list) f ≡ Ok g
           → Holds P g (with_gs s.first (push.gs x is s k list does)) m.segments (push.regs x is s k list does)
       at_g m stores g e =
           let b = push.is_after x is s k list does g e in

@@ -40,7 +40,7 @@ module _ (x : Accepted) (is : IsProgram x) (ranges : AreInRange x) (s : Recorded
   later_push_turns past input = push_turns x is s k list does holds input
     where
       holds : (m : Memory) → store_run (memory_of s) (a x is s k list does) (words_of list s.regs) ≡ (Ok tt, m) → (g : Fact)
-          → after_of (code x does.at.function does.at.marks).prologue false (address_of (flow_graph_of x.image does.at.function) does.at.place) (Push list) does.at.fact ≡ Ok g
+          → after_of (code x does.at.function does.at.marks).prologue ((code x does.at.function does.at.marks).lowers does.at.place) (address_of (flow_graph_of x.image does.at.function) does.at.place) (Push list) does.at.fact ≡ Ok g
           → Holds (code x does.at.function does.at.marks).prologue g (with_gs s.first (gs x is s k list does)) m.segments (regs x is s k list does)
       holds m stores g e =
           let b = is_after x is s k list does g e in

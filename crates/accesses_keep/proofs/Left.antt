@@ -34,7 +34,8 @@ use Rattle.steps_keep.specs.eh_phase.declared.phase2.Goal.{Goal}
 use Rattle.steps_keep.specs.thumb_core.Laws.{AreSound}
 use Rattle.steps_keep.specs.thumb_core.Outcome.{Outcome as Stepping}
 use Rattle.steps_keep.specs.thumb_core.Registers.{with_pc}
-use Rattle.steps_keep.specs.thumb_core.Step.{step_of, instr_at}
+use Rattle.steps_keep.specs.image_memory.Profiles.{profile_of}
+use Rattle.steps_keep.specs.thumb_core.Step.{step_for, instr_for}
 use Rattle.steps_keep.proofs.thumb_core.Follows.{step_follows}
 use Rattle.steps_keep.specs.thumb_core.declared.regs.Stepped.TheVariants.{Return}
 use Rattle.steps_keep.specs.thumb_core.declared.ends.End.{End}
@@ -59,10 +60,10 @@ use Rattle.accesses_keep.proofs.Returns.{finds, stepped, sp_is, saved_is, same_r
 -- ---- after a call
 
 -- a call goes on, and leaves what it found but for the registers that it may change
-call_leaves : (i : Instr) (p : Prologue) (at : ℕ) (f : Fact) → is_call i ≡ true → (reaches_next i ≡ true) × (after_of p false at i f ≡ Ok (clobbered call_changes f))
-call_leaves (Bl off) p at f h = (refl, refl)
-call_leaves (Blx m) p at f h = (refl, refl)
-call_leaves i p at f h = absurd cc
+call_leaves : (i : Instr) (p : Prologue) (lowers : Bool) (at : ℕ) (f : Fact) → is_call i ≡ true → (reaches_next i ≡ true) × (after_of p lowers at i f ≡ Ok (clobbered call_changes f))
+call_leaves (Bl off) p lowers at f h = (refl, refl)
+call_leaves (Blx m) p lowers at f h = (refl, refl)
+call_leaves i p lowers at f h = absurd cc
 
 module _ (x : Accepted) (is : IsProgram x) (segments : List _) (c : Caller) (a : Activation) (out : StandsAtCall x segments c a) where
   abbrev place : ℕ
@@ -75,7 +76,7 @@ module _ (x : Accepted) (is : IsProgram x) (segments : List _) (c : Caller) (a :
   pub stands_after : (regs : Regs) → length c.saved ≡ 8 → length regs.r ≡ 15 → ((j : ℕ) → j < 8 → slice_index regs.r (j + 4) ≡ slice_index c.saved j) → slice_index regs.r SP ≡ c.sp
       → regs.pc ≡ place → (look x.roles regs.pc).is_instr ≡ true → begins_function x.image.functions regs.pc ≡ false → StandsAt x a segments regs regs.pc
   stands_after regs count fifteen saved sp pc reached fresh =
-      let leaves = call_leaves out.instr (code x out.function out.marks).prologue (address_of (flow_graph_of x.image out.function) out.place) out.fact out.call in
+      let leaves = call_leaves out.instr (code x out.function out.marks).prologue ((code x out.function out.marks).lowers out.place) (address_of (flow_graph_of x.image out.function) out.place) out.fact out.call in
       let instr : IsInstr x.image x.image.functions place = subst (λ n. IsInstr x.image x.image.functions n) pc ((is.sound.roles.instr regs.pc).0 reached) in
       let fresh_there : begins_function x.image.functions place ≡ false = subst (λ n. begins_function x.image.functions n ≡ false) pc fresh in
       let edge = next_edge x.image out.function out.place out.instr out.size is.image out.of.among out_even out.stands leaves.0 instr fresh_there in
@@ -143,7 +144,7 @@ module _ (x : Accepted) (is : IsProgram x) (s : Recorded) (k : Keeps x s) (at : 
         )
 
     sound : AreSound regs.r regs.pc
-    sound = subst (λ (o : Stepping). AreSound o.1.r o.1.pc) (stepped x is s k at m size stands) ((step_follows s.regs (memory_of s)).sound k.sound)
+    sound = subst (λ (o : Stepping). AreSound o.1.r o.1.pc) (stepped x is s k at m size stands) ((step_follows (profile_of x.image) s.regs (memory_of s)).sound k.sound)
 
     pc : regs.pc ≡ address_of (flow_graph_of x.image links.0.function) links.0.place + links.0.size
     pc =
@@ -175,7 +176,7 @@ module _ (x : Accepted) (is : IsProgram x) (s : Recorded) (k : Keeps x s) (at : 
   abbrev base : Recorded
   base = record s { regs = regs }
 
-  none_pushed : pushes_some (instr_at (memory_of s) s.regs.pc) ≡ 0
+  none_pushed : pushes_some (instr_for (profile_of x.image) (memory_of s) s.regs.pc) ≡ 0
   none_pushed = ap pushes_some (fetched x.image at.function s.segments is.image at.of.among k.image at.place (Bx m) size s.regs (memory_of s) refl at.address stands).stands
 
   -- after the tests
@@ -187,7 +188,7 @@ module _ (x : Accepted) (is : IsProgram x) (s : Recorded) (k : Keeps x s) (at : 
   moved_keeps (a ∷ more) e h =
       let fell : begins_function x.image.functions regs.pc ≡ false = go (begins_function x.image.functions regs.pc) h in
       let same_sp : acts.reguarded_at (program_of x) s regs base ≡ base =
-      reguarded_at_one_sp (look x.roles s.regs.pc).saves (pushes_some (instr_at (memory_of s) s.regs.pc)) (reg_in s SP) (slice_index regs.r SP) base none_pushed refl in
+      reguarded_at_one_sp (look x.roles s.regs.pc).saves (pushes_some (instr_for (profile_of x.image) (memory_of s) s.regs.pc)) (reg_in s SP) (slice_index regs.r SP) base none_pushed refl in
       subst (Keeps x) (sym (ap (acts.activations_after (Return caller.back)) same_sp ∙ ap (λ (o : List Activation). acts.left_by o base) e)) (left_keeps a more e fell)
     where
       go : (b : Bool) → cond b (Some (the_end.Trap kind.FellOff regs.pc s.regs.pc)) None ≡ None → b ≡ false
@@ -200,9 +201,9 @@ module _ (x : Accepted) (is : IsProgram x) (s : Recorded) (k : Keeps x s) (at : 
     tested (Some end) e = k
     tested None e =
         moved_keeps s.outer refl
-        (none_or (sp_end (innermost_in (cleanups_in s.cleanups)) s.home.0 s.regs.pc (reg_in s SP) (slice_index regs.r SP)) (acts.return_end (program_of x) s.regs.pc s.outer regs) e)
+        (none_or (sp_end (look x.roles s.regs.pc).lowers (innermost_in (cleanups_in s.cleanups)) s.home.0 s.regs.pc (reg_in s SP) (slice_index regs.r SP)) (acts.return_end (program_of x) s.regs.pc s.outer regs) e)
 
-    checked : OnEvent x (acts.onward (program_of x) s (acts.stepped (program_of x) s (step_of s.regs (memory_of s))) input)
+    checked : OnEvent x (acts.onward (program_of x) s (acts.stepped (program_of x) s (step_for (profile_of x.image) s.regs (memory_of s))) input)
     checked =
         subst (λ (o : Stepping). OnEvent x (acts.onward (program_of x) s (acts.stepped (program_of x) s o) input)) (sym (stepped x is s k at m size stands))
         (subst (λ (r : Regs). OnEvent x (acts.onward (program_of x) s (acts.with_tests (program_of x) s (Return caller.back) r (memory_of s)) input)) (sym (same_regs x is s k at m size stands))

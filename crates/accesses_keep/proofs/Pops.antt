@@ -15,7 +15,8 @@ use Rattle.steps_keep.specs.thumb_core.Branch.{return_to}
 use Rattle.steps_keep.specs.thumb_core.Lists.{bytes_of, load_list, pop, pop_end, pop_to}
 use Rattle.steps_keep.specs.thumb_core.Outcome.{Outcome as Stepping, fault_outcome, with_memory}
 use Rattle.steps_keep.specs.thumb_core.Registers.{reg, put, word_in, with_all, with_reg, with_pc, with_next, even}
-use Rattle.steps_keep.specs.thumb_core.Step.{step_of}
+use Rattle.steps_keep.specs.image_memory.Profiles.{profile_of}
+use Rattle.steps_keep.specs.thumb_core.Step.{step_for}
 use Rattle.steps_keep.specs.thumb_core.Words.{listed, loads_from, load_words}
 use Rattle.steps_keep.specs.thumb_core.declared.regs.CoreTrap.TheVariants.{Memory as MemoryFault, EvenTarget}
 use Rattle.steps_keep.specs.thumb_core.declared.regs.TheConstants.{SP, PC}
@@ -39,6 +40,7 @@ use Rattle.steps_keep.specs.frame_graph.Places.{address_of}
 use Rattle.steps_keep.specs.frame_check.Accepts.{Accepted}
 use Rattle.steps_keep.specs.frame_check.Roots.{flow_graph_of}
 use Rattle.steps_keep.specs.two_machines.Activations.{Caller, Recorded, reg_in, memory_of}
+use Rattle.steps_keep.specs.two_machines.Checked.{program_of}
 use Rattle.steps_keep.specs.two_machines.ActivationMachine as acts
 use Rattle.steps_keep.specs.accepted_code.Bounds.{Bounds, AreInRange}
 use Rattle.steps_keep.specs.stands_for.Holds.{Holds}
@@ -63,6 +65,9 @@ module _ (x : Accepted) (is : IsProgram x) (ranges : AreInRange x) (s : Recorded
 
   abbrev P : Prologue
   P = (code x at.function at.marks).prologue
+
+  abbrev lowering : Bool
+  lowering = (code x at.function at.marks).lowers at.place
 
   abbrev place : ℕ
   place = address_of (flow_graph_of x.image at.function) at.place
@@ -114,13 +119,13 @@ module _ (x : Accepted) (is : IsProgram x) (ranges : AreInRange x) (s : Recorded
     same_list : listed list ≡ low
     same_list = listed_low list ∙ ap (λ ks. low ++ ks) (with_pc_high list range.2 ∙ ap (λ n. cond (n == 1) (15 ∷ []) []) clear) ∙ append-nil low
 
-    after_pop : (g : Fact) → after_of P false place (Pop list) f ≡ Ok g → gone_on None (option_map (λ d. moved_to P d f1) (bounded_depth (pos f.depth -ℤ pos (4 * length low)))) ≡ Ok g
+    after_pop : (g : Fact) → after_of P lowering place (Pop list) f ≡ Ok g → gone_on None (option_map (λ d. moved_to P d f1) (bounded_depth (pos f.depth -ℤ pos (4 * length low)))) ≡ Ok g
     after_pop g e =
         subst (λ ks. gone_on None (option_map (λ d. moved_to P d (loaded P f 0 ks f)) (bounded_depth (pos f.depth -ℤ pos (4 * length ks)))) ≡ Ok g) same_list
         (subst (λ o. gone_on o (option_map (λ d. moved_to P d (loaded P f 0 (listed list) f)) (bounded_depth (pos f.depth -ℤ pos (4 * length (listed list))))) ≡ Ok g)
         (ap (λ n. cond (n == 1) (Some (stack_word P f (pos (4 * length (listed list)) -ℤ pos 4))) None) clear) e)
 
-    pop_holds : (r : List ℕ) → load_words s.segments sp (loads_from 0 low) s.regs.r ≡ Ok r → (g : Fact) → after_of P false place (Pop list) f ≡ Ok g
+    pop_holds : (r : List ℕ) → load_words s.segments sp (loads_from 0 low) s.regs.r ≡ Ok r → (g : Fact) → after_of P lowering place (Pop list) f ≡ Ok g
         → Holds P g s.first s.segments (with_next does.size (with_reg (record s.regs { r = r }) SP ((sp + low_bytes list) % 2 ^ 32)))
     pop_holds r w g e = go (bounded_depth (pos f.depth -ℤ pos (4 * length low))) refl (after_pop g e)
       where
@@ -144,7 +149,7 @@ module _ (x : Accepted) (is : IsProgram x) (ranges : AreInRange x) (s : Recorded
         go : (o : Result (List ℕ) BusFault) → load_words s.segments sp (loads_from 0 low) s.regs.r ≡ o → IsOn x is s k at (Pop list) does.size does.stands (pop list does.size s.regs (memory_of s))
         go (Err fault) w = subst (IsOn x is s k at (Pop list) does.size does.stands) (sym (pop_fault list does.size s.regs (memory_of s) fault k.sound.words.count w)) tt
         go (Ok r) w = subst (IsOn x is s k at (Pop list) does.size does.stands) (sym (pop_plain list does.size s.regs (memory_of s) r (loaded_all r w) range.2 clear))
-            (record { map = k.corresponds.map; pc = pc_after x is s k at (Pop list) does.size does.stands; holds = pop_holds r w })
+            (record { map = k.corresponds.map; pc = pc_after x is s k at (Pop list) does.size does.stands; holds = λ v. pop_holds r w })
 
   -- ---- into pc
 
@@ -165,7 +170,7 @@ module _ (x : Accepted) (is : IsProgram x) (ranges : AreInRange x) (s : Recorded
     well : (d : ℕ) × (d + (4 * length low + 4) ≡ f.depth) × ReturnsWell (moved_to P d f1) back_source
     well = by_after (left x is s k at (Pop list) does.size does.stands).0 (left x is s k at (Pop list) does.size does.stands).1
       where
-        by_after : (g : Fact) → after_of P false place (Pop list) f ≡ Ok g → (d : ℕ) × (d + (4 * length low + 4) ≡ f.depth) × ReturnsWell (moved_to P d f1) back_source
+        by_after : (g : Fact) → after_of P lowering place (Pop list) f ≡ Ok g → (d : ℕ) × (d + (4 * length low + 4) ≡ f.depth) × ReturnsWell (moved_to P d f1) back_source
         by_after g e = go (bounded_depth (pos f.depth -ℤ pos (4 * length low + 4))) refl named
           where
             some_pc : popped_pc P list f ≡ Some back_source
@@ -195,7 +200,7 @@ module _ (x : Accepted) (is : IsProgram x) (ranges : AreInRange x) (s : Recorded
     abbrev caller : Caller
     caller = s.first.caller
 
-    fetched_step : step_of s.regs (memory_of s) ≡ pop list does.size s.regs (memory_of s)
+    fetched_step : step_for (profile_of x.image) s.regs (memory_of s) ≡ pop list does.size s.regs (memory_of s)
     fetched_step = (fetch x is s k at (Pop list) does.size does.stands).step
 
     module _ (r : List ℕ) (w : load_words s.segments sp (loads_from 0 low) s.regs.r ≡ Ok r) (v : ℕ) (e : loads 4 s.segments ((sp + low_bytes list) % 2 ^ 32) ≡ Ok v) where
@@ -217,7 +222,7 @@ module _ (x : Accepted) (is : IsProgram x) (ranges : AreInRange x) (s : Recorded
       abbrev regs : Regs
       regs = with_pc (with_reg (record s.regs { r = r }) SP to_sp) caller.back
 
-      step : step_of s.regs (memory_of s) ≡ (Return caller.back, regs, memory_of s)
+      step : step_for (profile_of x.image) s.regs (memory_of s) ≡ (Return caller.back, regs, memory_of s)
       step =
           let small = k.whole.back in
           let odd = k.whole.odd in
@@ -256,7 +261,7 @@ module _ (x : Accepted) (is : IsProgram x) (ranges : AreInRange x) (s : Recorded
         by_bit true q = by_odd (slice_index words PC % 2 == 0) q
         by_bit false q = let z : Done ≡ Trap (MemoryFault fault) = ap (λ (w : Stepping). w.0) q in cc
 
-    never_back : (fault : BusFault) → pop list does.size s.regs (memory_of s) ≡ fault_outcome fault s.regs (memory_of s) → acts.pops_back s ≡ None
+    never_back : (fault : BusFault) → pop list does.size s.regs (memory_of s) ≡ fault_outcome fault s.regs (memory_of s) → acts.pops_back (program_of x) s ≡ None
     never_back fault e =
         ap (λ (q : Option (Instr × ℕ)). acts.popped_back s (acts.pops_some q)) (fetch x is s k at (Pop list) does.size does.stands).stands
         ∙ ap (λ n. cond (n == 1) (acts.popped s list (load_list list sp s.regs (memory_of s))) None) set_pc ∙ no_load fault (load_list list sp s.regs (memory_of s)) e

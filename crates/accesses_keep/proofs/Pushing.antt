@@ -1,7 +1,7 @@
 -- PUSH: whatever its new slots are, what every event keeps is kept where the fact after it holds of the words that it stored.
 use Rattle.std.proofs.Common.{◌≡◌, ℕ, ◌+◌, ◌-◌, ◌*◌, ◌%◌, ◌^◌, ◌<◌, ◌≤◌, inl, inr, nat_lt, Bool, true, false, cond, List, [], ◌∷◌, ◌++◌, map, filter, length, Option, Some, None, Result, Ok, Err, slice_index, set, refl, sym, ap, subst, ◌∙◌, arith, pos}
 use Rattle.std.specs.Prelude.{option_map, ◌+ℤ◌}
-use Rattle.std.proofs.lemmas.Bool.{cases_lt, le-ltb, lt-ltb}
+use Rattle.std.proofs.lemmas.Bool.{le-ltb}
 use Rattle.std.proofs.lemmas.Int.{ints}
 use Rattle.std.proofs.lemmas.List.{get_or-set_same}
 use Rattle.steps_keep.specs.eh_bus.Guards.{insert_all}
@@ -20,7 +20,8 @@ use Rattle.steps_keep.specs.thumb_core.Laws.{AreSound, KeepsMap}
 use Rattle.steps_keep.specs.thumb_core.Lists.{words_of, bytes_of}
 use Rattle.steps_keep.specs.thumb_core.Outcome.{Outcome as Stepping}
 use Rattle.steps_keep.specs.thumb_core.Registers.{word_in, with_reg, with_next}
-use Rattle.steps_keep.specs.thumb_core.Step.{step_of, instr_at}
+use Rattle.steps_keep.specs.image_memory.Profiles.{profile_of}
+use Rattle.steps_keep.specs.thumb_core.Step.{step_for, instr_for}
 use Rattle.steps_keep.specs.thumb_core.Words.{listed}
 use Rattle.steps_keep.proofs.thumb_core.Follows.{step_follows}
 use Rattle.steps_keep.specs.thumb_core.declared.regs.TheConstants.{SP}
@@ -38,7 +39,7 @@ use Rattle.steps_keep.specs.frame_graph.Places.{address_of}
 use Rattle.steps_keep.specs.frame_check.Accepts.{Accepted}
 use Rattle.steps_keep.specs.frame_check.Roots.{flow_graph_of}
 use Rattle.steps_keep.specs.frame_check.Roles.{look}
-use Rattle.steps_keep.specs.two_machines.Machine.{fell_off, sp_end, leaves_cleanup, reguarded, saved_words}
+use Rattle.steps_keep.specs.two_machines.Machine.{fell_off, sp_end, reguarded, saved_words}
 use Rattle.steps_keep.specs.two_machines.Activations.{Activation, Recorded, reg_in, memory_of, freed_in, staying, guarded_of, heads, lists_of, cleanups_in, InProgress}
 use Rattle.steps_keep.specs.two_machines.ActivationLaws.{IsPlain}
 use Rattle.steps_keep.specs.two_machines.ActivationMachine.{reguarded_in}
@@ -57,6 +58,7 @@ use Rattle.steps_keep.specs.stands_for.Cleanups.{IsWithin, AreInProgress}
 use Rattle.steps_keep.specs.stands_for.Stands.{Keeps, IsProgram, OnEvent, DoesAt, Turns}
 use Rattle.accesses_keep.proofs.Accesses.{pc_after}
 use Rattle.steps_keep.proofs.stands_for.Goes.{chain_top, next_stands}
+use Rattle.steps_keep.proofs.stands_for.SpTests.{sp_passes}
 use Rattle.steps_keep.proofs.stands_for.Slots.{outer_same, same_slot_words, none_or}
 use Rattle.steps_keep.proofs.stands_for.Onward.{fetch, left}
 use Rattle.steps_keep.proofs.prologue_states.Ordered.{within_pos}
@@ -76,6 +78,9 @@ module _ (x : Accepted) (is : IsProgram x) (s : Recorded) (k : Keeps x s) (list 
   abbrev P : Prologue
   P = (code x at.function at.marks).prologue
 
+  abbrev lowering : Bool
+  lowering = (code x at.function at.marks).lowers at.place
+
   abbrev place : ℕ
   place = address_of (flow_graph_of x.image at.function) at.place
 
@@ -92,7 +97,7 @@ module _ (x : Accepted) (is : IsProgram x) (s : Recorded) (k : Keeps x s) (list 
     pub deep : depth ≤ DEEPEST
     pub gives : g ≡ pushed_to P place depth f
 
-  pub is_after : (g : Fact) → after_of P false place (Push list) f ≡ Ok g → After g
+  pub is_after : (g : Fact) → after_of P lowering place (Push list) f ≡ Ok g → After g
   is_after g e = go (bounded_depth (pos f.depth +ℤ pos (4 * n))) refl e
     where
       go : (o : Option ℕ) → bounded_depth (pos f.depth +ℤ pos (4 * n)) ≡ o → gone_on None (option_map (λ d. pushed_to P place d f) o) ≡ Ok g → After g
@@ -147,14 +152,14 @@ module _ (x : Accepted) (is : IsProgram x) (s : Recorded) (k : Keeps x s) (list 
     abbrev pub u : Recorded
     u = record s { regs = regs; segments = m.segments; first = with_gs s.first gs }
 
-    step : step_of s.regs (memory_of s) ≡ (Done, regs, m)
+    step : step_for (profile_of x.image) s.regs (memory_of s) ≡ (Done, regs, m)
     step = (fetch x is s k at (Push list) does.size does.stands).step ∙ ap (λ (o : Result (Unit {0}) BusFault × Memory). store_end o does.size s.regs (with_reg s.regs SP a)) stores
 
     pub keeps : KeepsMap (memory_of s) m
-    keeps = subst (λ (o : Stepping). KeepsMap (memory_of s) o.2) step (step_follows s.regs (memory_of s)).memory
+    keeps = subst (λ (o : Stepping). KeepsMap (memory_of s) o.2) step (step_follows (profile_of x.image) s.regs (memory_of s)).memory
 
     sound : AreSound regs.r regs.pc
-    sound = subst (λ (o : Stepping). AreSound o.1.r o.1.pc) step ((step_follows s.regs (memory_of s)).sound k.sound)
+    sound = subst (λ (o : Stepping). AreSound o.1.r o.1.pc) step ((step_follows (profile_of x.image) s.regs (memory_of s)).sound k.sound)
 
     words : SameWords s.segments m.segments (s.first ∷ s.outer)
     words = same_slot_words s m keeps
@@ -204,7 +209,7 @@ module _ (x : Accepted) (is : IsProgram x) (s : Recorded) (k : Keeps x s) (list 
         (subst (λ (b : Bool). IsMap (record { segments = m.segments; guards = insert_all (guarded_of (staying s.home old new s.beyond) (with_gs s.first (cond b (filter (stays_guarded s.home new) gs) gs) ∷ map (λ (b : Activation). freed_in s.home old new b) s.outer)) []; home = s.home })) same_sp
         (subst IsMap (same_slots s.home m.segments saves n old new s.first s.outer s.beyond) reguarded_map)))
 
-    push_keeps : (g : Fact) → after_of P false place (Push list) f ≡ Ok g → s.home.0 ≤ new → Holds P g (with_gs s.first gs) m.segments regs → begins_function x.image.functions regs.pc ≡ false → Keeps x u
+    push_keeps : (g : Fact) → after_of P lowering place (Push list) f ≡ Ok g → s.home.0 ≤ new → Holds P g (with_gs s.first gs) m.segments regs → begins_function x.image.functions regs.pc ≡ false → Keeps x u
     push_keeps g e low holds fresh = record {
       corresponds = record {
         map = map_left low;
@@ -228,31 +233,23 @@ module _ (x : Accepted) (is : IsProgram x) (s : Recorded) (k : Keeps x s) (list 
         at_landing [] h = tt
         at_landing (c ∷ more) h = let q = falls in omega (arith, h.0, q.0)
 
-    module _ (holds : (g : Fact) → after_of P false place (Push list) f ≡ Ok g → Holds P g (with_gs s.first gs) m.segments regs) (input : List ℕ) where
+    module _ (holds : (g : Fact) → after_of P lowering place (Push list) f ≡ Ok g → Holds P g (with_gs s.first gs) m.segments regs) (input : List ℕ) where
       by_tests : (o : Option End) → acts.tests (program_of x) s Done regs ≡ o → OnEvent x (acts.onward (program_of x) s (acts.tested (program_of x) s Done regs m o) input)
       by_tests (Some end) t = k
       by_tests None t =
           let fetched = fetch x is s k at (Push list) does.size does.stands in
-          let count : pushes_some (instr_at (memory_of s) s.regs.pc) ≡ n = ap pushes_some fetched.stands in
-          let two = none_or (sp_end (innermost_in (cleanups_in s.cleanups)) s.home.0 s.regs.pc old new) (acts.control_flow_trap_of (program_of x) s (branches_some (instr_at (memory_of s) s.regs.pc) s.regs) Done regs) t in
-          let straight : branches_some (instr_at (memory_of s) s.regs.pc) s.regs ≡ false = ap (λ (o : Option (Instr × ℕ)). branches_some o s.regs) fetched.stands in
+          let count : pushes_some (instr_for (profile_of x.image) (memory_of s) s.regs.pc) ≡ n = ap pushes_some fetched.stands in
+          let two = none_or (sp_end (look x.roles s.regs.pc).lowers (innermost_in (cleanups_in s.cleanups)) s.home.0 s.regs.pc old new) (acts.control_flow_trap_of (program_of x) s (branches_some (instr_for (profile_of x.image) (memory_of s) s.regs.pc) s.regs) Done regs) t in
+          let straight : branches_some (instr_for (profile_of x.image) (memory_of s) s.regs.pc) s.regs ≡ false = ap (λ (o : Option (Instr × ℕ)). branches_some o s.regs) fetched.stands in
           let fell : fell_off (program_of x) s.regs.pc regs.pc ≡ None = subst (λ (b : Bool). cond b None (fell_off (program_of x) s.regs.pc regs.pc) ≡ None) straight two.1 in
-          let low = sp_tests (leaves_cleanup (innermost_in (cleanups_in s.cleanups)) old new) two.0 in
+          let passed = sp_passes (look x.roles s.regs.pc).lowers (innermost_in (cleanups_in s.cleanups)) s.home.0 s.regs.pc old new two.0 in
           let l = left x is s k at (Push list) does.size does.stands in
           subst (Keeps x) (sym (ap (λ (c : ℕ). reguarded_in saves c old new (record s { regs = regs; segments = m.segments })) count ∙ reguarded_is))
-          (push_keeps l.0 l.1 low (holds l.0 l.1) (not_start (begins_function x.image.functions regs.pc) fell))
+          (push_keeps l.0 l.1 passed.in_stack (holds l.0 l.1) (not_start (begins_function x.image.functions regs.pc) fell))
         where
           not_start : (b : Bool) → cond b (Some (the_end.Trap kind.FellOff regs.pc s.regs.pc)) None ≡ None → b ≡ false
           not_start true h = absurd cc
           not_start false h = refl
-
-          sp_tests : (b : Bool) → cond b (Some (the_end.Trap kind.SpInCleanup new s.regs.pc)) (cond (nat_lt new s.home.0) (Some (the_end.Trap kind.StackLimit new s.regs.pc)) None) ≡ None → s.home.0 ≤ new
-          sp_tests true h = absurd cc
-          sp_tests false h = go (nat_lt new s.home.0) refl h
-            where
-              go : (c : Bool) → nat_lt new s.home.0 ≡ c → cond c (Some (the_end.Trap kind.StackLimit new s.regs.pc)) None ≡ None → s.home.0 ≤ new
-              go true e f = absurd cc
-              go false e f = elim (cases_lt new s.home.0) [ inl w ↦ absurd (let t = lt-ltb new s.home.0 w in cc) | inr w ↦ w ]
 
       keeps_on : OnEvent x (acts.recorded_event (program_of x) s input)
       unfolding acts.recorded_event acts.passed
@@ -261,12 +258,12 @@ module _ (x : Accepted) (is : IsProgram x) (s : Recorded) (k : Keeps x s) (list 
 
       stored_turns : Turns x s input
       stored_turns = record {
-        same = plain_match (program_of x) s input (knows s k.corresponds) (subst (λ (o : Stepping). IsPlain s o.0) (sym step) tt);
+        same = plain_match (program_of x) s input (knows s k.corresponds) (subst (λ (o : Stepping). IsPlain (program_of x) s o.0) (sym step) tt);
         keeps = keeps_on;
       }
 
   -- A push whose fact after holds of what it stored is the same in both machines, and keeps.
-  pub push_turns : ((m : Memory) → store_run (memory_of s) a (words_of list s.regs) ≡ (Ok tt, m) → (g : Fact) → after_of P false place (Push list) f ≡ Ok g → Holds P g (with_gs s.first gs) m.segments regs)
+  pub push_turns : ((m : Memory) → store_run (memory_of s) a (words_of list s.regs) ≡ (Ok tt, m) → (g : Fact) → after_of P lowering place (Push list) f ≡ Ok g → Holds P g (with_gs s.first gs) m.segments regs)
       → (input : List ℕ) → Turns x s input
   push_turns holds input = go (store_run (memory_of s) a (words_of list s.regs)) refl
     where

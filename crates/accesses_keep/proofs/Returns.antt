@@ -19,7 +19,8 @@ use Rattle.steps_keep.specs.thumb_isa.declared.instr.Instr.TheVariants.{Bx}
 use Rattle.steps_keep.specs.thumb_core.Branch.{if_odd, return_to}
 use Rattle.steps_keep.specs.thumb_core.Outcome.{Outcome as Stepping, with_memory}
 use Rattle.steps_keep.specs.thumb_core.Registers.{reg, operand, pc_read, with_pc, even}
-use Rattle.steps_keep.specs.thumb_core.Step.{step_of}
+use Rattle.steps_keep.specs.image_memory.Profiles.{profile_of}
+use Rattle.steps_keep.specs.thumb_core.Step.{step_for}
 use Rattle.steps_keep.specs.thumb_core.declared.regs.Regs.{Regs}
 use Rattle.steps_keep.specs.thumb_core.declared.regs.Stepped.TheVariants.{Return, Trap}
 use Rattle.steps_keep.specs.thumb_core.declared.regs.CoreTrap.TheVariants.{EvenTarget}
@@ -132,7 +133,7 @@ module _ (x : Accepted) (is : IsProgram x) (s : Recorded) (k : Keeps x s) (at : 
   abbrev caller : Caller
   caller = s.first.caller
 
-  left : (g : Fact) × (after_of (code x at.function at.marks).prologue false (address_of (flow_graph_of x.image at.function) at.place) (Bx m) at.fact ≡ Ok g)
+  left : (g : Fact) × (after_of (code x at.function at.marks).prologue ((code x at.function at.marks).lowers at.place) (address_of (flow_graph_of x.image at.function) at.place) (Bx m) at.fact ≡ Ok g)
   left = leaves (code x at.function at.marks) at.place at.fact (none_stands x at.function at.marks is.sound at.of.among at.of.are) at.state (Bx m)
       (stands_instruction (flow_graph_of x.image at.function) at.place (Bx m) size stands)
 
@@ -162,7 +163,7 @@ module _ (x : Accepted) (is : IsProgram x) (s : Recorded) (k : Keeps x s) (at : 
   odd_test : (caller.back % 2 == 0) ≡ false
   odd_test = let odd = k.whole.odd in grind (arith, nat_tests)
 
-  pub stepped : step_of s.regs (memory_of s) ≡ (Return caller.back, with_pc s.regs caller.back, memory_of s)
+  pub stepped : step_for (profile_of x.image) s.regs (memory_of s) ≡ (Return caller.back, with_pc s.regs caller.back, memory_of s)
   stepped =
       let fetch : IsFetched x.image at.function s.segments is.image at.of.among k.image (Bx m) size s.regs (memory_of s) =
       fetched x.image at.function s.segments is.image at.of.among k.image at.place (Bx m) size s.regs (memory_of s) refl at.address stands in

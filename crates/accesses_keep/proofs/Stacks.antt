@@ -30,12 +30,15 @@ use Rattle.steps_keep.specs.frame_graph.declared.places.Standing.TheVariants.{In
 use Rattle.steps_keep.specs.frame_graph.Places.{address_of, standing_at}
 use Rattle.steps_keep.specs.frame_check.Accepts.{Accepted}
 use Rattle.steps_keep.specs.frame_check.Roots.{flow_graph_of}
+use Rattle.steps_keep.specs.frame_check.Roles.{look}
+use Rattle.steps_keep.specs.two_machines.Machine.{raises}
 use Rattle.steps_keep.specs.thumb_isa.declared.instr.Instr.TheVariants.{AddSp, SubSp, MovHigh}
-use Rattle.steps_keep.specs.stands_for.Holds.{Holds}
+use Rattle.steps_keep.specs.stands_for.Holds.{Holds, AreKept}
 use Rattle.steps_keep.proofs.prologue_states.Ordered.{AreOrdered, few_within, range_down, are_ordered, within_pos}
 use Rattle.steps_keep.specs.stands_for.Chain.{code, StandsAt}
 use Rattle.steps_keep.specs.stands_for.Stands.{Keeps, IsProgram, DoesAt, Turns}
 use Rattle.accesses_keep.proofs.Accesses.{pc_after, top}
+use Rattle.steps_keep.proofs.stands_for.SpTests.{not_raised, lowers_by_role}
 use Rattle.steps_keep.proofs.stands_for.Onward.{IsOn, on_turns}
 use Rattle.steps_keep.specs.accepted_code.Bounds.{AreInRange}
 use Rattle.accesses_keep.specs.Events.{IsStack}
@@ -52,10 +55,12 @@ take_more (suc j) (suc k) (y ∷ more) v l h = go (contains_cons v y (take j mor
     go (inl e) later = subst (λ z. Contains (y ∷ take k more) z) (sym e) (contains_head y (take k more))
     go (inr d) later = contains_tail v y (take k more) (later d)
 
-pub sp_holds : (p : Prologue) (f : Fact) (a : Activation) (segments : List Segment) (regs new : Regs) (d kept w : ℕ) (below : Bool) (h : Holds p f a segments regs) → AreOrdered p → length regs.r ≡ 15
-    → new.r ≡ set regs.r 13 w → w + d ≤ a.caller.sp → (below ≡ false → w + d ≡ a.caller.sp) → kept ≤ f.kept → kept ≤ saves_within p d
+-- sp is written: what was known of the other registers is known, with this depth and these saves
+sp_written : (p : Prologue) (f : Fact) (a : Activation) (segments : List Segment) (regs new : Regs) (d kept w : ℕ) (below : Bool) (h : Holds p f a segments regs) → length regs.r ≡ 15
+    → new.r ≡ set regs.r 13 w → w + d ≤ a.caller.sp → (below ≡ false → w + d ≡ a.caller.sp)
+    → AreKept segments a p (let g : Fact = record { depth = d; below = below; kept = kept; regs = f.regs } in g)
     → Holds p (let g : Fact = record { depth = d; below = below; kept = kept; regs = f.regs } in g) a segments new
-sp_holds p f a segments regs new d kept w below h order count is lower exact fewer below_depth = record {
+sp_written p f a segments regs new d kept w below h count is lower exact saves = record {
   entry = h.entry;
   saved = h.saved;
   link = h.link;
@@ -68,8 +73,7 @@ sp_holds p f a segments regs new d kept w below h order count is lower exact few
     sp = λ b. ap (λ v. v + d) new_sp ∙ exact b;
   };
   lower = omega (arith, new_sp, lower);
-  saves = λ v c. let k = h.saves v (take_more kept f.kept (saves_of p) v fewer c) in
-      record { low = k.low; deep = few_within d 0 order.0 kept (saves_of p) v order.1 below_depth c; holds = k.holds; slot = k.slot };
+  saves = saves;
 }
   where
     sp_other : (k : ℕ) → k ≡ 13 → source f k ≡ Other
@@ -80,6 +84,20 @@ sp_holds p f a segments regs new d kept w below h order count is lower exact few
 
     other : (k : ℕ) → (k ≡ 13 → ⊥) → reg new k ≡ reg regs k
     other k n = ap (λ r. get_or r k 0) is ∙ get_or-set_other regs.r 13 k w 0 n
+
+pub sp_holds : (p : Prologue) (f : Fact) (a : Activation) (segments : List Segment) (regs new : Regs) (d kept w : ℕ) (below : Bool) (h : Holds p f a segments regs) → AreOrdered p → length regs.r ≡ 15
+    → new.r ≡ set regs.r 13 w → w + d ≤ a.caller.sp → (below ≡ false → w + d ≡ a.caller.sp) → kept ≤ f.kept → kept ≤ saves_within p d
+    → Holds p (let g : Fact = record { depth = d; below = below; kept = kept; regs = f.regs } in g) a segments new
+sp_holds p f a segments regs new d kept w below h order count is lower exact fewer below_depth =
+    sp_written p f a segments regs new d kept w below h count is lower exact
+    (λ v c. let k = h.saves v (take_more kept f.kept (saves_of p) v fewer c) in
+    record { low = k.low; deep = few_within d 0 order.0 kept (saves_of p) v order.1 below_depth c; holds = k.holds; slot = k.slot })
+
+-- sp comes to lie at or below where it was: the depth is at least as before, and the saves are as before
+lowered_holds : (p : Prologue) (f : Fact) (a : Activation) (segments : List Segment) (regs new : Regs) (w : ℕ) → Holds p f a segments regs → length regs.r ≡ 15 → new.r ≡ set regs.r 13 w
+    → w ≤ reg regs 13 → Holds p (let g : Fact = record f { below = true } in g) a segments new
+lowered_holds p f a segments regs new w h count is low =
+    sp_written p f a segments regs new f.depth f.kept w true h count is (let lower = h.lower in omega (arith, lower, low)) (λ b. absurd cc) h.saves
 
 gone : (o : Option Fact) (g : Fact) → gone_on None o ≡ Ok g → o ≡ Some g
 gone None g e = absurd cc
@@ -93,6 +111,9 @@ module _ (x : Accepted) (is : IsProgram x) (ranges : AreInRange x) (s : Recorded
   abbrev P : Prologue
   P = (code x at.function at.marks).prologue
 
+  abbrev lowering : Bool
+  lowering = (code x at.function at.marks).lowers at.place
+
   abbrev place : ℕ
   place = address_of (flow_graph_of x.image at.function) at.place
 
@@ -100,9 +121,9 @@ module _ (x : Accepted) (is : IsProgram x) (ranges : AreInRange x) (s : Recorded
   order = are_ordered (flow_graph_of x.image at.function) at.marks (λ p j n e. range_down j (ranges at.function p j n at.of.among e))
 
   -- sp comes to lie at a depth, by this value
-  pub moves_on : (w : ℕ) → word_in SP w % 4 ≡ 0 → ((g : Fact) → after_of P false place i f ≡ Ok g → Holds P g s.first s.segments (with_next size (with_reg s.regs SP w)))
+  pub moves_on : (w : ℕ) → word_in SP w % 4 ≡ 0 → ((g : Fact) → after_of P lowering place i f ≡ Ok g → Holds P g s.first s.segments (with_next size (with_reg s.regs SP w)))
       → IsOn x is s k at i size stands (Done, with_next size (with_reg s.regs SP w), memory_of s)
-  moves_on w aligned holds = record { map = k.corresponds.map; pc = pc_after x is s k at i size stands; holds = holds }
+  moves_on w aligned holds = record { map = k.corresponds.map; pc = pc_after x is s k at i size stands; holds = λ v. holds }
 
   pub to_depth_holds : (w d : ℕ) → word_in SP w + d ≡ reg_in s SP + f.depth → Holds P (moved_to P d f) s.first s.segments (with_next size (with_reg s.regs SP w))
   to_depth_holds w d sum =
@@ -184,6 +205,21 @@ module _ (x : Accepted) (is : IsProgram x) (ranges : AreInRange x) (s : Recorded
         by_source (Entry n) means h = absurd cc
         by_source Other means h = absurd cc
 
+    -- into sp: at a lowering place sp falls or stays, and elsewhere it is set to a place of the frame
+    mov_any : (b : Bool) → lowering ≡ b → raises (look x.roles s.regs.pc).lowers (reg_in s SP) (reg (with_next size (with_reg s.regs SP (operand s.regs m))) SP) ≡ false → (g : Fact)
+        → gone_on None (cond b (Some (let y : Fact = record f { below = true } in y)) (sp_set P (copied m f) f)) ≡ Ok g → Holds P g s.first s.segments (with_next size (with_reg s.regs SP (operand s.regs m)))
+    mov_any true e passed g h =
+        let role = lowers_by_role x is s.first.function at.function at.marks at.place s.regs.pc at.of at.address e in
+        let new = with_next size (with_reg s.regs SP (operand s.regs m)) in
+        let is_word : reg new SP ≡ word_in SP (operand s.regs m) =
+        get_or-set_same s.regs.r 13 (word_in SP (operand s.regs m)) 0 (let l : 13 < length s.regs.r = omega (arith, k.sound.words.count) in l) in
+        let low = not_raised (look x.roles s.regs.pc).lowers (reg_in s SP) (reg new SP) role passed in
+        let same : (let y : Fact = record f { below = true } in y) ≡ g =
+        same_Some (let y : Fact = record f { below = true } in y) g (gone (Some (let y : Fact = record f { below = true } in y)) g h) in
+        subst (λ y. Holds P y s.first s.segments (with_next size (with_reg s.regs SP (operand s.regs m)))) same
+        (lowered_holds P f s.first s.segments s.regs (with_next size (with_reg s.regs SP (operand s.regs m))) (word_in SP (operand s.regs m)) at.holds k.sound.words.count refl (omega (arith, low, is_word)))
+    mov_any false e passed g h = mov_holds g h
+
 -- ---- whole
 
 pub stack_turns : (x : Accepted) (s : Recorded) (i : Instr) (input : List ℕ) → IsProgram x → AreInRange x → Keeps x s → DoesAt x s i → IsStack i → Turns x s input
@@ -191,12 +227,12 @@ stack_turns x s (AddSp (negsuc n)) input is ranges k does what = absurd (ranges 
 stack_turns x s (AddSp (pos n)) input is ranges k does what =
     let r = ranges does.at.function does.at.place (AddSp (pos n)) does.size does.at.of.among does.stands in
     on_turns x is s k does.at (AddSp (pos n)) does.size does.stands refl refl refl refl input
-    (record { map = k.corresponds.map; pc = pc_after x is s k does.at (AddSp (pos n)) does.size does.stands; holds = add_holds x is ranges s k does.at (AddSp (pos n)) does.size does.stands n r.0 r.1 }) does.reached
+    (record { map = k.corresponds.map; pc = pc_after x is s k does.at (AddSp (pos n)) does.size does.stands; holds = λ v. add_holds x is ranges s k does.at (AddSp (pos n)) does.size does.stands n r.0 r.1 }) does.reached
 stack_turns x s (SubSp (negsuc n)) input is ranges k does what = absurd (ranges does.at.function does.at.place (SubSp (negsuc n)) does.size does.at.of.among does.stands)
 stack_turns x s (SubSp (pos n)) input is ranges k does what =
     let r = ranges does.at.function does.at.place (SubSp (pos n)) does.size does.at.of.among does.stands in
     on_turns x is s k does.at (SubSp (pos n)) does.size does.stands refl refl refl refl input
-    (record { map = k.corresponds.map; pc = pc_after x is s k does.at (SubSp (pos n)) does.size does.stands; holds = sub_holds x is ranges s k does.at (SubSp (pos n)) does.size does.stands n r.0 r.1 }) does.reached
+    (record { map = k.corresponds.map; pc = pc_after x is s k does.at (SubSp (pos n)) does.size does.stands; holds = λ v. sub_holds x is ranges s k does.at (SubSp (pos n)) does.size does.stands n r.0 r.1 }) does.reached
 stack_turns x s (MovHigh d m) input is ranges k does what = go d what does
   where
     go : (e : ℕ) → e ≡ 13 → DoesAt x s (MovHigh e m) → Turns x s input
@@ -204,5 +240,5 @@ stack_turns x s (MovHigh d m) input is ranges k does what = go d what does
       where
         to_sp : DoesAt x s (MovHigh 13 m) → Turns x s input
         to_sp at = on_turns x is s k at.at (MovHigh 13 m) at.size at.stands refl refl refl refl input
-            (record { map = k.corresponds.map; pc = pc_after x is s k at.at (MovHigh 13 m) at.size at.stands; holds = mov_holds x is ranges s k at.at (MovHigh 13 m) at.size at.stands m }) at.reached
+            (record { map = k.corresponds.map; pc = pc_after x is s k at.at (MovHigh 13 m) at.size at.stands; holds = mov_any x is ranges s k at.at (MovHigh 13 m) at.size at.stands m ((code x at.at.function at.at.marks).lowers at.at.place) refl }) at.reached
 stack_turns x s i input is ranges k does what = absurd what

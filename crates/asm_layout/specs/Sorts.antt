@@ -1,11 +1,11 @@
--- What each statement is to the assembler (docs/source-language.md; Armv6-M Architecture Reference Manual, DDI 0419). Every form of a
--- statement has its own line in `sort_of`. Its bytes, its names and its code are said of sorts, and of each sort.
+-- What each statement is to the assembler (docs/source-language.md; Armv6-M Architecture Reference Manual, DDI 0419, and Armv8-M, DDI 0553).
+-- Every form of a statement has its own line in `sort_of`. Its bytes, its names and its code are said of sorts, and of each sort.
 use Rattle.std.specs.Prelude.{ℕ, ◌^◌, ◌==◌, ◌&&◌, ℤ, pos, negsuc, Bool, true, false, nat_lt, if◌then◌else◌, List, Option, Some, None}
 use Rattle.asm_statements.specs.declared.statement.Expr.{Expr}
 use Rattle.asm_statements.specs.declared.statement.StmtKind.{StmtKind}
 use Rattle.asm_statements.specs.declared.statement.StmtKind.TheVariants as stmt
 use Rattle.thumb_isa.specs.declared.instr.Instr.{Instr}
-use Rattle.thumb_isa.specs.declared.instr.Instr.TheVariants.{ShiftImm, AddSubReg, AddSubImm3, Imm8, Alu, AddHigh, CmpHigh, MovHigh, Bx, Blx, MemReg, MemImm, MemSp, AddRdSp, AddSp, SubSp, Extend, Rev, Push, Pop, Hint, Stm, Ldm, Svc, Barrier}
+use Rattle.thumb_isa.specs.declared.instr.Instr.TheVariants.{ShiftImm, AddSubReg, AddSubImm3, Imm8, Alu, AddHigh, CmpHigh, MovHigh, Bx, Blx, MemReg, MemImm, MemSp, AddRdSp, AddSp, SubSp, Extend, Rev, Push, Pop, Hint, Stm, Ldm, Svc, Barrier, MovW, MovT, Div}
 use Rattle.asm_layout.specs.declared.given.Width.TheVariants.{Byte, Half, Word}
 use Rattle.asm_layout.specs.Given.{Given, FieldsOf, TextOf, ZerosOf}
 
@@ -27,6 +27,10 @@ pub data Operation : Type 0 where
   BCondTo : (cond : ℕ) (name : List ℕ) → Operation
   -- `bl name`
   BlTo : (name : List ℕ) → Operation
+  -- `b.w name`
+  BWideTo : (name : List ℕ) → Operation
+  -- `cbz rn, name`, and `cbnz rn, name` where it isn't to be 0
+  CbzTo : (nonzero : Bool) (n : ℕ) (name : List ℕ) → Operation
 
 pub data Sort : Type 0 where
   -- an instruction of so many bytes
@@ -69,6 +73,10 @@ add_three sub d n imm = if is_above_seven imm && (d == n) then add_eight sub d i
 abbrev pub half : Instr → Sort
 half i = CodeOf 2 (Nameless i)
 
+-- .. and of two
+abbrev pub wide : Instr → Sort
+wide i = CodeOf 4 (Nameless i)
+
 abbrev pub sort_of : StmtKind → Sort
 sort_of (stmt.Label _) = Bare
 sort_of (stmt.MovsImm d imm) = half (Imm8 0 d (unsigned imm))
@@ -86,6 +94,9 @@ sort_of (stmt.SubSp off) = half (SubSp (offset off))
 sort_of (stmt.ShiftImm op d m n) = half (ShiftImm op d m (unsigned n))
 sort_of (stmt.Alu op d m) = half (Alu op d m)
 sort_of (stmt.Rsbs d m) = half (Alu 9 d m)
+sort_of (stmt.MovW d imm) = wide (MovW d (unsigned imm))
+sort_of (stmt.MovT d imm) = wide (MovT d (unsigned imm))
+sort_of (stmt.Div signed d n m) = wide (Div signed d n m)
 sort_of (stmt.Adr d name) = CodeOf 2 (AdrOf d name)
 sort_of (stmt.LdrLabel t name) = CodeOf 2 (LdrOf t name)
 sort_of (stmt.LdrPool t value) = CodeOf 2 (LdrValue t value)
@@ -102,12 +113,14 @@ sort_of (stmt.Rev op d m) = half (Rev op d m)
 sort_of (stmt.B name) = CodeOf 2 (BTo name)
 sort_of (stmt.BCond cond name) = CodeOf 2 (BCondTo cond name)
 sort_of (stmt.Bl name) = CodeOf 4 (BlTo name)
+sort_of (stmt.Cbz nonzero n name) = CodeOf 2 (CbzTo nonzero n name)
+sort_of (stmt.BWide name) = CodeOf 4 (BWideTo name)
 sort_of (stmt.Bx m) = half (Bx m)
 sort_of (stmt.Blx m) = half (Blx m)
 sort_of (stmt.Svc imm) = half (Svc (unsigned imm))
 sort_of (stmt.Udf imm) = CodeOf 2 (Undefined imm)
 sort_of (stmt.Hint n) = half (Hint n)
-sort_of (stmt.Barrier op) = CodeOf 4 (Nameless (Barrier op 15))
+sort_of (stmt.Barrier op) = wide (Barrier op 15)
 sort_of stmt.Text = Bare
 sort_of stmt.Data = Bare
 sort_of stmt.Bss = Bare

@@ -19,8 +19,9 @@ pub struct AsmFault {
 pub enum AsmWhat {
     /// A label whose name an earlier label has.
     DuplicateLabel,
-    /// A name that begins with `.L` and has no label; a name in `adr` or `ldr rt, name` without a label in the text; names
-    /// in `a-b+n` that aren't two labels of one section; a name in `.half` or `.byte` outside `a-b+n`.
+    /// A name that begins with `.L` and has no label in the source; a name in `adr`, `ldr rt, name`, `b.w`, `cbz` or `cbnz`
+    /// that has no label in the section `.text` of the source; names in `a-b+n` that aren't two labels of one section of the
+    /// source; a name in `.half` or `.byte` outside `a-b+n`.
     UndefinedLocal,
     /// An instruction without a code, or a number that its field doesn't hold.
     Encode(EncodeFault),

@@ -1,12 +1,12 @@
 //! The forms of statements by their sorts, for matches over all of them: each form stands in exactly one of these patterns, or is
-//! `udf`, a barrier or `.align` (`specs/Sorts.antt`; docs/source-language.md). A match names `StmtKind` in scope. Which data a form
+//! `udf` or `.align` (`specs/Sorts.antt`; docs/source-language.md). A match names `StmtKind` in scope. Which data a form
 //! is stands here too.
 ghost use Rattle.std.specs.Prelude.{◌≡◌, option_map};
 ghost use Rattle.asm_layout.specs.Given.{given_by};
 ghost use Rattle.asm_layout.specs.Sorts.{given};
 
 use crate::given::{Data, Width};
-use crate::{bare_form, branch_form, name_form, nameless_form, reader_form};
+use crate::{bare_form, branch_form, local_form, name_form, nameless_form, reader_form, wide_form};
 use asm_statements::StmtKind;
 
 /// An instruction of one halfword that names nothing, but for `udf`.
@@ -45,6 +45,17 @@ macro_rules! nameless_form {
     };
 }
 
+/// An instruction of two halfwords that names nothing.
+#[macro_export]
+macro_rules! wide_form {
+    () => {
+        StmtKind::Barrier { .. }
+            | StmtKind::MovW { .. }
+            | StmtKind::MovT { .. }
+            | StmtKind::Div { .. }
+    };
+}
+
 /// An instruction that names a label of the text or a value.
 #[macro_export]
 macro_rules! reader_form {
@@ -53,7 +64,15 @@ macro_rules! reader_form {
     };
 }
 
-/// An instruction that branches to a name.
+/// An instruction that branches to a label of the text, and to no other name.
+#[macro_export]
+macro_rules! local_form {
+    () => {
+        StmtKind::Cbz { .. } | StmtKind::BWide(_)
+    };
+}
+
+/// An instruction that branches to a name, which another source may have.
 #[macro_export]
 macro_rules! branch_form {
     () => {
@@ -125,9 +144,10 @@ pub fn given(kind: &StmtKind) -> Option<Data<'_>>
         StmtKind::Space(n) => Some(Data::Zeros(*n)),
         nameless_form!()
         | reader_form!()
+        | wide_form!()
         | branch_form!()
+        | local_form!()
         | StmtKind::Udf { .. }
-        | StmtKind::Barrier { .. }
         | StmtKind::Align(_)
         | name_form!()
         | bare_form!() => None,

@@ -12,7 +12,9 @@ use crate::given::Data;
 use crate::placed::{PlacedFunction, PlacedPool, PlacedStmt, Puts};
 use crate::sort::given;
 use crate::word::{Word, Words, word_of};
-use crate::{bare_form, branch_form, data_form, name_form, nameless_form, reader_form};
+use crate::{
+    bare_form, branch_form, data_form, local_form, name_form, nameless_form, reader_form, wide_form,
+};
 use asm_statements::{Stmt, StmtKind};
 use asm_unwind::EntryWords;
 use eh_list::bytes::gap;
@@ -116,7 +118,8 @@ fn data_size(given: Data<'_>) -> u64
     }
 }
 
-/// The bytes of a statement at a place: `bl` and the barriers have two halfwords, `.align` fills up to a multiple.
+/// The bytes of a statement at a place: `bl`, `b.w`, the barriers and the moves and quotients of a second profile have two halfwords, the
+/// other instructions one; `.align` fills up to a multiple.
 fn size_at(place: u64, kind: &StmtKind) -> u64
     ensures { result ≡ size_at place kind.now }
 {
@@ -128,8 +131,9 @@ fn size_at(place: u64, kind: &StmtKind) -> u64
         | reader_form!()
         | StmtKind::B(_)
         | StmtKind::BCond { .. }
+        | StmtKind::Cbz { .. }
         | StmtKind::Udf { .. } => 2,
-        StmtKind::Bl(_) | StmtKind::Barrier { .. } => 4,
+        wide_form!() | StmtKind::Bl(_) | StmtKind::BWide(_) => 4,
         StmtKind::Align(n) => gap(place, multiple(*n)),
         data_form!() | name_form!() | bare_form!() => 0,
     }
@@ -142,9 +146,10 @@ pub fn is_instruction(kind: &StmtKind) -> bool
     match kind {
         nameless_form!()
         | reader_form!()
+        | wide_form!()
         | branch_form!()
-        | StmtKind::Udf { .. }
-        | StmtKind::Barrier { .. } => true,
+        | local_form!()
+        | StmtKind::Udf { .. } => true,
         data_form!() | StmtKind::Align(_) | name_form!() | bare_form!() => false,
     }
 }

@@ -14,7 +14,7 @@ use Rattle.asm_statements.specs.declared.statement.StmtKind.TheVariants as stmt
 use Rattle.asm_unwind.specs.declared.entry.EntryWords.{EntryWords}
 use Rattle.asm_unwind.specs.declared.entry.EntryWords.TheVariants as entry
 use Rattle.thumb_isa.specs.declared.instr.Instr.{Instr}
-use Rattle.thumb_isa.specs.declared.instr.Instr.TheVariants.{LdrLit, Bl, Barrier}
+use Rattle.thumb_isa.specs.declared.instr.Instr.TheVariants.{LdrLit, Bl, Barrier, Cbz, BWide, MovW, MovT, Div}
 use Rattle.thumb_encode.specs.declared.code.Code.{Code}
 use Rattle.thumb_encode.specs.declared.code.Code.TheVariants.{Half}
 use Rattle.thumb_isa.specs.declared.encode_fault.EncodeFault.{EncodeFault}
@@ -41,7 +41,7 @@ use Rattle.asm_object.specs.Bytes.{byte_bytes, half_bytes, word_bytes, code_byte
 use Rattle.asm_object.specs.Values.{number, held, low_or_zero}
 use Rattle.asm_layout.specs.declared.given.Width.TheVariants as widths
 use Rattle.asm_layout.specs.Given.{FieldsOf, TextOf, ZerosOf}
-use Rattle.asm_layout.specs.Sorts.{Operation, Nameless, Undefined, LdrValue, BlTo, Sort, CodeOf, DataOf, offset, sort_of, operation_in, given_in}
+use Rattle.asm_layout.specs.Sorts.{Operation, Nameless, Undefined, LdrValue, BlTo, BWideTo, CbzTo, Sort, CodeOf, DataOf, offset, sort_of, operation_in, given_in}
 use Rattle.asm_object.specs.Instructions.{base, literal, literal_to, made, coded, operation_link}
 use Rattle.asm_object.specs.Pieces.{Piece, instruction_piece, data_piece, relocs_of, words_bytes, bytes_of_code, bytes_of_coded, bytes_of_instruction, bytes_of_half, undefined_half, given_bytes, given_relocs, filling_piece, pool_pieces, table_pieces, own_piece, bytes_in, pieces_of}
 use Rattle.asm_object.specs.PlaceLaw.{SectionsEndAfterTheirBytes, PlacesCountTheBytesBefore, BytesStandAtTheirPlaces}
@@ -89,10 +89,16 @@ has_bytes n code h = record { has = λ e. h }
 abbrev pub width : Instr → ℕ
 width (Bl _) = 4
 width (Barrier _ _) = 4
+width (BWide _) = 4
+width (MovW _ _) = 4
+width (MovT _ _) = 4
+width (Div _ _ _ _) = 4
+width (Cbz _ _ _) = 2
 width _ = 2
 
 pub gives : (i : Instr) → Gives (width i) (encoded_of i)
 gives (Bl off) = field_gives 4 (target_field (2 ^ 24) off) bl_code (λ field. refl)
+gives (BWide off) = field_gives 4 (target_field (2 ^ 24) off) _ (λ field. refl)
 gives _ = search (refused_gives, field_gives, cond_gives, has_bytes)
 
 -- ---- bytes of statements
@@ -129,6 +135,8 @@ has_code None n h e = ap (λ k. min k (2 ^ 64 - 1)) (sym h)
 abbrev pub operation_size : Operation → ℕ
 operation_size (Nameless i) = width i
 operation_size (BlTo name) = 4
+operation_size (BWideTo name) = 4
+operation_size (CbzTo nonzero n name) = 2
 operation_size _ = 2
 
 abbrev pub IsSized : Sort → Type 0

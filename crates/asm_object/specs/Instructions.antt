@@ -1,12 +1,12 @@
--- The instruction of a statement (Armv6-M Architecture Reference Manual, DDI 0419).
+-- The instruction of a statement (Armv6-M Architecture Reference Manual, DDI 0419; Armv8-M, DDI 0553).
 use Rattle.std.specs.Prelude.{ℕ, ◌*◌, ◌/◌, ℤ, pos, negsuc, ◌-ℤ◌, if◌then◌else◌, List, Option, Some, None, Result}
 use Rattle.asm_statements.specs.declared.statement.StmtKind.{StmtKind}
 use Rattle.thumb_isa.specs.declared.instr.Instr.{Instr}
-use Rattle.thumb_isa.specs.declared.instr.Instr.TheVariants.{LdrLit, Adr, BCond, B, Bl}
+use Rattle.thumb_isa.specs.declared.instr.Instr.TheVariants.{LdrLit, Adr, BCond, B, Bl, BWide, Cbz}
 use Rattle.relocatable_object.specs.declared.place.Section.TheVariants.{Text}
 use Rattle.relocatable_object.specs.declared.place.Place.{Place}
 use Rattle.asm_layout.specs.Sizes.{sum_64}
-use Rattle.asm_layout.specs.Sorts.{Operation, Nameless, Undefined, AdrOf, LdrOf, LdrValue, BTo, BCondTo, BlTo, offset, operation}
+use Rattle.asm_layout.specs.Sorts.{Operation, Nameless, Undefined, AdrOf, LdrOf, LdrValue, BTo, BCondTo, BlTo, BWideTo, CbzTo, offset, operation}
 use Rattle.relocatable_object.specs.Sections.{same_section}
 use Rattle.asm_layout.specs.Labels.{Named, find}
 use Rattle.relocatable_object.specs.declared.relocation.TheConstants.{R_ARM_THM_CALL, R_ARM_THM_JUMP11, R_ARM_THM_JUMP8}
@@ -40,7 +40,7 @@ abbrev pub branch_to : Option ℕ → ℕ → ℤ
 branch_to (Some to) place = between to (pc place)
 branch_to None place = negsuc 3
 
--- a branch goes to a label in the text; else its offset is -4, and the linker fills it
+-- a branch goes to a label in the text; else its offset is -4, and the linker fills it, or the source is refused (`b.w`, `cbz`, `cbnz`)
 abbrev pub branch : List Named → List ℕ → ℕ → ℤ
 branch labels name place = branch_to (text_place labels name) place
 
@@ -65,6 +65,8 @@ made labels (Some (LdrValue t _)) place word = Some (LdrLit t (literal_to word p
 made labels (Some (BTo name)) place word = Some (B (branch labels name place))
 made labels (Some (BCondTo cond name)) place word = Some (BCond cond (branch labels name place))
 made labels (Some (BlTo name)) place word = Some (Bl (branch labels name place))
+made labels (Some (BWideTo name)) place word = Some (BWide (branch labels name place))
+made labels (Some (CbzTo nonzero n name)) place word = Some (Cbz nonzero n (branch labels name place))
 
 abbrev pub instruction : List Named → StmtKind → ℕ → Option ℕ → Option Instr
 instruction labels kind place word = made labels (operation kind) place word
@@ -89,6 +91,8 @@ operation_link labels (Some (LdrValue _ _)) = None
 operation_link labels (Some (BTo name)) = linked_unless (text_place labels name) R_ARM_THM_JUMP11 name
 operation_link labels (Some (BCondTo _ name)) = linked_unless (text_place labels name) R_ARM_THM_JUMP8 name
 operation_link labels (Some (BlTo name)) = linked_unless (text_place labels name) R_ARM_THM_CALL name
+operation_link labels (Some (BWideTo _)) = None
+operation_link labels (Some (CbzTo _ _ _)) = None
 
 abbrev pub branch_link : List Named → StmtKind → Option Link
 branch_link labels kind = operation_link labels (operation kind)

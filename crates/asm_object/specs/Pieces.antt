@@ -21,7 +21,7 @@ use Rattle.asm_layout.specs.Words.{word_of}
 use Rattle.asm_layout.specs.Sizes.{sum_64, multiple, natural, is_instruction}
 use Rattle.asm_layout.specs.declared.given.Width.{Width}
 use Rattle.asm_layout.specs.Given.{Given, FieldsOf, TextOf, ZerosOf, bytes_of, takes_addresses}
-use Rattle.asm_layout.specs.Sorts.{Operation, Nameless, Undefined, AdrOf, LdrOf, LdrValue, BTo, BCondTo, BlTo, Sort, CodeOf, DataOf, Filling, AboutName, Bare, sort_of, operation, given}
+use Rattle.asm_layout.specs.Sorts.{Operation, Nameless, Undefined, AdrOf, LdrOf, LdrValue, BTo, BCondTo, BlTo, BWideTo, CbzTo, Sort, CodeOf, DataOf, Filling, AboutName, Bare, sort_of, operation, given}
 use Rattle.eh_list.specs.Bytes.{gap, zeros}
 use Rattle.asm_object.specs.Bytes.{half_bytes, word_bytes, code_bytes, filling_bytes}
 use Rattle.asm_layout.specs.declared.placed.PlacedFunction.{PlacedFunction}
@@ -122,6 +122,8 @@ undefined_half (Some (LdrValue _ _)) = None
 undefined_half (Some (BTo _)) = None
 undefined_half (Some (BCondTo _ _)) = None
 undefined_half (Some (BlTo _)) = None
+undefined_half (Some (BWideTo _)) = None
+undefined_half (Some (CbzTo _ _ _)) = None
 
 abbrev pub udf_half : StmtKind → Option ℕ
 udf_half kind = undefined_half (operation kind)

@@ -16,7 +16,7 @@ use Rattle.asm_layout.specs.declared.fault.AsmWhat.TheVariants.{UndefinedLocal, 
 use Rattle.asm_layout.specs.Sizes.{is_instruction}
 use Rattle.asm_layout.specs.declared.given.Width.{Width}
 use Rattle.asm_layout.specs.Given.{Given, FieldsOf, TextOf, ZerosOf, limit, takes_addresses}
-use Rattle.asm_layout.specs.Sorts.{Operation, Nameless, Undefined, AdrOf, LdrOf, LdrValue, BTo, BCondTo, BlTo, Sort, CodeOf, DataOf, Filling, AboutName, Bare, sort_of, given}
+use Rattle.asm_layout.specs.Sorts.{Operation, Nameless, Undefined, AdrOf, LdrOf, LdrValue, BTo, BCondTo, BlTo, BWideTo, CbzTo, Sort, CodeOf, DataOf, Filling, AboutName, Bare, sort_of, given}
 use Rattle.relocatable_object.specs.Sections.{same_section}
 use Rattle.asm_layout.specs.Labels.{Named}
 use Rattle.asm_object.specs.Values.{is_known, is_word_known, number}
@@ -33,6 +33,8 @@ are_operands_known labels (LdrValue _ value) = is_word_known labels value
 are_operands_known labels (BTo name) = is_known labels name
 are_operands_known labels (BCondTo _ name) = is_known labels name
 are_operands_known labels (BlTo name) = is_known labels name
+are_operands_known labels (BWideTo name) = is_some (text_place labels name)
+are_operands_known labels (CbzTo _ _ name) = is_some (text_place labels name)
 
 -- a field may be given: it is a number, or an address whose names may be used where its width takes one
 abbrev pub is_field_known : List Named → Width → Expr → Bool
@@ -89,6 +91,8 @@ operation_fault (LdrValue t _) code = fault_unless (nat_lt t 8) RegisterRange
 operation_fault (BTo _) code = coded_fault code
 operation_fault (BCondTo _ _) code = coded_fault code
 operation_fault (BlTo _) code = coded_fault code
+operation_fault (BWideTo _) code = coded_fault code
+operation_fault (CbzTo _ _ _) code = coded_fault code
 
 -- why a number doesn't fit its field, if there is a limit
 abbrev pub fields_fault : List Named → Option ℕ → List Expr → Option EncodeFault

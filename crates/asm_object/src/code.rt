@@ -1,4 +1,4 @@
-//! The instructions of statements, and where their labels lead (docs/objects.md; DDI 0419).
+//! The instructions of statements, and where their labels lead (docs/objects.md; DDI 0419, DDI 0553).
 ghost use Rattle.std.specs.Prelude.{◌≡◌, IfOk};
 ghost use Rattle.asm_layout.specs.Labels.{named_in};
 ghost use Rattle.asm_layout.specs.Sorts.{unsigned, offset, compare, add_eight, add_three};
@@ -6,7 +6,9 @@ ghost use Rattle.asm_object.specs.Instructions.{pc, base, between, text_place, b
 
 use crate::value::Link;
 use asm_layout::labels::Labels;
-use asm_layout::{bare_form, data_form, name_form, nameless_form, reader_form};
+use asm_layout::{
+    bare_form, data_form, local_form, name_form, nameless_form, reader_form, wide_form,
+};
 use asm_statements::StmtKind;
 use eh_word::Name;
 use relocatable_object::name::copied;
@@ -106,7 +108,7 @@ pub fn text_place(labels: &Labels, name: &Name) -> Option<u64>
     }
 }
 
-/// The offset of a branch at a place: to a label in the text, else -4, which the linker fills.
+/// The offset of a branch at a place: to a label in the text, else -4, which the linker fills where it may.
 fn branch(labels: &Labels, name: &Name, place: u64) -> i32
     ensures { result ≡ branch (named_in labels.now) name.now place }
 {
@@ -239,6 +241,20 @@ fn instruction(labels: &Labels, kind: &StmtKind, place: u64, word: Option<u64>) 
             op: *op,
             option: 15,
         },
+        StmtKind::MovW { d, imm } => Instr::MovW {
+            d: *d,
+            imm: unsigned(*imm),
+        },
+        StmtKind::MovT { d, imm } => Instr::MovT {
+            d: *d,
+            imm: unsigned(*imm),
+        },
+        StmtKind::Div { signed, d, n, m } => Instr::Div {
+            signed: *signed,
+            d: *d,
+            n: *n,
+            m: *m,
+        },
         StmtKind::Adr { d, name } => Instr::Adr {
             d: *d,
             off: label_literal(labels, name, place),
@@ -259,6 +275,14 @@ fn instruction(labels: &Labels, kind: &StmtKind, place: u64, word: Option<u64>) 
             off: branch(labels, name, place),
         },
         StmtKind::Bl(name) => Instr::Bl {
+            off: branch(labels, name, place),
+        },
+        StmtKind::Cbz { nonzero, n, name } => Instr::Cbz {
+            nonzero: *nonzero,
+            n: *n,
+            off: branch(labels, name, place),
+        },
+        StmtKind::BWide(name) => Instr::BWide {
             off: branch(labels, name, place),
         },
         StmtKind::Udf { .. } | data_form!() | StmtKind::Align(_) | name_form!() | bare_form!() => {
@@ -293,9 +317,10 @@ pub fn branch_link(
         StmtKind::B(name) => (R_ARM_THM_JUMP11, name),
         StmtKind::BCond { name, .. } => (R_ARM_THM_JUMP8, name),
         nameless_form!()
+        | wide_form!()
         | reader_form!()
+        | local_form!()
         | StmtKind::Udf { .. }
-        | StmtKind::Barrier { .. }
         | data_form!()
         | StmtKind::Align(_)
         | name_form!()

@@ -17,7 +17,9 @@ use asm_layout::given::{Data, Width};
 use asm_layout::labels::Labels;
 use asm_layout::sort::given;
 use asm_layout::word::{Word, Words, low_number, low_part, word_of};
-use asm_layout::{bare_form, branch_form, data_form, name_form, nameless_form, reader_form};
+use asm_layout::{
+    bare_form, branch_form, data_form, local_form, name_form, nameless_form, reader_form, wide_form,
+};
 use asm_statements::{Expr, StmtKind};
 use relocatable_object::object::{Octets, Reloc, Relocs};
 use relocatable_object::place::{Place, Section};
@@ -62,8 +64,9 @@ fn udf_half(kind: &StmtKind) -> Option<u32>
         StmtKind::Udf { imm } => Some(0xde00 + u32::from(u8::try_from(*imm).unwrap_or(0))),
         nameless_form!()
         | reader_form!()
+        | wide_form!()
         | branch_form!()
-        | StmtKind::Barrier { .. }
+        | local_form!()
         | data_form!()
         | StmtKind::Align(_)
         | name_form!()

@@ -13,7 +13,9 @@ use asm_layout::labels::Labels;
 use asm_layout::placed::{PlacedFunction, PlacedPool, Puts};
 use asm_layout::walk::{entry_at, is_instruction, multiple};
 use asm_layout::word::{Words, low_part};
-use asm_layout::{bare_form, branch_form, data_form, name_form, nameless_form, reader_form};
+use asm_layout::{
+    bare_form, branch_form, data_form, local_form, name_form, nameless_form, reader_form, wide_form,
+};
 use asm_statements::StmtKind;
 use asm_unwind::EntryWords;
 use eh_list::bytes::gap;
@@ -258,9 +260,10 @@ impl Sections {
             StmtKind::Align(n) => self.push_filling(at, multiple(*n)),
             nameless_form!()
             | reader_form!()
+            | wide_form!()
             | branch_form!()
+            | local_form!()
             | StmtKind::Udf { .. }
-            | StmtKind::Barrier { .. }
             | data_form!()
             | name_form!()
             | bare_form!() => self.push_put(labels, entries, puts),

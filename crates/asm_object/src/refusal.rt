@@ -13,7 +13,9 @@ use asm_layout::given::{Data, Width};
 use asm_layout::labels::Labels;
 use asm_layout::sort::given;
 use asm_layout::walk::is_instruction;
-use asm_layout::{bare_form, branch_form, data_form, name_form, nameless_form, reader_form};
+use asm_layout::{
+    bare_form, branch_form, data_form, local_form, name_form, nameless_form, reader_form, wide_form,
+};
 use asm_statements::{Expr, StmtKind};
 use relocatable_object::place::{Place, Section};
 use thumb_isa::encode_fault::EncodeFault;
@@ -50,9 +52,10 @@ fn are_names_known(labels: &Labels, kind: &StmtKind) -> bool
         return are_fields_known(labels, found);
     }
     match kind {
-        StmtKind::Adr { name, .. } | StmtKind::LdrLabel { name, .. } => text_place(
-            labels, name,
-        ).is_some(),
+        StmtKind::Adr { name, .. }
+        | StmtKind::LdrLabel { name, .. }
+        | StmtKind::Cbz { name, .. }
+        | StmtKind::BWide(name) => text_place(labels, name).is_some(),
         StmtKind::LdrPool { value, .. } => is_word_known(labels, value.expr()),
         StmtKind::B(name)
         | StmtKind::BCond { name, .. }
@@ -62,7 +65,7 @@ fn are_names_known(labels: &Labels, kind: &StmtKind) -> bool
         | StmtKind::TypeObject(name)
         | StmtKind::Size(name) => is_known(labels, name),
         nameless_form!()
-        | StmtKind::Barrier { .. }
+        | wide_form!()
         | StmtKind::Udf { .. }
         | data_form!()
         | StmtKind::Align(_)
@@ -136,10 +139,11 @@ fn encode_fault(labels: &Labels, kind: &StmtKind, code: &Coded) -> Option<Encode
         ),
         StmtKind::LdrPool { t, .. } => fault_unless(*t < 8, EncodeFault::RegisterRange),
         nameless_form!()
-        | StmtKind::Barrier { .. }
+        | wide_form!()
         | StmtKind::Adr { .. }
         | StmtKind::LdrLabel { .. }
-        | branch_form!() => coded_fault(code),
+        | branch_form!()
+        | local_form!() => coded_fault(code),
         data_form!() | StmtKind::Align(_) | name_form!() | bare_form!() => None,
     }
 }

@@ -16,7 +16,7 @@ use Rattle.asm_read.specs.declared.makes.Named.{Named}
 use Rattle.asm_read.specs.declared.makes.Named.TheVariants as named
 use Rattle.asm_read.specs.declared.choice.Statement.{Statement}
 use Rattle.asm_statements.specs.declared.statement.StmtKind.{StmtKind}
-use Rattle.asm_statements.specs.declared.statement.StmtKind.TheVariants.{MovsImm, MovsReg, Mov, CmpImm, CmpReg, AddSubTwo, AddSubReg, AddSubThree, AddReg, AddRdSp, AddSp, SubSp, ShiftImm, Alu, Rsbs, Adr, LdrLabel, LdrPool, MemImm, MemReg, MemSp, Push, Pop, Stm, LdmBack, Ldm, Extend, Rev, B, BCond, Bl, Bx, Blx, Svc, Udf, Hint, Barrier, Text, Data, Bss, Rodata, Global, TypeFunction, TypeObject, Size, Words, Halves, Bytes, Ascii, Asciz, Space, Align, Pool, FnStart, FnEnd, Save, Pad, SetFp, CantUnwind, PersonalityIndex, HandlerData}
+use Rattle.asm_statements.specs.declared.statement.StmtKind.TheVariants.{MovsImm, MovsReg, Mov, CmpImm, CmpReg, AddSubTwo, AddSubReg, AddSubThree, AddReg, AddRdSp, AddSp, SubSp, ShiftImm, Alu, Rsbs, MovW, MovT, Div, Adr, LdrLabel, LdrPool, MemImm, MemReg, MemSp, Push, Pop, Stm, LdmBack, Ldm, Extend, Rev, B, BCond, Bl, Cbz, BWide, Bx, Blx, Svc, Udf, Hint, Barrier, Text, Data, Bss, Rodata, Global, TypeFunction, TypeObject, Size, Words, Halves, Bytes, Ascii, Asciz, Space, Align, Pool, FnStart, FnEnd, Save, Pad, SetFp, CantUnwind, PersonalityIndex, HandlerData}
 use Rattle.asm_read.specs.Tokens.{unescaped}
 use Rattle.asm_read.specs.Operands.{bytes_of}
 use Rattle.asm_read.specs.Expressions.{expr_from, expressions_at, exprs_of}
@@ -46,6 +46,9 @@ computation_of computation.SubSp o = SubSp o.number
 computation_of (computation.ShiftImm op) o = ShiftImm op o.first o.second o.number
 computation_of (computation.Alu op) o = Alu op o.first o.second
 computation_of computation.Rsbs o = Rsbs o.first o.second
+computation_of computation.MovW o = MovW o.first o.number
+computation_of computation.MovT o = MovT o.first o.number
+computation_of (computation.Div signed) o = Div signed o.first o.second o.third
 computation_of (computation.Extend op) o = Extend op o.first o.second
 computation_of (computation.Rev op) o = Rev op o.first o.second
 
@@ -95,6 +98,8 @@ named_of line named.LdrPool o = LdrPool o.first (expr_from line o.from)
 named_of line named.B o = B (bytes_of line o.name)
 named_of line (named.BCond cond) o = BCond cond (bytes_of line o.name)
 named_of line named.Bl o = Bl (bytes_of line o.name)
+named_of line (named.Cbz nonzero) o = Cbz nonzero o.first (bytes_of line o.name)
+named_of line named.BWide o = BWide (bytes_of line o.name)
 named_of line named.Global o = Global (bytes_of line o.name)
 named_of line named.TypeFunction o = TypeFunction (bytes_of line o.name)
 named_of line named.TypeObject o = TypeObject (bytes_of line o.name)

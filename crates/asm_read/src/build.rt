@@ -155,6 +155,14 @@ fn computation_of(computation: Computation, operands: Operands) -> StmtKind
         Computation::ShiftImm(op) => StmtKind::ShiftImm { op, d, m, n: imm },
         Computation::Alu(op) => StmtKind::Alu { op, d, m },
         Computation::Rsbs => StmtKind::Rsbs { d, m },
+        Computation::MovW => StmtKind::MovW { d, imm },
+        Computation::MovT => StmtKind::MovT { d, imm },
+        Computation::Div(signed) => StmtKind::Div {
+            signed,
+            d,
+            n,
+            m: operands.third,
+        },
         Computation::Extend(op) => StmtKind::Extend { op, d, m },
         Computation::Rev(op) => StmtKind::Rev { op, d, m },
     }
@@ -247,6 +255,12 @@ fn named_of(alloc: Global, line: &[u8], named: Named, o: Operands) -> Result<Stm
             name: name(alloc, line, o.name)?,
         },
         Named::Bl => StmtKind::Bl(name(alloc, line, o.name)?),
+        Named::Cbz(nonzero) => StmtKind::Cbz {
+            nonzero,
+            n: d,
+            name: name(alloc, line, o.name)?,
+        },
+        Named::BWide => StmtKind::BWide(name(alloc, line, o.name)?),
         Named::Global => StmtKind::Global(name(alloc, line, o.name)?),
         Named::TypeFunction => StmtKind::TypeFunction(name(alloc, line, o.name)?),
         Named::TypeObject => StmtKind::TypeObject(name(alloc, line, o.name)?),

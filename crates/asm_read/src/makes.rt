@@ -27,6 +27,9 @@ pub enum Computation {
     ShiftImm(u8),
     Alu(u8),
     Rsbs,
+    MovW,
+    MovT,
+    Div(bool),
     Extend(u8),
     Rev(u8),
 }
@@ -84,6 +87,8 @@ pub enum Named {
     B,
     BCond(u8),
     Bl,
+    Cbz(bool),
+    BWide,
     Global,
     TypeFunction,
     TypeObject,

@@ -2,28 +2,110 @@
 ghost use Rattle.std.specs.Prelude.{◌≡◌, map};
 ghost use Rattle.asm_read.specs.Forms.{row_of, group_of, forms_in};
 
-use crate::makes::Computation::{
-    AddRdSp, AddReg, AddSp, AddSubReg, AddSubThree, AddSubTwo, Alu, CmpImm, CmpReg, Extend, Mov,
-    MovsImm, MovsReg, Rev, Rsbs, ShiftImm, SubSp,
-};
-use crate::makes::Control::{Barrier, Blx, Bx, Hint, Svc, Udf};
-use crate::makes::Directive::{
-    Align, Bss, CantUnwind, Data, FnEnd, FnStart, HandlerData, Pad, PersonalityIndex, Pool, Rodata,
-    Save, SetFp, Space, Text,
-};
-use crate::makes::Makes::{self, Computes, Controls, Directs, Names, Transfers};
-use crate::makes::Named::{
-    Adr, Ascii, Asciz, B, BCond, Bl, Bytes, Global, Halves, LdrLabel, LdrPool, Size, TypeFunction,
-    TypeObject, Words,
-};
-use crate::makes::Transfer::{Ldm, LdmBack, MemImm, MemReg, MemSp, Pop, Push, Stm};
-use crate::pattern::Pattern::{
-    self, BaseAlone, BaseBackList, BaseIndex, BaseList, BaseOffset, Count, NameFunction,
-    NameObject, NameSize, Nothing, OneName, OneNumber, OneRegister, OneText, Power, RegisterList,
-    RegisterName, RegisterNumber, RegisterSpCount, RegisterSpNumber, RegisterValue, RodataName,
-    SpAlone, SpNumber, SpOffset, ThreeRegisters, TwoRegisters, TwoRegistersNumber,
-    TwoRegistersZero, Values, WordValues,
-};
+use crate::makes::Computation::AddRdSp;
+use crate::makes::Computation::AddReg;
+use crate::makes::Computation::AddSp;
+use crate::makes::Computation::AddSubReg;
+use crate::makes::Computation::AddSubThree;
+use crate::makes::Computation::AddSubTwo;
+use crate::makes::Computation::Alu;
+use crate::makes::Computation::CmpImm;
+use crate::makes::Computation::CmpReg;
+use crate::makes::Computation::Div;
+use crate::makes::Computation::Extend;
+use crate::makes::Computation::Mov;
+use crate::makes::Computation::MovT;
+use crate::makes::Computation::MovW;
+use crate::makes::Computation::MovsImm;
+use crate::makes::Computation::MovsReg;
+use crate::makes::Computation::Rev;
+use crate::makes::Computation::Rsbs;
+use crate::makes::Computation::ShiftImm;
+use crate::makes::Computation::SubSp;
+use crate::makes::Control::Barrier;
+use crate::makes::Control::Blx;
+use crate::makes::Control::Bx;
+use crate::makes::Control::Hint;
+use crate::makes::Control::Svc;
+use crate::makes::Control::Udf;
+use crate::makes::Directive::Align;
+use crate::makes::Directive::Bss;
+use crate::makes::Directive::CantUnwind;
+use crate::makes::Directive::Data;
+use crate::makes::Directive::FnEnd;
+use crate::makes::Directive::FnStart;
+use crate::makes::Directive::HandlerData;
+use crate::makes::Directive::Pad;
+use crate::makes::Directive::PersonalityIndex;
+use crate::makes::Directive::Pool;
+use crate::makes::Directive::Rodata;
+use crate::makes::Directive::Save;
+use crate::makes::Directive::SetFp;
+use crate::makes::Directive::Space;
+use crate::makes::Directive::Text;
+use crate::makes::Makes::Computes;
+use crate::makes::Makes::Controls;
+use crate::makes::Makes::Directs;
+use crate::makes::Makes::Names;
+use crate::makes::Makes::Transfers;
+use crate::makes::Makes::{self};
+use crate::makes::Named::Adr;
+use crate::makes::Named::Ascii;
+use crate::makes::Named::Asciz;
+use crate::makes::Named::B;
+use crate::makes::Named::BCond;
+use crate::makes::Named::BWide;
+use crate::makes::Named::Bl;
+use crate::makes::Named::Bytes;
+use crate::makes::Named::Cbz;
+use crate::makes::Named::Global;
+use crate::makes::Named::Halves;
+use crate::makes::Named::LdrLabel;
+use crate::makes::Named::LdrPool;
+use crate::makes::Named::Size;
+use crate::makes::Named::TypeFunction;
+use crate::makes::Named::TypeObject;
+use crate::makes::Named::Words;
+use crate::makes::Transfer::Ldm;
+use crate::makes::Transfer::LdmBack;
+use crate::makes::Transfer::MemImm;
+use crate::makes::Transfer::MemReg;
+use crate::makes::Transfer::MemSp;
+use crate::makes::Transfer::Pop;
+use crate::makes::Transfer::Push;
+use crate::makes::Transfer::Stm;
+use crate::pattern::Pattern::BaseAlone;
+use crate::pattern::Pattern::BaseBackList;
+use crate::pattern::Pattern::BaseIndex;
+use crate::pattern::Pattern::BaseList;
+use crate::pattern::Pattern::BaseOffset;
+use crate::pattern::Pattern::Count;
+use crate::pattern::Pattern::NameFunction;
+use crate::pattern::Pattern::NameObject;
+use crate::pattern::Pattern::NameSize;
+use crate::pattern::Pattern::Nothing;
+use crate::pattern::Pattern::OneName;
+use crate::pattern::Pattern::OneNumber;
+use crate::pattern::Pattern::OneRegister;
+use crate::pattern::Pattern::OneText;
+use crate::pattern::Pattern::Power;
+use crate::pattern::Pattern::RegisterList;
+use crate::pattern::Pattern::RegisterName;
+use crate::pattern::Pattern::RegisterNumber;
+use crate::pattern::Pattern::RegisterSpCount;
+use crate::pattern::Pattern::RegisterSpNumber;
+use crate::pattern::Pattern::RegisterValue;
+use crate::pattern::Pattern::RodataName;
+use crate::pattern::Pattern::SpAlone;
+use crate::pattern::Pattern::SpNumber;
+use crate::pattern::Pattern::SpOffset;
+use crate::pattern::Pattern::ThreeRegisters;
+use crate::pattern::Pattern::TwoRegisters;
+use crate::pattern::Pattern::TwoRegistersNumber;
+use crate::pattern::Pattern::TwoRegistersZero;
+use crate::pattern::Pattern::Values;
+use crate::pattern::Pattern::WordValues;
+use crate::pattern::Pattern::{self};
 
 /// A form: what stands after its word, and the statement that it makes.
 #[derive(Clone, Copy)]
@@ -113,7 +195,7 @@ pub static DIRECTIVES: [Row; 32] = [
 ];
 
 /// Mnemonics that begin with a or b.
-pub static A_TO_B: [Row; 32] = [
+pub static A_TO_B: [Row; 33] = [
     row!(b"adcs", TwoRegisters, Computes(Alu(5))),
     row!(b"add", RegisterSpNumber, Computes(AddRdSp)),
     row!(b"add", SpNumber, Computes(AddSp)),
@@ -126,6 +208,7 @@ pub static A_TO_B: [Row; 32] = [
     row!(b"asrs", TwoRegistersNumber, Computes(ShiftImm(2))),
     row!(b"asrs", TwoRegisters, Computes(Alu(4))),
     row!(b"b", OneName, Names(B)),
+    row!(b"b.w", OneName, Names(BWide)),
     row!(b"bcc", OneName, Names(BCond(3))),
     row!(b"bcs", OneName, Names(BCond(2))),
     row!(b"beq", OneName, Names(BCond(0))),
@@ -149,7 +232,9 @@ pub static A_TO_B: [Row; 32] = [
 ];
 
 /// Mnemonics that begin with c to l.
-pub static C_TO_L: [Row; 28] = [
+pub static C_TO_L: [Row; 30] = [
+    row!(b"cbnz", RegisterName, Names(Cbz(true))),
+    row!(b"cbz", RegisterName, Names(Cbz(false))),
     row!(b"cmn", TwoRegisters, Computes(Alu(11))),
     row!(b"cmp", RegisterNumber, Computes(CmpImm)),
     row!(b"cmp", TwoRegisters, Computes(CmpReg)),
@@ -181,10 +266,12 @@ pub static C_TO_L: [Row; 28] = [
 ];
 
 /// Mnemonics that begin with m to z.
-pub static M_TO_Z: [Row; 42] = [
+pub static M_TO_Z: [Row; 46] = [
     row!(b"mov", TwoRegisters, Computes(Mov)),
     row!(b"movs", RegisterNumber, Computes(MovsImm)),
     row!(b"movs", TwoRegisters, Computes(MovsReg)),
+    row!(b"movt", RegisterNumber, Computes(MovT)),
+    row!(b"movw", RegisterNumber, Computes(MovW)),
     row!(b"muls", TwoRegisters, Computes(Alu(13))),
     row!(b"mvns", TwoRegisters, Computes(Alu(15))),
     row!(b"nop", Nothing, Controls(Hint(0))),
@@ -197,6 +284,7 @@ pub static M_TO_Z: [Row; 42] = [
     row!(b"rors", TwoRegisters, Computes(Alu(7))),
     row!(b"rsbs", TwoRegistersZero, Computes(Rsbs)),
     row!(b"sbcs", TwoRegisters, Computes(Alu(6))),
+    row!(b"sdiv", ThreeRegisters, Computes(Div(true))),
     row!(b"sev", Nothing, Controls(Hint(4))),
     row!(b"stm", BaseBackList, Transfers(Stm)),
     row!(b"str", SpOffset, Transfers(MemSp(false))),
@@ -219,6 +307,7 @@ pub static M_TO_Z: [Row; 42] = [
     row!(b"sxth", TwoRegisters, Computes(Extend(0))),
     row!(b"tst", TwoRegisters, Computes(Alu(8))),
     row!(b"udf", OneNumber, Controls(Udf)),
+    row!(b"udiv", ThreeRegisters, Computes(Div(false))),
     row!(b"uxtb", TwoRegisters, Computes(Extend(3))),
     row!(b"uxth", TwoRegisters, Computes(Extend(2))),
     row!(b"wfe", Nothing, Controls(Hint(2))),

@@ -72,7 +72,7 @@ impl PoolValue {
 ///
 /// Registers are 0 to 15 (13 is sp, 14 lr, 15 pc); whether an instruction takes them is not looked at here. A `list` has
 /// bit k set where register k is in it. Numbers are within -2,147,483,648 to 4,294,967,295. `op` and `cond` are the
-/// fields of the instruction's encoding (Armv6-M Architecture Reference Manual, DDI 0419).
+/// fields of the instruction's encoding (Armv6-M Architecture Reference Manual, DDI 0419; Armv8-M Baseline, DDI 0553).
 #[derive(Debug, Drop)]
 pub enum StmtKind {
     /// `name:`
@@ -108,6 +108,12 @@ pub enum StmtKind {
     Alu { op: u8, d: u8, m: u8 },
     /// `rsbs rd, rm, #0`
     Rsbs { d: u8, m: u8 },
+    /// `movw rd, #imm`
+    MovW { d: u8, imm: i64 },
+    /// `movt rd, #imm`
+    MovT { d: u8, imm: i64 },
+    /// `sdiv rd, rn, rm`, and `udiv rd, rn, rm` where not `signed`
+    Div { signed: bool, d: u8, n: u8, m: u8 },
     /// `adr rd, name`
     Adr { d: u8, name: Name },
     /// `ldr rt, name`
@@ -141,6 +147,10 @@ pub enum StmtKind {
     BCond { cond: u8, name: Name },
     /// `bl name`
     Bl(Name),
+    /// `cbz rn, name`, and `cbnz rn, name` where `nonzero`
+    Cbz { nonzero: bool, n: u8, name: Name },
+    /// `b.w name`
+    BWide(Name),
     /// `bx rm`
     Bx { m: u8 },
     /// `blx rm`

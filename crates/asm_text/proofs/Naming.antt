@@ -1,9 +1,9 @@
 -- Statements with a name.
-use Rattle.std.proofs.Common.{◌≡◌, ℕ, ◌<◌, ◌==◌, Bool, true, List, [], ◌∷◌, ◌++◌, Ok, pos, refl, arith, codes}
+use Rattle.std.proofs.Common.{◌≡◌, ℕ, ◌<◌, ◌==◌, Bool, true, false, List, [], ◌∷◌, ◌++◌, Ok, pos, refl, arith, codes}
 use Rattle.std.proofs.lemmas.Bool.{eq-eqb}
 use Rattle.asm_read.specs.declared.makes.Makes.TheVariants as makes
 use Rattle.asm_read.specs.declared.makes.Named.TheVariants as name
-use Rattle.asm_statements.specs.declared.statement.StmtKind.TheVariants.{Adr, LdrLabel, B, BCond, Bl, Global, TypeFunction, TypeObject, Size}
+use Rattle.asm_statements.specs.declared.statement.StmtKind.TheVariants.{Adr, LdrLabel, B, BCond, Bl, Cbz, BWide, Global, TypeFunction, TypeObject, Size}
 use Rattle.asm_read.specs.Operands.{same}
 use Rattle.asm_read.specs.Forms.{directives, a_to_b, c_to_l, m_to_z, rows}
 use Rattle.asm_text.proofs.Pieces.{name_size}
@@ -81,6 +81,10 @@ pub ble_line : (n : List ℕ) → IsNameText n → read_of (line (codes "ble") (
 unfolding rows directives a_to_b c_to_l m_to_z fitted kind_made
 ble_line n hn = of_name (codes "ble") (makes.Names (name.BCond 13)) (BCond 13 n) n (record { named = refl; kept = refl; clean = refl; brief = omega arith }) hn refl (λ text o g. cc (g.name))
 
+pub b_wide_line : (n : List ℕ) → IsNameText n → read_of (line (codes "b.w") (n)) ≡ Ok (stmt 1 (BWide n) ∷ [])
+unfolding rows directives a_to_b c_to_l m_to_z fitted kind_made
+b_wide_line n hn = of_name (codes "b.w") (makes.Names name.BWide) (BWide n) n (record { named = refl; kept = refl; clean = refl; brief = omega arith }) hn refl (λ text o g. cc (g.name))
+
 pub global_line : (n : List ℕ) → IsNameText n → read_of (line (codes ".global") (n)) ≡ Ok (stmt 1 (Global n) ∷ [])
 unfolding rows directives a_to_b c_to_l m_to_z fitted kind_made
 global_line n hn = of_name (codes ".global") (makes.Names name.Global) (Global n) n (record { named = refl; kept = refl; clean = refl; brief = omega arith }) hn refl (λ text o g. cc (g.name))
@@ -96,6 +100,14 @@ object_line n hn = of_object (codes ".type") (makes.Names name.TypeObject) (Type
 pub adr_line : (a : ℕ) (n : List ℕ) → a < 16 → IsNameText n → read_of (line (codes "adr") (register_and_name a n)) ≡ Ok (stmt 1 (Adr a n) ∷ [])
 unfolding rows directives a_to_b c_to_l m_to_z fitted kind_made
 adr_line a n ha hn = of_register_name (codes "adr") (makes.Names name.Adr) (Adr a n) a n (record { named = refl; kept = refl; clean = refl; brief = omega arith }) ha hn refl (λ text o g. cc (g.name, g.first))
+
+pub cbz_line : (a : ℕ) (n : List ℕ) → a < 16 → IsNameText n → read_of (line (codes "cbz") (register_and_name a n)) ≡ Ok (stmt 1 (Cbz false a n) ∷ [])
+unfolding rows directives a_to_b c_to_l m_to_z fitted kind_made
+cbz_line a n ha hn = of_register_name (codes "cbz") (makes.Names (name.Cbz false)) (Cbz false a n) a n (record { named = refl; kept = refl; clean = refl; brief = omega arith }) ha hn refl (λ text o g. cc (g.name, g.first))
+
+pub cbnz_line : (a : ℕ) (n : List ℕ) → a < 16 → IsNameText n → read_of (line (codes "cbnz") (register_and_name a n)) ≡ Ok (stmt 1 (Cbz true a n) ∷ [])
+unfolding rows directives a_to_b c_to_l m_to_z fitted kind_made
+cbnz_line a n ha hn = of_register_name (codes "cbnz") (makes.Names (name.Cbz true)) (Cbz true a n) a n (record { named = refl; kept = refl; clean = refl; brief = omega arith }) ha hn refl (λ text o g. cc (g.name, g.first))
 
 pub ldr_label_line : (a : ℕ) (n : List ℕ) → a < 16 → IsNameText n → read_of (line (codes "ldr") (register_and_name a n)) ≡ Ok (stmt 1 (LdrLabel a n) ∷ [])
 unfolding rows directives a_to_b c_to_l m_to_z fitted kind_made

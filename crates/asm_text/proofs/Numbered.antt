@@ -6,7 +6,7 @@ use Rattle.asm_read.specs.declared.makes.Makes.TheVariants as makes
 use Rattle.asm_read.specs.declared.makes.Computation.TheVariants as computation
 use Rattle.asm_read.specs.declared.makes.Control.TheVariants as control
 use Rattle.asm_read.specs.declared.makes.Directive.TheVariants as directive
-use Rattle.asm_statements.specs.declared.statement.StmtKind.TheVariants.{MovsImm, CmpImm, AddSubTwo, AddSubThree, AddRdSp, AddSp, SubSp, ShiftImm, Rsbs, Svc, Udf, Space, Align, Pad, SetFp, PersonalityIndex}
+use Rattle.asm_statements.specs.declared.statement.StmtKind.TheVariants.{MovsImm, CmpImm, AddSubTwo, AddSubThree, AddRdSp, AddSp, SubSp, ShiftImm, Rsbs, MovW, MovT, Svc, Udf, Space, Align, Pad, SetFp, PersonalityIndex}
 use Rattle.asm_read.specs.Forms.{directives, a_to_b, c_to_l, m_to_z, rows}
 use Rattle.asm_read.specs.Statements.{kind_of as kind_made}
 use Rattle.asm_read.specs.Reading.{stmt, read_of}
@@ -17,6 +17,14 @@ use Rattle.asm_text.proofs.Shapes.{of_register_number, of_two_number, of_sp_coun
 pub movs_number_line : (a : ℕ) (z : ℤ) → a < 16 → InRange z → read_of (line (codes "movs") (register_number a z)) ≡ Ok (stmt 1 (MovsImm a z) ∷ [])
 unfolding rows directives a_to_b c_to_l m_to_z fitted kind_made
 movs_number_line a z ha hz = of_register_number (codes "movs") (makes.Computes computation.MovsImm) (MovsImm a z) a z (record { named = refl; kept = refl; clean = refl; brief = omega arith }) ha hz refl (λ text o g. cc (g.first, g.number))
+
+pub movw_line : (a : ℕ) (z : ℤ) → a < 16 → InRange z → read_of (line (codes "movw") (register_number a z)) ≡ Ok (stmt 1 (MovW a z) ∷ [])
+unfolding rows directives a_to_b c_to_l m_to_z fitted kind_made
+movw_line a z ha hz = of_register_number (codes "movw") (makes.Computes computation.MovW) (MovW a z) a z (record { named = refl; kept = refl; clean = refl; brief = omega arith }) ha hz refl (λ text o g. cc (g.first, g.number))
+
+pub movt_line : (a : ℕ) (z : ℤ) → a < 16 → InRange z → read_of (line (codes "movt") (register_number a z)) ≡ Ok (stmt 1 (MovT a z) ∷ [])
+unfolding rows directives a_to_b c_to_l m_to_z fitted kind_made
+movt_line a z ha hz = of_register_number (codes "movt") (makes.Computes computation.MovT) (MovT a z) a z (record { named = refl; kept = refl; clean = refl; brief = omega arith }) ha hz refl (λ text o g. cc (g.first, g.number))
 
 pub cmp_number_line : (a : ℕ) (z : ℤ) → a < 16 → InRange z → read_of (line (codes "cmp") (register_number a z)) ≡ Ok (stmt 1 (CmpImm a z) ∷ [])
 unfolding rows directives a_to_b c_to_l m_to_z fitted kind_made

@@ -4,7 +4,7 @@ use Rattle.asm_read.specs.declared.makes.Makes.TheVariants as makes
 use Rattle.asm_read.specs.declared.makes.Computation.TheVariants as computation
 use Rattle.asm_read.specs.declared.makes.Control.TheVariants as control
 use Rattle.asm_read.specs.declared.makes.Directive.TheVariants as directive
-use Rattle.asm_statements.specs.declared.statement.StmtKind.TheVariants.{MovsReg, Mov, CmpReg, AddSubReg, Alu, Extend, Rev, Bx, Blx, Hint, Barrier, Text, Data, Bss, Rodata, Pool, FnStart, FnEnd, CantUnwind, HandlerData}
+use Rattle.asm_statements.specs.declared.statement.StmtKind.TheVariants.{MovsReg, Mov, CmpReg, AddSubReg, Alu, Div, Extend, Rev, Bx, Blx, Hint, Barrier, Text, Data, Bss, Rodata, Pool, FnStart, FnEnd, CantUnwind, HandlerData}
 use Rattle.asm_read.specs.Forms.{directives, a_to_b, c_to_l, m_to_z, rows}
 use Rattle.asm_read.specs.Statements.{kind_of as kind_made}
 use Rattle.asm_read.specs.Reading.{stmt, read_of}
@@ -116,6 +116,14 @@ adds_line a b c ha hb hc = of_three (codes "adds") (makes.Computes (computation.
 pub subs_line : (a : ℕ) (b : ℕ) (c : ℕ) → a < 16 → b < 16 → c < 16 → read_of (line (codes "subs") (three a b c)) ≡ Ok (stmt 1 (AddSubReg true a b c) ∷ [])
 unfolding rows directives a_to_b c_to_l m_to_z fitted kind_made
 subs_line a b c ha hb hc = of_three (codes "subs") (makes.Computes (computation.AddSubReg true)) (AddSubReg true a b c) a b c (record { named = refl; kept = refl; clean = refl; brief = omega arith }) ha hb hc refl (λ text o g. cc (g.first, g.second, g.third))
+
+pub sdiv_line : (a : ℕ) (b : ℕ) (c : ℕ) → a < 16 → b < 16 → c < 16 → read_of (line (codes "sdiv") (three a b c)) ≡ Ok (stmt 1 (Div true a b c) ∷ [])
+unfolding rows directives a_to_b c_to_l m_to_z fitted kind_made
+sdiv_line a b c ha hb hc = of_three (codes "sdiv") (makes.Computes (computation.Div true)) (Div true a b c) a b c (record { named = refl; kept = refl; clean = refl; brief = omega arith }) ha hb hc refl (λ text o g. cc (g.first, g.second, g.third))
+
+pub udiv_line : (a : ℕ) (b : ℕ) (c : ℕ) → a < 16 → b < 16 → c < 16 → read_of (line (codes "udiv") (three a b c)) ≡ Ok (stmt 1 (Div false a b c) ∷ [])
+unfolding rows directives a_to_b c_to_l m_to_z fitted kind_made
+udiv_line a b c ha hb hc = of_three (codes "udiv") (makes.Computes (computation.Div false)) (Div false a b c) a b c (record { named = refl; kept = refl; clean = refl; brief = omega arith }) ha hb hc refl (λ text o g. cc (g.first, g.second, g.third))
 
 pub bx_line : (a : ℕ) → a < 16 → read_of (line (codes "bx") (register a)) ≡ Ok (stmt 1 (Bx a) ∷ [])
 unfolding rows directives a_to_b c_to_l m_to_z fitted kind_made

@@ -157,23 +157,23 @@ a_to_b_read = (
                                   (
                                     λ source from o g. inl (refl, one_name_stands source from o g),
                                     (
-                                      λ source from o g. inr (inl (refl, one_name_stands source from o g)),
+                                      λ source from o g. inl (refl, one_name_stands source from o g),
                                       (
-                                        λ source from o g. inl (refl, two_registers_stands source from o g),
+                                        λ source from o g. inr (inl (refl, one_name_stands source from o g)),
                                         (
-                                          λ source from o g. inl (refl, one_name_stands source from o g),
+                                          λ source from o g. inl (refl, two_registers_stands source from o g),
                                           (
                                             λ source from o g. inl (refl, one_name_stands source from o g),
                                             (
-                                              λ source from o g. inr (inl (refl, one_name_stands source from o g)),
+                                              λ source from o g. inl (refl, one_name_stands source from o g),
                                               (
-                                                λ source from o g. inl (refl, one_name_stands source from o g),
+                                                λ source from o g. inr (inl (refl, one_name_stands source from o g)),
                                                 (
                                                   λ source from o g. inl (refl, one_name_stands source from o g),
                                                   (
-                                                    λ source from o g. inl (refl, one_register_stands source from o g),
+                                                    λ source from o g. inl (refl, one_name_stands source from o g),
                                                     (
-                                                      λ source from o g. inl (refl, one_name_stands source from o g),
+                                                      λ source from o g. inl (refl, one_register_stands source from o g),
                                                       (
                                                         λ source from o g. inl (refl, one_name_stands source from o g),
                                                         (
@@ -183,8 +183,11 @@ a_to_b_read = (
                                                             (
                                                               λ source from o g. inl (refl, one_name_stands source from o g),
                                                               (
-                                                                λ source from o g. inl (refl, one_register_stands source from o g),
-                                                                tt,
+                                                                λ source from o g. inl (refl, one_name_stands source from o g),
+                                                                (
+                                                                  λ source from o g. inl (refl, one_register_stands source from o g),
+                                                                  tt,
+                                                                ),
                                                               ),
                                                             ),
                                                           ),
@@ -221,62 +224,68 @@ a_to_b_read = (
 pub c_to_l_read : Each ReadsItsLine c_to_l
 unfolding c_to_l
 c_to_l_read = (
-  λ source from o g. inl (refl, two_registers_stands source from o g),
+  λ source from o g. inl (refl, register_name_stands source from o g),
   (
-    λ source from o g. inl (refl, register_number_stands source from o g),
+    λ source from o g. inl (refl, register_name_stands source from o g),
     (
       λ source from o g. inl (refl, two_registers_stands source from o g),
       (
-        λ source from o g. inl (refl, nothing_stands source from o g),
+        λ source from o g. inl (refl, register_number_stands source from o g),
         (
-          λ source from o g. inl (refl, nothing_stands source from o g),
+          λ source from o g. inl (refl, two_registers_stands source from o g),
           (
-            λ source from o g. inl (refl, two_registers_stands source from o g),
+            λ source from o g. inl (refl, nothing_stands source from o g),
             (
               λ source from o g. inl (refl, nothing_stands source from o g),
               (
-                λ source from o g. inl (refl, base_back_list_stands source from o g),
+                λ source from o g. inl (refl, two_registers_stands source from o g),
                 (
-                  λ source from o g. inl (refl, base_list_stands source from o g),
+                  λ source from o g. inl (refl, nothing_stands source from o g),
                   (
-                    λ source from o g. inl (refl, register_name_stands source from o g),
+                    λ source from o g. inl (refl, base_back_list_stands source from o g),
                     (
-                      λ source from o g. inl (refl, register_value_stands source from o g),
+                      λ source from o g. inl (refl, base_list_stands source from o g),
                       (
-                        λ source from o g. inl (refl, sp_offset_stands source from o g),
+                        λ source from o g. inl (refl, register_name_stands source from o g),
                         (
-                          λ source from o g. subst (λ z. OneStands source (codes "ldr") from (lines (MemSp true o.first z))) (sym (sp_alone_stands_zero source from o g)) (inr (inl (refl, sp_alone_stands source from o g))),
+                          λ source from o g. inl (refl, register_value_stands source from o g),
                           (
-                            λ source from o g. inl (refl, base_offset_stands source from o g),
+                            λ source from o g. inl (refl, sp_offset_stands source from o g),
                             (
-                              λ source from o g. subst (λ z. OneStands source (codes "ldr") from (lines (MemImm 1 o.first o.second z))) (sym (base_alone_stands_zero source from o g)) (inr (inl (refl, base_alone_stands source from o g))),
+                              λ source from o g. subst (λ z. OneStands source (codes "ldr") from (lines (MemSp true o.first z))) (sym (sp_alone_stands_zero source from o g)) (inr (inl (refl, sp_alone_stands source from o g))),
                               (
-                                λ source from o g. inl (refl, base_index_stands source from o g),
+                                λ source from o g. inl (refl, base_offset_stands source from o g),
                                 (
-                                  λ source from o g. inl (refl, base_offset_stands source from o g),
+                                  λ source from o g. subst (λ z. OneStands source (codes "ldr") from (lines (MemImm 1 o.first o.second z))) (sym (base_alone_stands_zero source from o g)) (inr (inl (refl, base_alone_stands source from o g))),
                                   (
-                                    λ source from o g. subst (λ z. OneStands source (codes "ldrb") from (lines (MemImm 3 o.first o.second z))) (sym (base_alone_stands_zero source from o g)) (inr (inl (refl, base_alone_stands source from o g))),
+                                    λ source from o g. inl (refl, base_index_stands source from o g),
                                     (
-                                      λ source from o g. inl (refl, base_index_stands source from o g),
+                                      λ source from o g. inl (refl, base_offset_stands source from o g),
                                       (
-                                        λ source from o g. inl (refl, base_offset_stands source from o g),
+                                        λ source from o g. subst (λ z. OneStands source (codes "ldrb") from (lines (MemImm 3 o.first o.second z))) (sym (base_alone_stands_zero source from o g)) (inr (inl (refl, base_alone_stands source from o g))),
                                         (
-                                          λ source from o g. subst (λ z. OneStands source (codes "ldrh") from (lines (MemImm 5 o.first o.second z))) (sym (base_alone_stands_zero source from o g)) (inr (inl (refl, base_alone_stands source from o g))),
+                                          λ source from o g. inl (refl, base_index_stands source from o g),
                                           (
-                                            λ source from o g. inl (refl, base_index_stands source from o g),
+                                            λ source from o g. inl (refl, base_offset_stands source from o g),
                                             (
-                                              λ source from o g. inl (refl, base_index_stands source from o g),
+                                              λ source from o g. subst (λ z. OneStands source (codes "ldrh") from (lines (MemImm 5 o.first o.second z))) (sym (base_alone_stands_zero source from o g)) (inr (inl (refl, base_alone_stands source from o g))),
                                               (
                                                 λ source from o g. inl (refl, base_index_stands source from o g),
                                                 (
-                                                  λ source from o g. inl (refl, two_registers_number_stands source from o g),
+                                                  λ source from o g. inl (refl, base_index_stands source from o g),
                                                   (
-                                                    λ source from o g. inl (refl, two_registers_stands source from o g),
+                                                    λ source from o g. inl (refl, base_index_stands source from o g),
                                                     (
                                                       λ source from o g. inl (refl, two_registers_number_stands source from o g),
                                                       (
                                                         λ source from o g. inl (refl, two_registers_stands source from o g),
-                                                        tt,
+                                                        (
+                                                          λ source from o g. inl (refl, two_registers_number_stands source from o g),
+                                                          (
+                                                            λ source from o g. inl (refl, two_registers_stands source from o g),
+                                                            tt,
+                                                          ),
+                                                        ),
                                                       ),
                                                     ),
                                                   ),
@@ -315,84 +324,96 @@ m_to_z_read = (
     (
       λ source from o g. inl (refl, two_registers_stands source from o g),
       (
-        λ source from o g. inl (refl, two_registers_stands source from o g),
+        λ source from o g. inl (refl, register_number_stands source from o g),
         (
-          λ source from o g. inl (refl, two_registers_stands source from o g),
+          λ source from o g. inl (refl, register_number_stands source from o g),
           (
-            λ source from o g. inl (refl, nothing_stands source from o g),
+            λ source from o g. inl (refl, two_registers_stands source from o g),
             (
               λ source from o g. inl (refl, two_registers_stands source from o g),
               (
-                λ source from o g. inl (refl, register_list_stands source from o g),
+                λ source from o g. inl (refl, nothing_stands source from o g),
                 (
-                  λ source from o g. inl (refl, register_list_stands source from o g),
+                  λ source from o g. inl (refl, two_registers_stands source from o g),
                   (
-                    λ source from o g. inl (refl, two_registers_stands source from o g),
+                    λ source from o g. inl (refl, register_list_stands source from o g),
                     (
-                      λ source from o g. inl (refl, two_registers_stands source from o g),
+                      λ source from o g. inl (refl, register_list_stands source from o g),
                       (
                         λ source from o g. inl (refl, two_registers_stands source from o g),
                         (
                           λ source from o g. inl (refl, two_registers_stands source from o g),
                           (
-                            λ source from o g. inl (refl, two_registers_zero_stands source from o g),
+                            λ source from o g. inl (refl, two_registers_stands source from o g),
                             (
                               λ source from o g. inl (refl, two_registers_stands source from o g),
                               (
-                                λ source from o g. inl (refl, nothing_stands source from o g),
+                                λ source from o g. inl (refl, two_registers_zero_stands source from o g),
                                 (
-                                  λ source from o g. inl (refl, base_back_list_stands source from o g),
+                                  λ source from o g. inl (refl, two_registers_stands source from o g),
                                   (
-                                    λ source from o g. inl (refl, sp_offset_stands source from o g),
+                                    λ source from o g. inl (refl, three_registers_stands source from o g),
                                     (
-                                      λ source from o g. subst (λ z. OneStands source (codes "str") from (lines (MemSp false o.first z))) (sym (sp_alone_stands_zero source from o g)) (inr (inl (refl, sp_alone_stands source from o g))),
+                                      λ source from o g. inl (refl, nothing_stands source from o g),
                                       (
-                                        λ source from o g. inl (refl, base_offset_stands source from o g),
+                                        λ source from o g. inl (refl, base_back_list_stands source from o g),
                                         (
-                                          λ source from o g. subst (λ z. OneStands source (codes "str") from (lines (MemImm 0 o.first o.second z))) (sym (base_alone_stands_zero source from o g)) (inr (inl (refl, base_alone_stands source from o g))),
+                                          λ source from o g. inl (refl, sp_offset_stands source from o g),
                                           (
-                                            λ source from o g. inl (refl, base_index_stands source from o g),
+                                            λ source from o g. subst (λ z. OneStands source (codes "str") from (lines (MemSp false o.first z))) (sym (sp_alone_stands_zero source from o g)) (inr (inl (refl, sp_alone_stands source from o g))),
                                             (
                                               λ source from o g. inl (refl, base_offset_stands source from o g),
                                               (
-                                                λ source from o g. subst (λ z. OneStands source (codes "strb") from (lines (MemImm 2 o.first o.second z))) (sym (base_alone_stands_zero source from o g)) (inr (inl (refl, base_alone_stands source from o g))),
+                                                λ source from o g. subst (λ z. OneStands source (codes "str") from (lines (MemImm 0 o.first o.second z))) (sym (base_alone_stands_zero source from o g)) (inr (inl (refl, base_alone_stands source from o g))),
                                                 (
                                                   λ source from o g. inl (refl, base_index_stands source from o g),
                                                   (
                                                     λ source from o g. inl (refl, base_offset_stands source from o g),
                                                     (
-                                                      λ source from o g. subst (λ z. OneStands source (codes "strh") from (lines (MemImm 4 o.first o.second z))) (sym (base_alone_stands_zero source from o g)) (inr (inl (refl, base_alone_stands source from o g))),
+                                                      λ source from o g. subst (λ z. OneStands source (codes "strb") from (lines (MemImm 2 o.first o.second z))) (sym (base_alone_stands_zero source from o g)) (inr (inl (refl, base_alone_stands source from o g))),
                                                       (
                                                         λ source from o g. inl (refl, base_index_stands source from o g),
                                                         (
-                                                          λ source from o g. inl (refl, sp_number_stands source from o g),
+                                                          λ source from o g. inl (refl, base_offset_stands source from o g),
                                                           (
-                                                            λ source from o g. inl (refl, register_number_stands source from o g),
+                                                            λ source from o g. subst (λ z. OneStands source (codes "strh") from (lines (MemImm 4 o.first o.second z))) (sym (base_alone_stands_zero source from o g)) (inr (inl (refl, base_alone_stands source from o g))),
                                                             (
-                                                              λ source from o g. inl (refl, three_registers_stands source from o g),
+                                                              λ source from o g. inl (refl, base_index_stands source from o g),
                                                               (
-                                                                λ source from o g. inl (refl, two_registers_number_stands source from o g),
+                                                                λ source from o g. inl (refl, sp_number_stands source from o g),
                                                                 (
-                                                                  λ source from o g. inl (refl, one_number_stands source from o g),
+                                                                  λ source from o g. inl (refl, register_number_stands source from o g),
                                                                   (
-                                                                    λ source from o g. inl (refl, two_registers_stands source from o g),
+                                                                    λ source from o g. inl (refl, three_registers_stands source from o g),
                                                                     (
-                                                                      λ source from o g. inl (refl, two_registers_stands source from o g),
+                                                                      λ source from o g. inl (refl, two_registers_number_stands source from o g),
                                                                       (
-                                                                        λ source from o g. inl (refl, two_registers_stands source from o g),
+                                                                        λ source from o g. inl (refl, one_number_stands source from o g),
                                                                         (
-                                                                          λ source from o g. inl (refl, one_number_stands source from o g),
+                                                                          λ source from o g. inl (refl, two_registers_stands source from o g),
                                                                           (
                                                                             λ source from o g. inl (refl, two_registers_stands source from o g),
                                                                             (
                                                                               λ source from o g. inl (refl, two_registers_stands source from o g),
                                                                               (
-                                                                                λ source from o g. inl (refl, nothing_stands source from o g),
+                                                                                λ source from o g. inl (refl, one_number_stands source from o g),
                                                                                 (
-                                                                                  λ source from o g. inl (refl, nothing_stands source from o g),
+                                                                                  λ source from o g. inl (refl, three_registers_stands source from o g),
                                                                                   (
-                                                                                    λ source from o g. inl (refl, nothing_stands source from o g),
-                                                                                    tt,
+                                                                                    λ source from o g. inl (refl, two_registers_stands source from o g),
+                                                                                    (
+                                                                                      λ source from o g. inl (refl, two_registers_stands source from o g),
+                                                                                      (
+                                                                                        λ source from o g. inl (refl, nothing_stands source from o g),
+                                                                                        (
+                                                                                          λ source from o g. inl (refl, nothing_stands source from o g),
+                                                                                          (
+                                                                                            λ source from o g. inl (refl, nothing_stands source from o g),
+                                                                                            tt,
+                                                                                          ),
+                                                                                        ),
+                                                                                      ),
+                                                                                    ),
                                                                                   ),
                                                                                 ),
                                                                               ),

@@ -2,7 +2,7 @@
 use Rattle.std.proofs.Common.{◌≡◌, ℕ, zero, suc, [], ◌∷◌, ◌++◌, pos, negsuc, refl, ap, arith, codes}
 use Rattle.std.proofs.lemmas.Fmt.{decimal_digit}
 use Rattle.std.specs.Fmt.{signed_decimal}
-use Rattle.asm_statements.specs.declared.statement.StmtKind.TheVariants.{Label, MovsImm, MovsReg, Mov, CmpImm, CmpReg, AddSubTwo, AddSubReg, AddSubThree, AddReg, AddRdSp, AddSp, SubSp, ShiftImm, Alu, Rsbs, Adr, LdrLabel, LdrPool, MemImm, MemReg, MemSp, Push, Pop, Stm, LdmBack, Ldm, Extend, Rev, B, BCond, Bl, Bx, Blx, Svc, Udf, Hint, Barrier, Text, Data, Bss, Rodata, Global, TypeFunction, TypeObject, Size, Words, Halves, Bytes, Ascii, Asciz, Space, Align, Pool, FnStart, FnEnd, Save, Pad, SetFp, CantUnwind, PersonalityIndex, HandlerData}
+use Rattle.asm_statements.specs.declared.statement.StmtKind.TheVariants.{Label, MovsImm, MovsReg, Mov, CmpImm, CmpReg, AddSubTwo, AddSubReg, AddSubThree, AddReg, AddRdSp, AddSp, SubSp, ShiftImm, Alu, Rsbs, MovW, MovT, Div, Adr, LdrLabel, LdrPool, MemImm, MemReg, MemSp, Push, Pop, Stm, LdmBack, Ldm, Extend, Rev, B, BCond, Bl, Cbz, BWide, Bx, Blx, Svc, Udf, Hint, Barrier, Text, Data, Bss, Rodata, Global, TypeFunction, TypeObject, Size, Words, Halves, Bytes, Ascii, Asciz, Space, Align, Pool, FnStart, FnEnd, Save, Pad, SetFp, CantUnwind, PersonalityIndex, HandlerData}
 use Rattle.asm_text.specs.Written.{register, line, written, also}
 use Rattle.asm_text.specs.Lines.{LinesAreWritten}
 
@@ -40,6 +40,9 @@ lines_written (AddSp off) h = refl
 lines_written (SubSp off) h = refl
 lines_written (ShiftImm op d m n) h = refl
 lines_written (Alu op d m) h = refl
+lines_written (MovW d imm) h = refl
+lines_written (MovT d imm) h = refl
+lines_written (Div signed d n m) h = refl
 lines_written (Adr d n) h = refl
 lines_written (LdrLabel t n) h = refl
 lines_written (LdrPool t v) h = refl
@@ -53,6 +56,8 @@ lines_written (Extend op d m) h = refl
 lines_written (Rev op d m) h = refl
 lines_written (B n) h = refl
 lines_written (Bl n) h = refl
+lines_written (Cbz nonzero r n) h = refl
+lines_written (BWide n) h = refl
 lines_written (Bx m) h = refl
 lines_written (Blx m) h = refl
 lines_written (Svc imm) h = refl

@@ -1,18 +1,18 @@
 -- Every statement of the law.
 use Rattle.std.proofs.Common.{◌≡◌, ℕ, zero, suc, ◌<◌, true, false, List, [], ◌∷◌, Ok, ℤ, pos, negsuc, refl, arith}
 use Rattle.asm_statements.specs.declared.statement.StmtKind.{StmtKind}
-use Rattle.asm_statements.specs.declared.statement.StmtKind.TheVariants.{Label, MovsImm, MovsReg, Mov, CmpImm, CmpReg, AddSubTwo, AddSubReg, AddSubThree, AddReg, AddRdSp, AddSp, SubSp, ShiftImm, Alu, Rsbs, Adr, LdrLabel, LdrPool, MemImm, MemReg, MemSp, Push, Pop, Stm, LdmBack, Ldm, Extend, Rev, B, BCond, Bl, Bx, Blx, Svc, Udf, Hint, Barrier, Text, Data, Bss, Rodata, Global, TypeFunction, TypeObject, Size, Words, Halves, Bytes, Ascii, Asciz, Space, Align, Pool, FnStart, FnEnd, Save, Pad, SetFp, CantUnwind, PersonalityIndex, HandlerData}
+use Rattle.asm_statements.specs.declared.statement.StmtKind.TheVariants.{Label, MovsImm, MovsReg, Mov, CmpImm, CmpReg, AddSubTwo, AddSubReg, AddSubThree, AddReg, AddRdSp, AddSp, SubSp, ShiftImm, Alu, Rsbs, MovW, MovT, Div, Adr, LdrLabel, LdrPool, MemImm, MemReg, MemSp, Push, Pop, Stm, LdmBack, Ldm, Extend, Rev, B, BCond, Bl, Cbz, BWide, Bx, Blx, Svc, Udf, Hint, Barrier, Text, Data, Bss, Rodata, Global, TypeFunction, TypeObject, Size, Words, Halves, Bytes, Ascii, Asciz, Space, Align, Pool, FnStart, FnEnd, Save, Pad, SetFp, CantUnwind, PersonalityIndex, HandlerData}
 use Rattle.asm_read.specs.Reading.{stmt, read_of}
 use Rattle.asm_text.specs.Written.{written, IsWritable, ReadsBack}
 use Rattle.asm_text.proofs.Chosen.{label_is}
-use Rattle.asm_text.proofs.Plain.{movs_line, mov_line, cmp_line, ands_line, eors_line, lsls_line, lsrs_line, asrs_line, adcs_line, sbcs_line, rors_line, tst_line, cmn_line, orrs_line, muls_line, bics_line, mvns_line, sxth_line, sxtb_line, uxth_line, uxtb_line, rev_line, rev16_line, revsh_line, adds_line, subs_line, bx_line, blx_line, nop_line, yield_line, wfe_line, wfi_line, sev_line, dsb_line, dmb_line, isb_line, text_line, data_section_line, bss_line, pool_line, fnstart_line, fnend_line, cantunwind_line, handlerdata_line, rodata_line}
+use Rattle.asm_text.proofs.Plain.{movs_line, mov_line, cmp_line, ands_line, eors_line, lsls_line, lsrs_line, asrs_line, adcs_line, sbcs_line, rors_line, tst_line, cmn_line, orrs_line, muls_line, bics_line, mvns_line, sxth_line, sxtb_line, uxth_line, uxtb_line, rev_line, rev16_line, revsh_line, adds_line, subs_line, sdiv_line, udiv_line, bx_line, blx_line, nop_line, yield_line, wfe_line, wfi_line, sev_line, dsb_line, dmb_line, isb_line, text_line, data_section_line, bss_line, pool_line, fnstart_line, fnend_line, cantunwind_line, handlerdata_line, rodata_line}
 use Rattle.asm_text.proofs.Accesses.{add_line, str_index_line, strh_index_line, strb_index_line, ldrsb_index_line, ldr_index_line, ldrh_index_line, ldrb_index_line, ldrsh_index_line, str_offset_line, ldr_offset_line, strb_offset_line, ldrb_offset_line, strh_offset_line, ldrh_offset_line, ldr_sp_line, str_sp_line}
 use Rattle.asm_text.proofs.Listing.{push_line, pop_line, stm_line, ldm_back_line, ldm_line, save_line}
 use Rattle.asm_text.proofs.Expressing.{words_line, halves_line, bytes_line, pool_word_line}
 use Rattle.asm_text.proofs.Quoting.{ascii_line, asciz_line}
 use Rattle.asm_text.proofs.Aliases.{others}
-use Rattle.asm_text.proofs.Numbered.{movs_number_line, cmp_number_line, adds_number_line, adds_three_line, subs_number_line, subs_three_line, lsls_number_line, lsrs_number_line, asrs_number_line, add_register_sp_line, add_sp_line, sub_sp_line, svc_line, udf_line, space_line, pad_line, index_line, setfp_line, align_line, rsbs_line}
-use Rattle.asm_text.proofs.Naming.{b_line, bl_line, beq_line, bne_line, bcs_line, bcc_line, bmi_line, bpl_line, bvs_line, bvc_line, bhi_line, bls_line, bge_line, blt_line, bgt_line, ble_line, global_line, function_line, object_line, adr_line, ldr_label_line, size_line}
+use Rattle.asm_text.proofs.Numbered.{movs_number_line, movw_line, movt_line, cmp_number_line, adds_number_line, adds_three_line, subs_number_line, subs_three_line, lsls_number_line, lsrs_number_line, asrs_number_line, add_register_sp_line, add_sp_line, sub_sp_line, svc_line, udf_line, space_line, pad_line, index_line, setfp_line, align_line, rsbs_line}
+use Rattle.asm_text.proofs.Naming.{b_line, b_wide_line, bl_line, cbz_line, cbnz_line, beq_line, bne_line, bcs_line, bcc_line, bmi_line, bpl_line, bvs_line, bvc_line, bhi_line, bls_line, bge_line, blt_line, bgt_line, ble_line, global_line, function_line, object_line, adr_line, ldr_label_line, size_line}
 
 alu_lines : (op d m : ℕ) → IsWritable (Alu op d m) → read_of (written (Alu op d m)) ≡ Ok (stmt 1 (Alu op d m) ∷ [])
 unfolding written
@@ -134,6 +134,10 @@ canonical (SubSp z) h = sub_sp_line z h
 canonical (ShiftImm op d m z) h = shift_lines op d m z h
 canonical (Alu op d m) h = alu_lines op d m h
 canonical (Rsbs d m) h = rsbs_line d m h.0 h.1
+canonical (MovW d z) h = movw_line d z h.0 h.1
+canonical (MovT d z) h = movt_line d z h.0 h.1
+canonical (Div true d n m) h = sdiv_line d n m h.0 h.1 h.2
+canonical (Div false d n m) h = udiv_line d n m h.0 h.1 h.2
 canonical (Adr d n) h = adr_line d n h.0 h.1
 canonical (LdrLabel t n) h = ldr_label_line t n h.0 h.1
 canonical (LdrPool t e) h = pool_word_line t e h.0 h.1 h.2
@@ -151,6 +155,9 @@ canonical (Rev op d m) h = reverse_lines op d m h
 canonical (B n) h = b_line n h
 canonical (BCond op n) h = branch_lines op n h
 canonical (Bl n) h = bl_line n h
+canonical (Cbz true m n) h = cbnz_line m n h.0 h.1
+canonical (Cbz false m n) h = cbz_line m n h.0 h.1
+canonical (BWide n) h = b_wide_line n h
 canonical (Bx m) h = bx_line m h
 canonical (Blx m) h = blx_line m h
 canonical (Svc z) h = svc_line z h

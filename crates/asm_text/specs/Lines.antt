@@ -6,12 +6,12 @@ use Rattle.asm_read.specs.declared.token.Kind.TheVariants.{End}
 use Rattle.asm_read.specs.declared.expression.Shape.{Shape}
 use Rattle.asm_statements.specs.declared.statement.Expr.{Expr}
 use Rattle.asm_statements.specs.declared.statement.StmtKind.{StmtKind}
-use Rattle.asm_statements.specs.declared.statement.StmtKind.TheVariants.{Label, MovsImm, MovsReg, Mov, CmpImm, CmpReg, AddSubTwo, AddSubReg, AddSubThree, AddReg, AddRdSp, AddSp, SubSp, ShiftImm, Alu, Rsbs, Adr, LdrLabel, LdrPool, MemImm, MemReg, MemSp, Push, Pop, Stm, LdmBack, Ldm, Extend, Rev, B, BCond, Bl, Bx, Blx, Svc, Udf, Hint, Barrier, Text, Data, Bss, Rodata, Global, TypeFunction, TypeObject, Size, Words, Halves, Bytes, Ascii, Asciz, Space, Align, Pool, FnStart, FnEnd, Save, Pad, SetFp, CantUnwind, PersonalityIndex, HandlerData}
+use Rattle.asm_statements.specs.declared.statement.StmtKind.TheVariants.{Label, MovsImm, MovsReg, Mov, CmpImm, CmpReg, AddSubTwo, AddSubReg, AddSubThree, AddReg, AddRdSp, AddSp, SubSp, ShiftImm, Alu, Rsbs, MovW, MovT, Div, Adr, LdrLabel, LdrPool, MemImm, MemReg, MemSp, Push, Pop, Stm, LdmBack, Ldm, Extend, Rev, B, BCond, Bl, Cbz, BWide, Bx, Blx, Svc, Udf, Hint, Barrier, Text, Data, Bss, Rodata, Global, TypeFunction, TypeObject, Size, Words, Halves, Bytes, Ascii, Asciz, Space, Align, Pool, FnStart, FnEnd, Save, Pad, SetFp, CantUnwind, PersonalityIndex, HandlerData}
 use Rattle.asm_read.specs.Tokens.{token_at}
 use Rattle.asm_read.specs.Operands.{span, bytes_of, register_at, mark_at, word_at, name_at, text_at, number_at, limited_at, has_register, list_at}
 use Rattle.asm_read.specs.Expressions.{shaped, expression_at, series, expressions_at, expr_of}
 use Rattle.asm_read.specs.Statements.{text_of}
-use Rattle.asm_text.specs.Written.{register as register_text, word_of, alu_words, access_words, extend_words, reverse_words, hint_words, barrier_words, offset_words, shift_words, branch_words, sum_word, line as line_text, braced, quoted, expression, expressions, written, also}
+use Rattle.asm_text.specs.Written.{register as register_text, word_of, alu_words, access_words, extend_words, reverse_words, hint_words, barrier_words, offset_words, shift_words, branch_words, sum_word, zero_word, quotient_word, line as line_text, braced, quoted, expression, expressions, written, also}
 
 -- what stands after the word of a line
 pub data Operand : Type 0 where
@@ -138,6 +138,9 @@ lines (SubSp off) = line (codes "sub") (sp_number off) ∷ []
 lines (ShiftImm op d m n) = line (word_of shift_words op) (two_number d m n) ∷ []
 lines (Alu op d m) = line (word_of alu_words op) (two d m) ∷ []
 lines (Rsbs d m) = line (codes "rsbs") (two_number d m (pos 0)) ∷ []
+lines (MovW d imm) = line (codes "movw") (register_number d imm) ∷ []
+lines (MovT d imm) = line (codes "movt") (register_number d imm) ∷ []
+lines (Div signed d n m) = line (quotient_word signed) (three d n m) ∷ []
 lines (Adr d n) = line (codes "adr") (register_name d n) ∷ []
 lines (LdrLabel t n) = line (codes "ldr") (register_name t n) ∷ []
 lines (LdrPool t v) = line (codes "ldr") (register t ∷ comma ∷ mark 61 ∷ value v ∷ []) ∷ []
@@ -156,6 +159,8 @@ lines (BCond (suc (suc zero)) n) = line (codes "bcs") (name n ∷ []) ∷ line (
 lines (BCond (suc (suc (suc zero))) n) = line (codes "bcc") (name n ∷ []) ∷ line (codes "blo") (name n ∷ []) ∷ []
 lines (BCond cond n) = line (word_of branch_words cond) (name n ∷ []) ∷ []
 lines (Bl n) = line (codes "bl") (name n ∷ []) ∷ []
+lines (Cbz nonzero r n) = line (zero_word nonzero) (register_name r n) ∷ []
+lines (BWide n) = line (codes "b.w") (name n ∷ []) ∷ []
 lines (Bx m) = line (codes "bx") (register m ∷ []) ∷ []
 lines (Blx m) = line (codes "blx") (register m ∷ []) ∷ []
 lines (Svc imm) = line (codes "svc") (hashed imm) ∷ []

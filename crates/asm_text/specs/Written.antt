@@ -6,7 +6,7 @@ use Rattle.std.specs.Fmt.{signed_decimal}
 use Rattle.asm_read.specs.declared.token.TheConstants.{GREATEST, FARTHEST_BELOW}
 use Rattle.asm_read.specs.declared.line.TheConstants.{SP, LR, PC}
 use Rattle.asm_statements.specs.declared.statement.StmtKind.{StmtKind}
-use Rattle.asm_statements.specs.declared.statement.StmtKind.TheVariants.{Label, MovsImm, MovsReg, Mov, CmpImm, CmpReg, AddSubTwo, AddSubReg, AddSubThree, AddReg, AddRdSp, AddSp, SubSp, ShiftImm, Alu, Rsbs, Adr, LdrLabel, LdrPool, MemImm, MemReg, MemSp, Push, Pop, Stm, LdmBack, Ldm, Extend, Rev, B, BCond, Bl, Bx, Blx, Svc, Udf, Hint, Barrier, Text, Data, Bss, Rodata, Global, TypeFunction, TypeObject, Size, Words, Halves, Bytes, Ascii, Asciz, Space, Align, Pool, FnStart, FnEnd, Save, Pad, SetFp, CantUnwind, PersonalityIndex, HandlerData}
+use Rattle.asm_statements.specs.declared.statement.StmtKind.TheVariants.{Label, MovsImm, MovsReg, Mov, CmpImm, CmpReg, AddSubTwo, AddSubReg, AddSubThree, AddReg, AddRdSp, AddSp, SubSp, ShiftImm, Alu, Rsbs, MovW, MovT, Div, Adr, LdrLabel, LdrPool, MemImm, MemReg, MemSp, Push, Pop, Stm, LdmBack, Ldm, Extend, Rev, B, BCond, Bl, Cbz, BWide, Bx, Blx, Svc, Udf, Hint, Barrier, Text, Data, Bss, Rodata, Global, TypeFunction, TypeObject, Size, Words, Halves, Bytes, Ascii, Asciz, Space, Align, Pool, FnStart, FnEnd, Save, Pad, SetFp, CantUnwind, PersonalityIndex, HandlerData}
 use Rattle.asm_statements.specs.declared.statement.Expr.{Expr}
 use Rattle.asm_statements.specs.declared.statement.Expr.TheVariants.{Num, Of, Diff, Prel31, Prel31Ref, Target2, Rel}
 use Rattle.asm_read.specs.Tokens.{is_between, is_digit, is_name_byte}
@@ -57,6 +57,13 @@ branch_words = codes "beq" ∷ codes "bne" ∷ codes "bcs" ∷ codes "bcc" ∷ c
 
 abbrev pub sum_word : Bool → List ℕ
 sum_word sub = if sub then codes "subs" else codes "adds"
+
+-- CBNZ where the register isn't to be 0
+abbrev pub zero_word : Bool → List ℕ
+zero_word nonzero = if nonzero then codes "cbnz" else codes "cbz"
+
+abbrev pub quotient_word : Bool → List ℕ
+quotient_word signed = if signed then codes "sdiv" else codes "udiv"
 
 -- a word and operands
 abbrev pub line : List ℕ → List ℕ → List ℕ
@@ -175,6 +182,9 @@ written (SubSp off) = line (codes "sub") (sp_number off)
 written (ShiftImm op d m n) = line (word_of shift_words op) (two_number d m n)
 written (Alu op d m) = line (word_of alu_words op) (two d m)
 written (Rsbs d m) = line (codes "rsbs") (register d ++ (codes ", " ++ (register m ++ codes ", #0")))
+written (MovW d imm) = line (codes "movw") (register_number d imm)
+written (MovT d imm) = line (codes "movt") (register_number d imm)
+written (Div signed d n m) = line (quotient_word signed) (three d n m)
 written (Adr d name) = line (codes "adr") (register_name d name)
 written (LdrLabel t name) = line (codes "ldr") (register_name t name)
 written (LdrPool t value) = line (codes "ldr") (register t ++ (codes ", =" ++ expression value))
@@ -191,6 +201,8 @@ written (Rev op d m) = line (word_of reverse_words op) (two d m)
 written (B name) = line (codes "b") name
 written (BCond cond name) = line (word_of branch_words cond) name
 written (Bl name) = line (codes "bl") name
+written (Cbz nonzero r name) = line (zero_word nonzero) (register_name r name)
+written (BWide name) = line (codes "b.w") name
 written (Bx m) = line (codes "bx") (register m)
 written (Blx m) = line (codes "blx") (register m)
 written (Svc imm) = line (codes "svc") (hash imm)
@@ -324,6 +336,9 @@ IsWritable (SubSp off) = InRange off
 IsWritable (ShiftImm op d m n) = (op < 3) × (d < 16) × (m < 16) × InRange n
 IsWritable (Alu op d m) = (op < 16) × (op ≢ 9) × (op ≢ 10) × (d < 16) × (m < 16)
 IsWritable (Rsbs d m) = (d < 16) × (m < 16)
+IsWritable (MovW d imm) = (d < 16) × InRange imm
+IsWritable (MovT d imm) = (d < 16) × InRange imm
+IsWritable (Div signed d n m) = (d < 16) × (n < 16) × (m < 16)
 IsWritable (Adr d name) = (d < 16) × IsNameText name
 IsWritable (LdrLabel t name) = (t < 16) × IsNameText name
 IsWritable (LdrPool t value) = (t < 16) × IsExpression false value × (length (expression value) ≤ longest_values)
@@ -340,6 +355,8 @@ IsWritable (Rev op d m) = (op < 4) × (op ≢ 2) × (d < 16) × (m < 16)
 IsWritable (B name) = IsNameText name
 IsWritable (BCond cond name) = (cond < 14) × IsNameText name
 IsWritable (Bl name) = IsNameText name
+IsWritable (Cbz nonzero r name) = (r < 16) × IsNameText name
+IsWritable (BWide name) = IsNameText name
 IsWritable (Bx m) = m < 16
 IsWritable (Blx m) = m < 16
 IsWritable (Svc imm) = InRange imm

@@ -12,5 +12,5 @@ use std::io::Error;
 
 fn main(host: HostRuntime) -> Result<(), Error> {
     run_file(&host, "audits.txt", &Audits)?;
-    run_file(&host, "reports.txt", &Reports)
+    run_file(&host, "reports.txt", &Reports { host: &host })
 }

@@ -4,7 +4,9 @@ use case_rows::{Asked, Unanswered, decimal, first_word};
 use eh_files::{FileList, MemFile, SureFiles};
 use eh_port::{Bytes, HostSink};
 use ehabi_audit_top::audit_main;
+use source_images::image_of_sources;
 use std::alloc::{AllocError, Global};
+use std::fs;
 
 /// The name of the only file.
 const NAME: &str = "x";
@@ -13,23 +15,36 @@ const NAME: &str = "x";
 const SUMMARY: &str = "-- summary";
 
 /// How many lines are told; of more the first, and those from the summary on.
-const MOST_LINES: usize = 12;
+const MOST_LINES: usize = 40;
 
 /// How many bytes of a line are told; of more how many there are.
 const MOST_BYTES: usize = 120;
 
 /// What `ehabi_audit` is asked.
 #[derive(Clone, Copy)]
-pub struct Reports;
+pub struct Reports<'a> {
+    pub host: &'a HostRuntime,
+}
 
-impl Asked for Reports {
+impl Asked for Reports<'_> {
     fn answer(&self, alloc: Global, question: &str) -> Result<String, Unanswered> {
         let (what, rest) = first_word(question);
         match what {
             "words" => Ok(told(alloc, &words_of(alloc, rest)?, Vec::new(alloc))?),
             "size" => Ok(told(alloc, &[NAME], zeros(alloc, decimal(rest)?)?)?),
+            "source" => Ok(told(alloc, &[NAME], self.linked(alloc, rest)?)?),
+            "file" => Ok(told(alloc, &[NAME], fs::read(self.host, rest)?)?),
             _ => Ok(told(alloc, &[NAME], file_of(alloc, question)?)?),
         }
+    }
+}
+
+impl Reports<'_> {
+    /// `source NAME`: the image of a source of the folder where the program runs, linked with the stubs.
+    fn linked(&self, alloc: Global, name: &str) -> Result<Vec<u8>, Unanswered> {
+        let mut texts = Vec::new(alloc);
+        texts.push(fs::read_to_string(self.host, name)?)?;
+        image_of_sources(alloc, texts.as_slice()).ok_or(Unanswered::Because("no image"))
     }
 }
 

@@ -8,6 +8,8 @@ use elf_image::image::Image;
 use frame_facts::Prologue;
 use frame_flow::{FrameFault, Framed, solve};
 use frame_graph::FlowGraph;
+use frame_reach::reach;
+use image_memory::profile::profile_of;
 use std::alloc::{AllocError, Global};
 
 const START: u32 = 0x8000;
@@ -84,8 +86,12 @@ fn solved(
     if end <= START {
         return Err(Unanswered::NoWord);
     }
-    let flow_graph = FlowGraph::new(&index, START, end);
-    match solve(alloc, &Framed::new(&flow_graph, prologue, pads)) {
+    let flow_graph = FlowGraph::new(&index, profile_of(image), START, end);
+    let Ok(reached) = reach(alloc, &flow_graph) else {
+        return Err(Unanswered::Because("not reached"));
+    };
+    let framed = Framed::new(&flow_graph, prologue, pads, reached.reached());
+    match solve(alloc, &framed) {
         Ok(()) => Ok(format!(in alloc; "fine")?),
         Err(FrameFault::Stands(place, cause)) => {
             let cause = cause_text(alloc, cause)?;

@@ -1,9 +1,10 @@
 //! Runs the cases of data/ on the checker: effects of instructions on facts, prologues, sites, what is reached, functions and
-//! images. Answers are by hand from docs/acceptance.md and docs/checking.md; instructions from DDI 0419, words of the index and of
-//! tables from IHI 0038.
+//! images. Answers are by hand from docs/acceptance.md and docs/checking.md; instructions from DDI 0419 and DDI 0553, words of the index and
+//! of tables from IHI 0038.
 #![tactic(auto)]
 
 mod accepted;
+mod called;
 mod causes;
 mod effects;
 mod facts;
@@ -15,6 +16,7 @@ mod sites;
 mod source;
 
 use accepted::Accepting;
+use called::Called;
 use case_rows::run_file;
 use effects::Effects;
 use frames::Frames;
@@ -31,5 +33,7 @@ fn main(host: HostRuntime) -> Result<(), Error> {
     run_file(&host, "sites.txt", &Sites)?;
     run_file(&host, "reached.txt", &Reaching)?;
     run_file(&host, "frames.txt", &Frames)?;
-    run_file(&host, "images.txt", &Accepting)
+    run_file(&host, "images.txt", &Accepting)?;
+    run_file(&host, "variable_frames.txt", &Called)?;
+    run_file(&host, "profiles.txt", &Called)
 }

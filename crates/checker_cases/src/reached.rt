@@ -6,6 +6,7 @@ use eh_index::Index;
 use elf_image::image::Image;
 use frame_graph::FlowGraph;
 use frame_reach::{ReachFault, Reached, reach};
+use image_memory::profile::profile_of;
 use std::alloc::{AllocError, Global};
 
 const CODE: u32 = 0x9000;
@@ -99,7 +100,7 @@ fn told_of(alloc: Global, image: &Image, count: u32) -> Result<String, Unanswere
         return Err(Unanswered::Because("no index"));
     };
     let end = CODE.saturating_add(count.saturating_mul(2));
-    let flow_graph = FlowGraph::new(&index, CODE, end);
+    let flow_graph = FlowGraph::new(&index, profile_of(image), CODE, end);
     match reach(alloc, &flow_graph) {
         Ok(reached) => Ok(told(alloc, &flow_graph, &reached, count)?),
         Err(ReachFault::TooLong) => Err(Unanswered::Because("too long")),
@@ -120,7 +121,7 @@ fn count_in(alloc: Global, image: &Image, count: u32) -> Result<String, Unanswer
         return Err(Unanswered::Because("no index"));
     };
     let end = CODE.saturating_add(count.saturating_mul(2));
-    match reach(alloc, &FlowGraph::new(&index, CODE, end)) {
+    match reach(alloc, &FlowGraph::new(&index, profile_of(image), CODE, end)) {
         Ok(reached) => {
             let places = reached.places().len();
             let word = if places == 1 { "place" } else { "places" };
@@ -152,7 +153,7 @@ fn split(alloc: Global, rows: &str, code: &str) -> Result<String, Unanswered> {
         return Err(Unanswered::Because("no index"));
     };
     let end = CODE.saturating_add(count_of(code).saturating_mul(2));
-    let whole = FlowGraph::new(&index, CODE, end);
+    let whole = FlowGraph::new(&index, profile_of(&image), CODE, end);
     let Ok(reached) = reach(alloc, &whole) else {
         return Err(Unanswered::Because("not reached"));
     };

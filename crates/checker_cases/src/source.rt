@@ -4,8 +4,9 @@ use asm_read::read_source;
 use case_rows::Unanswered;
 use eh_word::words::get_half;
 use std::alloc::Global;
-use thumb_isa::decode::decode;
+use thumb_isa::decode::decode_for;
 use thumb_isa::instr::{Decoded, Instr};
+use thumb_isa::profile::Profile;
 
 /// The bytes of instructions.
 fn bytes_of(alloc: Global, text: &str) -> Result<Vec<u8>, Unanswered> {
@@ -23,11 +24,11 @@ fn bytes_of(alloc: Global, text: &str) -> Result<Vec<u8>, Unanswered> {
     }
 }
 
-/// The instruction at an offset, and its size.
+/// The instruction at an offset in the second profile, which has all of the first one's, and its size.
 fn instruction_at(bytes: &[u8], at: usize) -> Result<(Instr, u32), Unanswered> {
     let first = get_half(bytes, at).unwrap_or(0);
     let second = get_half(bytes, at.wrapping_add(2)).unwrap_or(0);
-    match decode(first, second) {
+    match decode_for(Profile::Two, first, second) {
         Decoded::Is(i, size) => Ok((i, size)),
         Decoded::Undefined | Decoded::Unpredictable | Decoded::NotInProfile => {
             Err(Unanswered::Because("no instruction"))

@@ -3,15 +3,15 @@ use Rattle.std.proofs.Common.{◌≡◌, ℕ, ◌+◌, ◌-◌, ◌%◌, ◌^◌
 use Rattle.std.specs.Prelude.{slice_index}
 use Rattle.eh_bus.specs.Memory.{Memory}
 use Rattle.thumb_isa.specs.declared.instr.Instr.{Instr}
-use Rattle.thumb_isa.specs.declared.instr.Instr.TheVariants.{AddHigh, MovHigh, Bx, Blx, Pop, BCond, B, Bl}
+use Rattle.thumb_isa.specs.declared.instr.Instr.TheVariants.{AddHigh, MovHigh, Bx, Blx, Pop, BCond, B, Bl, Cbz, BWide}
 use Rattle.thumb_core.specs.declared.regs.Regs.{Regs}
 use Rattle.thumb_core.specs.declared.regs.CoreTrap.TheVariants.{EvenTarget}
 use Rattle.thumb_core.specs.declared.regs.Stepped.{Stepped}
 use Rattle.thumb_core.specs.declared.regs.Stepped.TheVariants.{Done, Call, Trap}
-use Rattle.thumb_core.specs.Registers.{operand, with_next, even}
+use Rattle.thumb_core.specs.Registers.{reg, operand, with_next, even}
 use Rattle.thumb_core.specs.Data.{forward}
 use Rattle.thumb_core.specs.Outcome.{Outcome}
-use Rattle.thumb_core.specs.Branch.{passes, branch, call_to}
+use Rattle.thumb_core.specs.Branch.{passes, takes, branch, call_to}
 use Rattle.thumb_core.specs.Step.{effect}
 use Rattle.eh_phase.specs.Frames.{site_of as frame_site}
 use Rattle.step_ahead.specs.declared.instruction.Ahead.TheVariants.{FallThrough, Pushes, Jumps, Other}
@@ -23,6 +23,7 @@ use Rattle.checker_laws.proofs.Edges.{branch_to}
 
 fall_through_on : (i : Instr) (regs : Regs) → is_fall_through i ≡ true → branches i regs ≡ false → reaches_next i ≡ true
 fall_through_on (B off) regs fall_through taken = absurd cc
+fall_through_on (BWide off) regs fall_through taken = absurd cc
 fall_through_on (Bx k) regs fall_through taken = absurd cc
 fall_through_on (Pop list) regs fall_through taken = absurd cc
 fall_through_on (AddHigh d k) regs fall_through taken = ap not taken
@@ -34,6 +35,15 @@ jumps (B off) regs m to taken goes =
     inl (record { target = forward (regs.pc + 4) off; is = refl; pc = sym (ap (λ (o : Outcome). o.1.pc) goes) ∙ branch_to off regs })
 jumps (BCond condition off) regs m to taken goes =
     let pc : (cond (passes condition regs) (branch off regs) (with_next 2 regs)).pc ≡ to = ap (λ (o : Outcome). o.1.pc) goes in
+    inl (record {
+      target = forward (regs.pc + 4) off;
+      is = refl;
+      pc = sym (subst (λ (b : Bool). (cond b (branch off regs) (with_next 2 regs)).pc ≡ to) taken pc) ∙ branch_to off regs;
+    })
+jumps (BWide off) regs m to taken goes =
+    inl (record { target = forward (regs.pc + 4) off; is = refl; pc = sym (ap (λ (o : Outcome). o.1.pc) goes) ∙ branch_to off regs })
+jumps (Cbz nonzero n off) regs m to taken goes =
+    let pc : (cond (takes nonzero (reg regs n)) (branch off regs) (with_next 2 regs)).pc ≡ to = ap (λ (o : Outcome). o.1.pc) goes in
     inl (record {
       target = forward (regs.pc + 4) off;
       is = refl;

@@ -6,7 +6,7 @@ use Rattle.std.specs.Prelude.{slice_index}
 use Rattle.eh_bus.specs.Memory.{Memory, store, store_run}
 use Rattle.eh_bus.specs.declared.fault.BusFault.{BusFault}
 use Rattle.thumb_isa.specs.declared.instr.Instr.{Instr}
-use Rattle.thumb_isa.specs.declared.instr.Instr.TheVariants.{Imm8, AddHigh, MovHigh, Bx, Blx, LdrLit, MemReg, MemImm, MemSp, Push, Pop, Stm, Ldm, BCond, Svc, B, Bl}
+use Rattle.thumb_isa.specs.declared.instr.Instr.TheVariants.{Imm8, AddHigh, MovHigh, Bx, Blx, LdrLit, MemReg, MemImm, MemSp, Push, Pop, Stm, Ldm, BCond, Svc, B, Bl, Cbz, BWide}
 use Rattle.thumb_core.specs.declared.regs.TheConstants.{SP, PC}
 use Rattle.thumb_core.specs.declared.regs.Regs.{Regs}
 use Rattle.thumb_core.specs.declared.regs.CoreTrap.TheVariants.{EvenTarget}
@@ -14,7 +14,7 @@ use Rattle.thumb_core.specs.declared.regs.Stepped.{Stepped}
 use Rattle.thumb_core.specs.declared.regs.Stepped.TheVariants.{Done, Trap}
 use Rattle.thumb_core.specs.Registers.{reg, operand, put, with_reg, with_pc, with_next, with_all}
 use Rattle.thumb_core.specs.Data.{forward, data_effect, with_value}
-use Rattle.thumb_core.specs.Branch.{passes, branch, write_high, if_odd, call_to, return_to}
+use Rattle.thumb_core.specs.Branch.{passes, takes, branch, write_high, if_odd, call_to, return_to}
 use Rattle.thumb_core.specs.Outcome.{Outcome, with_memory}
 use Rattle.thumb_core.specs.Access.{store_end, loaded, store_reg, mem_reg, mem_imm}
 use Rattle.thumb_core.specs.Lists.{words_of, bytes_of, load_list, ldm_end, pop_to, pop_end}
@@ -156,6 +156,11 @@ edges (BCond condition off) size regs m range =
     either (λ (after : Regs). Leads (BCond condition off) size regs.pc Done after.pc) (passes condition regs) (branch off regs) (with_next size regs)
     (inr (inl (record { target = forward (regs.pc + 4) off; is = refl; pc = branch_to off regs })))
     (inl (record { on = refl; pc = refl }))
+edges (Cbz nonzero n off) size regs m range =
+    either (λ (after : Regs). Leads (Cbz nonzero n off) size regs.pc Done after.pc) (takes nonzero (reg regs n)) (branch off regs) (with_next size regs)
+    (inr (inl (record { target = forward (regs.pc + 4) off; is = refl; pc = branch_to off regs })))
+    (inl (record { on = refl; pc = refl }))
+edges (BWide off) size regs m range = inr (inl (record { target = forward (regs.pc + 4) off; is = refl; pc = branch_to off regs }))
 edges (B off) size regs m range = inr (inl (record { target = forward (regs.pc + 4) off; is = refl; pc = branch_to off regs }))
 edges (Bl off) size regs m range = bl_leads off size regs m
 edges (Blx k) size regs m range = blx_leads k size regs m

@@ -2,8 +2,9 @@
 use Rattle.std.proofs.Common.{◌≡◌, ℕ, ◌+◌, ◌%◌, ◌^◌, nat_le, Bool, true, false, cond, Result, Ok, sym, ap, subst, ◌∙◌}
 use Rattle.eh_bus.specs.Memory.{Memory, fetch}
 use Rattle.eh_bus.specs.declared.fault.BusFault.{BusFault}
-use Rattle.thumb_isa.specs.Rows.{decoded_of}
-use Rattle.thumb_core.specs.Step.{instr_at, instr_of, instr_of_first, instr_of_second}
+use Rattle.thumb_isa.specs.declared.profile.Profile.{Profile}
+use Rattle.thumb_isa.specs.Rows.{decoded_for}
+use Rattle.thumb_core.specs.Step.{instr_for, instr_of, instr_of_first, instr_of_second}
 use Rattle.code_halfwords.specs.declared.halfwords.Halfwords.{Halfwords}
 use Rattle.code_halfwords.specs.Standing.{HasHalfwords, IsPair}
 
@@ -38,11 +39,11 @@ is_pair m a h stand n =
     let e : Ok 0 ≡ Ok h.second = subst (λ (b : Bool). cond b (fetch m ((a + 2) % 2 ^ 32)) (Ok 0) ≡ Ok h.second) n stand.second in
     cc
 
--- they are the instruction there
-pub by_halfwords : (m : Memory) (a : ℕ) (h : Halfwords) → HasHalfwords m a h → instr_at m a ≡ instr_of (decoded_of h.first h.second)
-by_halfwords m a h stand = ap (λ (r : Result ℕ BusFault). instr_of_first r m a) stand.first ∙ go (nat_le 0xe800 h.first) stand.second
+-- they are the instruction there, by the rows of any profile
+pub by_halfwords : (p : Profile) (m : Memory) (a : ℕ) (h : Halfwords) → HasHalfwords m a h → instr_for p m a ≡ instr_of (decoded_for p h.first h.second)
+by_halfwords p m a h stand = ap (λ (r : Result ℕ BusFault). instr_of_first p r m a) stand.first ∙ go (nat_le 0xe800 h.first) stand.second
   where
     go : (b : Bool) → cond b (fetch m ((a + 2) % 2 ^ 32)) (Ok 0) ≡ Ok h.second
-        → cond b (instr_of_second (fetch m ((a + 2) % 2 ^ 32)) h.first) (instr_of (decoded_of h.first 0)) ≡ instr_of (decoded_of h.first h.second)
-    go true e = ap (λ (r : Result ℕ BusFault). instr_of_second r h.first) e
-    go false e = ap (λ (r : Result ℕ BusFault). instr_of_second r h.first) e
+        → cond b (instr_of_second p (fetch m ((a + 2) % 2 ^ 32)) h.first) (instr_of (decoded_for p h.first 0)) ≡ instr_of (decoded_for p h.first h.second)
+    go true e = ap (λ (r : Result ℕ BusFault). instr_of_second p r h.first) e
+    go false e = ap (λ (r : Result ℕ BusFault). instr_of_second p r h.first) e

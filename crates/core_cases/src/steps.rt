@@ -10,13 +10,18 @@ use eh_bus::fault::{BusFault, BusMemory};
 use eh_bus::segment::SegmentSpec;
 use std::alloc::{AllocError, Global};
 use thumb_core::regs::{CoreTrap, Regs, Stepped};
-use thumb_core::step::step;
+use thumb_core::step::step_for;
+use thumb_isa::profile::Profile;
 
 /// The most bytes of a program.
 const MOST_BYTES: usize = 64;
 
-/// `PROGRAM SETTINGS`: what each step gives, the registers that aren't as they were, the flags, and the words that are asked for.
-pub struct Steps;
+/// `PROGRAM SETTINGS`: what each step gives, by the rows of a profile, the registers that aren't as they were, the flags, and the words that are
+/// asked for.
+#[derive(Clone, Copy)]
+pub struct Steps {
+    pub profile: Profile,
+}
 
 /// A memory with this code at its address.
 fn bus_of(alloc: Global, code: &[u8]) -> Result<FlatBus, BusMemory>
@@ -33,8 +38,8 @@ fn bus_of(alloc: Global, code: &[u8]) -> Result<FlatBus, BusMemory>
 }
 
 /// One step. It says nothing of what it answers, so that its callers are proved with no look at a step.
-fn go(regs: &mut Regs, bus: &mut FlatBus) -> Stepped {
-    step(regs, bus)
+fn go(profile: Profile, regs: &mut Regs, bus: &mut FlatBus) -> Stepped {
+    step_for(profile, regs, bus)
 }
 
 /// Adds why a memory refuses an access, and the address.
@@ -76,12 +81,13 @@ fn push_step(answer: &mut String, stepped: Stepped) -> Result<(), AllocError> {
 /// Adds what so many steps give.
 fn push_steps(
     answer: &mut String,
+    profile: Profile,
     regs: &mut Regs,
     bus: &mut FlatBus,
     steps: u32,
 ) -> Result<(), AllocError> {
     for _ in 0..steps {
-        let stepped = go(regs, bus);
+        let stepped = go(profile, regs, bus);
         push_step(answer, stepped)?;
         answer.push_str("; ")?;
     }
@@ -133,21 +139,31 @@ fn push_words(answer: &mut String, bus: &FlatBus, asked: &[u32]) -> Result<(), A
 }
 
 /// Adds what a core does on a memory.
-fn push_done(answer: &mut String, start: &Start, bus: &mut FlatBus) -> Result<(), AllocError> {
+fn push_done(
+    answer: &mut String,
+    profile: Profile,
+    start: &Start,
+    bus: &mut FlatBus,
+) -> Result<(), AllocError> {
     let mut regs = start.regs;
-    push_steps(answer, &mut regs, bus, start.steps)?;
+    push_steps(answer, profile, &mut regs, bus, start.steps)?;
     push_registers(answer, &start.regs, &regs)?;
     push_flags(answer, &regs)?;
     push_words(answer, bus, start.asked.as_slice())
 }
 
 /// Adds what a core does.
-fn push_run(alloc: Global, answer: &mut String, start: &Start) -> Result<(), AllocError> {
+fn push_run(
+    alloc: Global,
+    answer: &mut String,
+    profile: Profile,
+    start: &Start,
+) -> Result<(), AllocError> {
     if start.code.len() > MOST_BYTES {
         return answer.push_str("the program is too long");
     }
     match bus_of(alloc, start.code.as_slice()) {
-        Ok(mut bus) => push_done(answer, start, &mut bus),
+        Ok(mut bus) => push_done(answer, profile, start, &mut bus),
         Err(_wanting) => answer.push_str("no memory"),
     }
 }
@@ -158,7 +174,7 @@ impl Asked for Steps {
             return Err(Unanswered::Because("no program"));
         };
         let mut answer = String::new(alloc);
-        push_run(alloc, &mut answer, &start)?;
+        push_run(alloc, &mut answer, self.profile, &start)?;
         Ok(answer)
     }
 }

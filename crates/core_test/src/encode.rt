@@ -582,6 +582,329 @@ static FAULTS: [(Instr, EncodeFault); 83] = [
     (Instr::Bl { off: -2147483648 }, EncodeFault::TargetRange),
 ];
 
+/// What the second profile has besides; the codes are those of LLVM 14's assembler for thumbv8m.base.
+static LATE_CODES: [(Instr, Code); 39] = [
+    (
+        Instr::Cbz {
+            nonzero: false,
+            n: 0,
+            off: 4,
+        },
+        Code::Half(0xb110),
+    ),
+    (
+        Instr::Cbz {
+            nonzero: false,
+            n: 0,
+            off: 0,
+        },
+        Code::Half(0xb100),
+    ),
+    (
+        Instr::Cbz {
+            nonzero: false,
+            n: 7,
+            off: 126,
+        },
+        Code::Half(0xb3ff),
+    ),
+    (
+        Instr::Cbz {
+            nonzero: false,
+            n: 3,
+            off: 62,
+        },
+        Code::Half(0xb1fb),
+    ),
+    (
+        Instr::Cbz {
+            nonzero: false,
+            n: 3,
+            off: 64,
+        },
+        Code::Half(0xb303),
+    ),
+    (
+        Instr::Cbz {
+            nonzero: true,
+            n: 1,
+            off: 126,
+        },
+        Code::Half(0xbbf9),
+    ),
+    (
+        Instr::Cbz {
+            nonzero: true,
+            n: 0,
+            off: 0,
+        },
+        Code::Half(0xb900),
+    ),
+    (
+        Instr::Cbz {
+            nonzero: true,
+            n: 6,
+            off: 2,
+        },
+        Code::Half(0xb90e),
+    ),
+    (Instr::BWide { off: 0 }, Code::Pair(0xf000, 0xb800)),
+    (Instr::BWide { off: -4 }, Code::Pair(0xf7ff, 0xbffe)),
+    (Instr::BWide { off: 2 }, Code::Pair(0xf000, 0xb801)),
+    (Instr::BWide { off: 16777214 }, Code::Pair(0xf3ff, 0x97ff)),
+    (Instr::BWide { off: -16777216 }, Code::Pair(0xf400, 0x9000)),
+    (Instr::BWide { off: 8388608 }, Code::Pair(0xf000, 0x9800)),
+    (Instr::BWide { off: 4194304 }, Code::Pair(0xf000, 0xb000)),
+    (Instr::BWide { off: -8388608 }, Code::Pair(0xf400, 0xb000)),
+    (Instr::BWide { off: -4194306 }, Code::Pair(0xf7ff, 0xb7ff)),
+    (Instr::BWide { off: 4094 }, Code::Pair(0xf000, 0xbfff)),
+    (Instr::BWide { off: 4096 }, Code::Pair(0xf001, 0xb800)),
+    (Instr::MovW { d: 3, imm: 4660 }, Code::Pair(0xf241, 0x2334)),
+    (Instr::MovW { d: 0, imm: 0 }, Code::Pair(0xf240, 0x0000)),
+    (
+        Instr::MovW { d: 14, imm: 65535 },
+        Code::Pair(0xf64f, 0x7eff),
+    ),
+    (Instr::MovW { d: 12, imm: 2048 }, Code::Pair(0xf640, 0x0c00)),
+    (Instr::MovW { d: 8, imm: 1792 }, Code::Pair(0xf240, 0x7800)),
+    (Instr::MovW { d: 1, imm: 61440 }, Code::Pair(0xf24f, 0x0100)),
+    (Instr::MovW { d: 2, imm: 255 }, Code::Pair(0xf240, 0x02ff)),
+    (Instr::MovT { d: 3, imm: 32768 }, Code::Pair(0xf2c8, 0x0300)),
+    (Instr::MovT { d: 0, imm: 0 }, Code::Pair(0xf2c0, 0x0000)),
+    (
+        Instr::MovT { d: 14, imm: 65535 },
+        Code::Pair(0xf6cf, 0x7eff),
+    ),
+    (Instr::MovT { d: 12, imm: 2048 }, Code::Pair(0xf6c0, 0x0c00)),
+    (Instr::MovT { d: 7, imm: 1792 }, Code::Pair(0xf2c0, 0x7700)),
+    (Instr::MovT { d: 5, imm: 61440 }, Code::Pair(0xf2cf, 0x0500)),
+    (Instr::MovT { d: 2, imm: 255 }, Code::Pair(0xf2c0, 0x02ff)),
+    (
+        Instr::Div {
+            signed: true,
+            d: 0,
+            n: 1,
+            m: 2,
+        },
+        Code::Pair(0xfb91, 0xf0f2),
+    ),
+    (
+        Instr::Div {
+            signed: true,
+            d: 14,
+            n: 12,
+            m: 8,
+        },
+        Code::Pair(0xfb9c, 0xfef8),
+    ),
+    (
+        Instr::Div {
+            signed: true,
+            d: 2,
+            n: 0,
+            m: 14,
+        },
+        Code::Pair(0xfb90, 0xf2fe),
+    ),
+    (
+        Instr::Div {
+            signed: false,
+            d: 0,
+            n: 1,
+            m: 2,
+        },
+        Code::Pair(0xfbb1, 0xf0f2),
+    ),
+    (
+        Instr::Div {
+            signed: false,
+            d: 14,
+            n: 12,
+            m: 8,
+        },
+        Code::Pair(0xfbbc, 0xfef8),
+    ),
+    (
+        Instr::Div {
+            signed: false,
+            d: 8,
+            n: 14,
+            m: 0,
+        },
+        Code::Pair(0xfbbe, 0xf8f0),
+    ),
+];
+
+/// The faults of the second profile's instructions.
+static LATE_FAULTS: [(Instr, EncodeFault); 28] = [
+    (
+        Instr::Cbz {
+            nonzero: false,
+            n: 8,
+            off: 0,
+        },
+        EncodeFault::RegisterRange,
+    ),
+    (
+        Instr::Cbz {
+            nonzero: true,
+            n: 8,
+            off: -2,
+        },
+        EncodeFault::RegisterRange,
+    ),
+    (
+        Instr::Cbz {
+            nonzero: false,
+            n: 0,
+            off: -2,
+        },
+        EncodeFault::TargetRange,
+    ),
+    (
+        Instr::Cbz {
+            nonzero: false,
+            n: 0,
+            off: -4,
+        },
+        EncodeFault::TargetRange,
+    ),
+    (
+        Instr::Cbz {
+            nonzero: true,
+            n: 7,
+            off: 1,
+        },
+        EncodeFault::TargetRange,
+    ),
+    (
+        Instr::Cbz {
+            nonzero: true,
+            n: 7,
+            off: 127,
+        },
+        EncodeFault::TargetRange,
+    ),
+    (
+        Instr::Cbz {
+            nonzero: false,
+            n: 7,
+            off: 128,
+        },
+        EncodeFault::TargetRange,
+    ),
+    (
+        Instr::Cbz {
+            nonzero: false,
+            n: 0,
+            off: -2147483648,
+        },
+        EncodeFault::TargetRange,
+    ),
+    (Instr::BWide { off: 16777216 }, EncodeFault::TargetRange),
+    (Instr::BWide { off: -16777218 }, EncodeFault::TargetRange),
+    (Instr::BWide { off: 3 }, EncodeFault::TargetRange),
+    (Instr::MovW { d: 13, imm: 0 }, EncodeFault::RegisterRange),
+    (
+        Instr::MovW { d: 15, imm: 65536 },
+        EncodeFault::RegisterRange,
+    ),
+    (Instr::MovW { d: 16, imm: 0 }, EncodeFault::RegisterRange),
+    (
+        Instr::MovT { d: 13, imm: 65536 },
+        EncodeFault::RegisterRange,
+    ),
+    (Instr::MovT { d: 15, imm: 0 }, EncodeFault::RegisterRange),
+    (Instr::MovT { d: 255, imm: 0 }, EncodeFault::RegisterRange),
+    (
+        Instr::MovW { d: 0, imm: 65536 },
+        EncodeFault::ImmediateRange,
+    ),
+    (
+        Instr::MovT { d: 14, imm: 65536 },
+        EncodeFault::ImmediateRange,
+    ),
+    (
+        Instr::MovT {
+            d: 0,
+            imm: 4294967295,
+        },
+        EncodeFault::ImmediateRange,
+    ),
+    (
+        Instr::Div {
+            signed: true,
+            d: 13,
+            n: 0,
+            m: 0,
+        },
+        EncodeFault::RegisterRange,
+    ),
+    (
+        Instr::Div {
+            signed: true,
+            d: 0,
+            n: 13,
+            m: 0,
+        },
+        EncodeFault::RegisterRange,
+    ),
+    (
+        Instr::Div {
+            signed: true,
+            d: 0,
+            n: 0,
+            m: 13,
+        },
+        EncodeFault::RegisterRange,
+    ),
+    (
+        Instr::Div {
+            signed: false,
+            d: 15,
+            n: 0,
+            m: 0,
+        },
+        EncodeFault::RegisterRange,
+    ),
+    (
+        Instr::Div {
+            signed: false,
+            d: 0,
+            n: 15,
+            m: 0,
+        },
+        EncodeFault::RegisterRange,
+    ),
+    (
+        Instr::Div {
+            signed: false,
+            d: 0,
+            n: 0,
+            m: 15,
+        },
+        EncodeFault::RegisterRange,
+    ),
+    (
+        Instr::Div {
+            signed: false,
+            d: 16,
+            n: 0,
+            m: 0,
+        },
+        EncodeFault::RegisterRange,
+    ),
+    (
+        Instr::Div {
+            signed: true,
+            d: 0,
+            n: 0,
+            m: 16,
+        },
+        EncodeFault::RegisterRange,
+    ),
+];
+
 #[test]
 fn codes(rt: HostRuntime) {
     for (instr, code) in &CODES {
@@ -592,6 +915,20 @@ fn codes(rt: HostRuntime) {
 #[test]
 fn faults(rt: HostRuntime) {
     for (instr, fault) in &FAULTS {
+        assert_eq!(rt; encode(instr), Err(*fault), "at {instr:?}");
+    }
+}
+
+#[test]
+fn late_codes(rt: HostRuntime) {
+    for (instr, code) in &LATE_CODES {
+        assert_eq!(rt; encode(instr), Ok(*code), "at {instr:?}");
+    }
+}
+
+#[test]
+fn late_faults(rt: HostRuntime) {
+    for (instr, fault) in &LATE_FAULTS {
         assert_eq!(rt; encode(instr), Err(*fault), "at {instr:?}");
     }
 }

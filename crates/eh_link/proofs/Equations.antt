@@ -13,7 +13,7 @@ use Rattle.unwind_codes.proofs.RowLaws.{seen_back}
 use Rattle.thumb_isa.specs.Fields.{field}
 use Rattle.thumb_isa.specs.declared.instr.Instr.{Instr}
 use Rattle.thumb_isa.specs.declared.instr.Instr.TheVariants.{BCond, B, Bl}
-use Rattle.thumb_encode.specs.Codes.{IsCodeOf, encoded_of}
+use Rattle.thumb_encode.specs.Codes.{encoded_of}
 use Rattle.thumb_encode.specs.declared.code.Code.{Code}
 use Rattle.thumb_encode.specs.declared.code.Code.TheVariants as code
 use Rattle.thumb_isa.specs.declared.encode_fault.EncodeFault.{EncodeFault}
@@ -28,7 +28,7 @@ use Rattle.eh_link.specs.declared.field.Change.TheVariants.{Half, Word}
 use Rattle.eh_link.specs.Layout.{address_at}
 use Rattle.eh_link.specs.Fields.{size_of, relative, branch, filling, change_of, written_at, changed, filled, lower, unreachable_at, unreachable_in}
 use Rattle.relocatable_object.specs.Relocations.{width, field_size}
-use Rattle.eh_link.specs.EquationLaw.{target_of, displacement_of, IsField, CodeAt, Decodes, AbsoluteFields, RelativeFields, Prel31Fields, Calls, Jumps, CondJumps}
+use Rattle.eh_link.specs.EquationLaw.{target_of, displacement_of, IsField, CodeAt, IsCodeInEach, Decodes, AbsoluteFields, RelativeFields, Prel31Fields, Calls, Jumps, CondJumps}
 use Rattle.eh_link.proofs.Changes.{filling_fits}
 use Rattle.eh_link.proofs.Holding.{word_length, half_length, changed_length, change_within, filled_length, same_after, law_of_fields}
 use Rattle.eh_link.proofs.Words.{Reads, number_is, number_reads, word_reads, half_reads, reads_after, reads_same, word_halves, seen_same}
@@ -218,7 +218,7 @@ code_reads f (code.Pair first second) e size r = (
 )
 
 branch_field : (f : Alone) (i : Instr) → written_by f ≡ branch (encoded_of i) → unreachable_in f.means f.section f.start f.bytes (f.before ++ f.reloc ∷ f.after) ≡ None
-    → ((c : Code) → encoded_of i ≡ Ok c → IsCodeOf c i) → ((c : Code) → encoded_of i ≡ Ok c → IsSmall c)
+    → ((c : Code) → encoded_of i ≡ Ok c → IsCodeInEach c i) → ((c : Code) → encoded_of i ≡ Ok c → IsSmall c)
     → Decodes i (result_of f) f.reloc.offset
 unfolding written_by
 branch_field f i e reached means small =

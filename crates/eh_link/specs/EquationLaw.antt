@@ -1,13 +1,16 @@
 -- What the bytes of a field are after all relocations, where the field shares no byte with another one and lies within its
 -- section: the equation of its kind (IHI 0044, "Relocation types"). S is the address that its name means, T is 1 where that is a
 -- function's, A the addend, P the field's own address.
-use Rattle.std.specs.Prelude.{◌≡◌, ℕ, ◌+◌, ◌/◌, ◌%◌, ◌^◌, ◌<◌, ◌≤◌, true, List, ◌∷◌, ◌++◌, length, bit_or, All, Option, Some, None, Ok, ℤ, pos, ◌+ℤ◌, ◌-ℤ◌}
+use Rattle.std.specs.Prelude.{◌≡◌, ℕ, ◌+◌, ◌/◌, ◌%◌, ◌^◌, ◌<◌, ◌≤◌, true, false, List, ◌∷◌, ◌++◌, length, bit_or, All, Option, Some, None, Ok, ℤ, pos, ◌+ℤ◌, ◌-ℤ◌}
 use Rattle.std.specs.Int.{from_bool}
 use Rattle.eh_word.specs.Words.{moved, prel31_of, number_at}
 use Rattle.thumb_isa.specs.Fields.{field}
 use Rattle.thumb_isa.specs.declared.instr.Instr.{Instr}
 use Rattle.thumb_isa.specs.declared.instr.Instr.TheVariants.{BCond, B, Bl}
-use Rattle.thumb_encode.specs.Codes.{IsCodeOf}
+use Rattle.thumb_isa.specs.declared.profile.Profile.{Profile}
+use Rattle.thumb_isa.specs.declared.profile.Profile.TheVariants.{One, Two}
+use Rattle.thumb_isa.specs.Laws.{is_late}
+use Rattle.thumb_encode.specs.Codes.{IsCodeIn}
 use Rattle.thumb_encode.specs.declared.code.Code.{Code}
 use Rattle.thumb_encode.specs.declared.code.Code.TheVariants as code
 use Rattle.unwind_codes.specs.declared.row.TheConstants.{PREL31_LIMIT}
@@ -55,11 +58,20 @@ abbrev pub CodeAt : Code → List ℕ → ℕ → Type 0
 CodeAt (code.Half first) bytes offset = number_at 2 bytes offset ≡ Some first
 CodeAt (code.Pair first second) bytes offset = (number_at 2 bytes offset ≡ Some first) × (number_at 2 bytes (offset + 2) ≡ Some second)
 
--- the halfwords at an offset decode to an instruction
+-- a profile has an instruction: the second has each, the first all but those of the second alone
+abbrev pub IsOf : Profile → Instr → Type 0
+IsOf One instruction = is_late instruction ≡ false
+IsOf Two instruction = Unit {0}
+
+-- a code decodes to an instruction in each profile that has it
+abbrev pub IsCodeInEach : Code → Instr → Type 0
+IsCodeInEach encoding instruction = (p : Profile) → IsOf p instruction → IsCodeIn p encoding instruction
+
+-- the halfwords at an offset decode to an instruction, in each profile that has it
 pub record Decodes (instruction : Instr) (bytes : List ℕ) (offset : ℕ) : Type 0 where
   pub encoding : Code
   pub there : CodeAt encoding bytes offset
-  pub means : IsCodeOf encoding instruction
+  pub means : IsCodeInEach encoding instruction
 
 -- ---- the law
 

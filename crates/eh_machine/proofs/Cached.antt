@@ -6,7 +6,7 @@ use Rattle.eh_bus.specs.Memory.{Memory}
 use Rattle.code_halfwords.specs.declared.halfwords.Halfwords.{Halfwords}
 use Rattle.code_halfwords.specs.Standing.{HasHalfwords}
 use Rattle.code_halfwords.proofs.Standing.{is_pair, by_halfwords}
-use Rattle.machines_agree.specs.two_machines.Program.{Program}
+use Rattle.machines_agree.specs.two_machines.Program.{Program, profile_in}
 use Rattle.eh_machine.specs.declared.pass.Fetched.{Fetched}
 use Rattle.eh_machine.specs.declared.decode_cache.TheConstants.{LINES}
 use Rattle.eh_machine.specs.declared.decode_cache.CacheLine.{CacheLine}
@@ -17,7 +17,7 @@ use Rattle.eh_machine.specs.Cached.{IsLine, IsOfLine}
 
 pub is_fetched : (p : Program) (m : Memory) (a : ℕ) (line : CacheLine) → IsOfLine p line → line.address ≡ a → HasHalfwords m a line.halfwords → IsFetched p a m line.fetched
 is_fetched p m a line of same stand = record {
-  there = by_halfwords m a line.halfwords stand ∙ of.decoded;
+  there = by_halfwords (profile_in p) m a line.halfwords stand ∙ of.decoded;
   range = of.range;
   roles = subst (λ (x : ℕ). HasRoles p x line.fetched) same of.roles;
 }
@@ -26,7 +26,7 @@ pub is_of_line : (p : Program) (m : Memory) (a : ℕ) (h : Halfwords) (at : Fetc
     → IsOfLine p (record { address = a; halfwords = h; fetched = at })
 is_of_line p m a h at is stand = record {
   pair = is_pair m a h stand;
-  decoded = sym (by_halfwords m a h stand) ∙ is.there;
+  decoded = sym (by_halfwords (profile_in p) m a h stand) ∙ is.there;
   range = is.range;
   roles = is.roles;
 }

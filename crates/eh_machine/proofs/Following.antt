@@ -6,7 +6,7 @@ use Rattle.std.specs.Io.KnownBytes.{Appends}
 use Rattle.machines_agree.specs.event_runs.Runs.{Event, Goes, Ends, GoesOn, Fails, EndsBy}
 use Rattle.guest_gates.specs.Ends.{is_fault}
 use Rattle.thumb_core.specs.Outcome.{Outcome as Stepping}
-use Rattle.thumb_core.specs.Step.{step_of, instr_at}
+use Rattle.thumb_core.specs.Step.{step_for, instr_for}
 use Rattle.thumb_core.specs.declared.regs.TheConstants.{SP}
 use Rattle.step_ahead.specs.Ahead.{branches_some}
 use Rattle.thumb_core.specs.declared.regs.Regs.{Regs}
@@ -19,7 +19,7 @@ use Rattle.eh_gates.specs.declared.state.Turned.TheVariants.{Went, Ended}
 use Rattle.eh_gates.specs.State.{State}
 use Rattle.elf_image.specs.Image.{IsSound as IsImage}
 use Rattle.frame_check.specs.Accepts.{Accepted, IsSound}
-use Rattle.machines_agree.specs.two_machines.Program.{Program}
+use Rattle.machines_agree.specs.two_machines.Program.{Program, profile_in}
 use Rattle.machines_agree.specs.two_machines.Machine as bytes
 use Rattle.machines_agree.specs.two_machines.Activations.{Recorded, reg_in, memory_of, bytes_of}
 use Rattle.machines_agree.specs.two_machines.ActivationMachine as acts
@@ -53,7 +53,7 @@ module _ (p : Program) (s : Recorded) (end : End) where
 
   tests_same : KnowsLanding s → (number : ℕ) (regs : Regs) → bytes.tests p (bytes_of s) (Gate number) regs ≡ acts.tests p s (Gate number) regs
   tests_same landing number regs =
-      ap (λ (l : Option ℕ). option_or (bytes.sp_end l s.home.0 s.regs.pc (reg_in s SP) (slice_index regs.r SP)) (bytes.control_flow_trap p (branches_some (instr_at (memory_of s) s.regs.pc) s.regs) s.regs.pc (Gate number) regs)) landing
+      ap (λ (l : Option ℕ). option_or (bytes.sp_end (p.look s.regs.pc).lowers l s.home.0 s.regs.pc (reg_in s SP) (slice_index regs.r SP)) (bytes.control_flow_trap p (branches_some (instr_for (profile_in p) (memory_of s) s.regs.pc) s.regs) s.regs.pc (Gate number) regs)) landing
 
   stepped_same : KnowsLanding s → (o : Stepping) → bytes.passed_fails (bytes.stepped p (bytes_of s) o) end ≡ acts.passed_fails (acts.stepped p s o) end
   stepped_same landing (Done, regs, m) =
@@ -66,7 +66,7 @@ module _ (p : Program) (s : Recorded) (end : End) where
   stepped_same landing (Gate number, regs, m) =
       subst (λ (o : Option End). bytes.passed_fails (bytes.tested p (bytes_of s) (Gate number) regs m o) end ≡ acts.passed_fails (acts.with_tests p s (Gate number) regs m) end)
       (sym (tests_same landing number regs)) (gate_same number regs m (acts.tests p s (Gate number) regs))
-  stepped_same landing (Trap trap, regs, m) = trapped (acts.pops_back s)
+  stepped_same landing (Trap trap, regs, m) = trapped (acts.pops_back p s)
     where
       trapped : (o : Option Regs) → false ≡ acts.passed_fails (acts.trapped_by p s trap o) end
       trapped None = refl
@@ -79,7 +79,7 @@ module _ (p : Program) (s : Recorded) (end : End) where
   may_same landing = by_check (p.look s.regs.pc).is_instr
     where
       by_check : (b : Bool) → bytes.passed_fails (bytes.checked p (bytes_of s) b) end ≡ acts.passed_fails (acts.checked p s b) end
-      by_check true = stepped_same landing (step_of s.regs (memory_of s))
+      by_check true = stepped_same landing (step_for (profile_in p) s.regs (memory_of s))
       by_check false = refl
 
 -- ---- one event

@@ -14,7 +14,8 @@ use Rattle.thumb_isa.specs.Range.{InRange}
 use Rattle.thumb_isa.specs.declared.instr.Instr.{Instr}
 use Rattle.thumb_core.specs.Outcome.{Outcome as Stepping}
 use Rattle.thumb_core.specs.Registers.{even, reg as reg_of}
-use Rattle.thumb_core.specs.Step.{step_of, instr_at, effect}
+use Rattle.thumb_isa.specs.declared.profile.Profile.{Profile}
+use Rattle.thumb_core.specs.Step.{step_for, instr_for, effect}
 use Rattle.thumb_core.specs.Stores.{stores_of, stores_of_some}
 use Rattle.thumb_core.specs.Laws.{Leaves, LeavesMemory}
 use Rattle.thumb_core.specs.declared.regs.TheConstants.{SP}
@@ -30,16 +31,19 @@ use Rattle.step_ahead.specs.declared.undo_record.UndoRecord.{UndoRecord}
 use Rattle.step_ahead.specs.declared.undo_record.UndoRecord.TheVariants.{Nothing}
 use Rattle.step_ahead.specs.Ahead.{branches, branches_some, pushed, pushes_some, IsAhead, IsFallThrough, IsJump}
 use Rattle.step_ahead.specs.declared.instruction.Ahead.{Ahead as Told}
-use Rattle.step_ahead.specs.UndoRecord.{restore, Restores, InStack, PushesInStack, lowest}
-use Rattle.step_ahead.proofs.Stored.{AreWords, OnGo, on_go, step_is, step_pushed, nothing_back}
+use Rattle.step_ahead.specs.UndoRecord.{restore, Restores, InStack, lowest}
+use Rattle.step_ahead.proofs.Stored.{AreWords, OnGo, on_go, step_is, effect_pushed, nothing_back}
 use Rattle.step_ahead.proofs.Straight.{GoesOn, effect_goes}
 use Rattle.eh_trace.specs.Trace.{Trace}
 use Rattle.eh_gates.specs.declared.state.Core.{Core}
 use Rattle.eh_gates.specs.State.{State, state_of, reg}
-use Rattle.machines_agree.specs.two_machines.Program.{Program}
+use Rattle.frame_check.specs.Accepts.{Accepted}
+use Rattle.machines_agree.specs.two_machines.Program.{Program, profile_in}
+use Rattle.machines_agree.specs.two_machines.Checked.{program_of}
+use Rattle.image_memory.specs.Profiles.{profile_of}
 use Rattle.eh_machine.specs.Passes.{Passes, Tried, IsFetched}
 use Rattle.eh_machine.specs.declared.pass.Fetched.{Fetched}
-use Rattle.machines_agree.specs.two_machines.Machine.{Passed, leaves_cleanup, control_flow_trap, refusal, tests, reguarded, reguarded_at, saved_words, tested, stepped, passed, with_pc_of}
+use Rattle.machines_agree.specs.two_machines.Machine.{Passed, raises, leaves_cleanup, control_flow_trap, refusal, tests, reguarded, reguarded_at, saved_words, tested, stepped, passed, with_pc_of}
 
 -- ---- what a call has done, by its end
 
@@ -96,12 +100,12 @@ module _ (p : Program) (s : State) where
   unfolding passed
   unchecked e = rw e refl
 
-  is_checked : (o : Stepping) → (p.look s.regs.pc).is_instr ≡ true → o ≡ step_of s.regs s.memory → stepped p s o ≡ passed p s
+  is_checked : (o : Stepping) → (p.look s.regs.pc).is_instr ≡ true → o ≡ step_for (profile_in p) s.regs s.memory → stepped p s o ≡ passed p s
   unfolding passed
   is_checked o e f = rw e (ap (stepped p s) f)
 
   -- a trap of the instruction, which left registers and memory
-  pub trap_passes : (trap : CoreTrap) (regs : Regs) (m : Memory) (end : End) → (p.look s.regs.pc).is_instr ≡ true → (Trap trap, regs, m) ≡ step_of s.regs s.memory
+  pub trap_passes : (trap : CoreTrap) (regs : Regs) (m : Memory) (end : End) → (p.look s.regs.pc).is_instr ≡ true → (Trap trap, regs, m) ≡ step_for (profile_in p) s.regs s.memory
       → regs ≡ s.regs → m ≡ s.memory → end ≡ trap_end trap s.regs.pc → ◌≡◌ {A = Passed} (Err end, record s { regs = regs; memory = m }) (passed p s)
   trap_passes trap regs m end e f er em ee =
       let one : Regs → Passed = λ r. (Err end, record s { regs = r; memory = m }) in
@@ -109,7 +113,7 @@ module _ (p : Program) (s : State) where
       let three : End → Passed = λ x. (Err x, s) in
       ap one er ∙ ap two em ∙ ap three ee ∙ is_checked (Trap trap, regs, m) e f
 
-  module _ (what : Stepped) (regs : Regs) (m : Memory) (e : (p.look s.regs.pc).is_instr ≡ true) (f : (what, regs, m) ≡ step_of s.regs s.memory) (h : Goes what) where
+  module _ (what : Stepped) (regs : Regs) (m : Memory) (e : (p.look s.regs.pc).is_instr ≡ true) (f : (what, regs, m) ≡ step_for (profile_in p) s.regs s.memory) (h : Goes what) where
     goes : (w : Stepped) → Goes w → stepped p s (w, regs, m) ≡ tested p s w regs m (tests p s w regs)
     goes Done h = refl
     goes (Call target ret) h = refl
@@ -133,7 +137,7 @@ module _ (p : Program) (s : State) where
         ap two en ∙ is_tested None g
 
     -- what was kept gives the memory back
-    pub restored : (kept : UndoRecord) (back : Memory) → Restores kept s.regs s.memory → what ≡ Done → back ≡ restore kept m → back ≡ s.memory
+    pub restored : (kept : UndoRecord) (back : Memory) → Restores (profile_in p) kept s.regs s.memory → what ≡ Done → back ≡ restore kept m → back ≡ s.memory
     restored kept back t d eb = eb ∙ t regs m (sym f ∙ ap (λ (w : Stepped). (w, regs, m)) d)
 
     -- and what is neither done nor a trap left it
@@ -149,7 +153,7 @@ module _ (p : Program) (s : State) where
 
 -- the tests, from what their calls answered
 pub tests_are : (p : Program) (s : State) (what : Stepped) (regs : Regs) (landing : Option ℕ) (low : ℕ) (branches : Bool) (o : Option End)
-    → landing ≡ innermost_of (word s.memory) s.globals → low ≡ s.memory.home.0 → branches ≡ branches_some (instr_at s.memory s.regs.pc) s.regs
+    → landing ≡ innermost_of (word s.memory) s.globals → low ≡ s.memory.home.0 → branches ≡ branches_some (instr_for (profile_in p) s.memory s.regs.pc) s.regs
     → o ≡ refusal p (landing, low) (s.regs.pc, reg s SP) branches what regs → tests p s what regs ≡ o
 tests_are p s what regs landing low branches o el eh eb eo =
     sym (eo
@@ -158,21 +162,21 @@ tests_are p s what regs landing low branches o el eh eb eo =
     ∙ ap (λ (b : Bool). refusal p (innermost_of (word s.memory) s.globals, s.memory.home.0) (s.regs.pc, reg s SP) b what regs) eb)
 
 -- the guards, from what was told of the instruction
-pub reguarded_is : (p : Program) (s : State) (regs : Regs) (m new : Memory) (saves count old sp : ℕ) → saves ≡ (p.look s.regs.pc).saves → count ≡ pushes_some (instr_at s.memory s.regs.pc)
+pub reguarded_is : (p : Program) (s : State) (regs : Regs) (m new : Memory) (saves count old sp : ℕ) → saves ≡ (p.look s.regs.pc).saves → count ≡ pushes_some (instr_for (profile_in p) s.memory s.regs.pc)
     → old ≡ reg s SP → sp ≡ slice_index regs.r SP → new ≡ reguarded saves count old sp m → new ≡ reguarded_at p s regs m
 reguarded_is p s regs m new saves count old sp ea ec eo es e =
     e ∙ ap (λ (n : ℕ). reguarded n count old sp m) ea ∙ ap (λ (n : ℕ). reguarded (p.look s.regs.pc).saves n old sp m) ec
-    ∙ ap (λ (n : ℕ). reguarded (p.look s.regs.pc).saves (pushes_some (instr_at s.memory s.regs.pc)) n sp m) eo
-    ∙ ap (λ (n : ℕ). reguarded (p.look s.regs.pc).saves (pushes_some (instr_at s.memory s.regs.pc)) (reg s SP) n m) es
+    ∙ ap (λ (n : ℕ). reguarded (p.look s.regs.pc).saves (pushes_some (instr_for (profile_in p) s.memory s.regs.pc)) n sp m) eo
+    ∙ ap (λ (n : ℕ). reguarded (p.look s.regs.pc).saves (pushes_some (instr_for (profile_in p) s.memory s.regs.pc)) (reg s SP) n m) es
 
 -- sp does not rise: the words of a push are guarded
-pub guarded_is : (p : Program) (s : State) (regs : Regs) (m new : Memory) (saves count sp : ℕ) → saves ≡ (p.look s.regs.pc).saves → count ≡ pushes_some (instr_at s.memory s.regs.pc)
+pub guarded_is : (p : Program) (s : State) (regs : Regs) (m new : Memory) (saves count sp : ℕ) → saves ≡ (p.look s.regs.pc).saves → count ≡ pushes_some (instr_for (profile_in p) s.memory s.regs.pc)
     → sp ≡ slice_index regs.r SP → slice_index regs.r SP ≤ reg s SP → new ≡ guard_all (saved_words saves count sp) m → new ≡ reguarded_at p s regs m
 guarded_is p s regs m new saves count sp ea ec es high e =
     e ∙ ap (λ (n : ℕ). guard_all (saved_words n count sp) m) ea ∙ ap (λ (n : ℕ). guard_all (saved_words (p.look s.regs.pc).saves n sp) m) ec
-    ∙ ap (λ (n : ℕ). guard_all (saved_words (p.look s.regs.pc).saves (pushes_some (instr_at s.memory s.regs.pc)) n) m) es
+    ∙ ap (λ (n : ℕ). guard_all (saved_words (p.look s.regs.pc).saves (pushes_some (instr_for (profile_in p) s.memory s.regs.pc)) n) m) es
     ∙ sym (go (nat_lt (reg s SP) (slice_index regs.r SP)) (le-ltb (reg s SP) (slice_index regs.r SP) high)
-    (guard_all (saved_words (p.look s.regs.pc).saves (pushes_some (instr_at s.memory s.regs.pc)) (slice_index regs.r SP)) m))
+    (guard_all (saved_words (p.look s.regs.pc).saves (pushes_some (instr_for (profile_in p) s.memory s.regs.pc)) (slice_index regs.r SP)) m))
   where
     go : (b : Bool) → b ≡ false → (guards : Memory) → cond b (released guards (slice_index regs.r SP)) guards ≡ guards
     go true f guards = absurd (cc)
@@ -190,10 +194,10 @@ reguarded_none saves sp m = go (nat_lt sp sp) (not_below sp)
     go false e = refl
 
 -- at a gate
-pub gate_stays : (saves count old sp number : ℕ) (s : State) (regs : Regs) (m new : Memory) → Leaves (instr_at s.memory s.regs.pc) (Gate number) s.regs s.memory regs → m ≡ s.memory
-    → count ≡ pushes_some (instr_at s.memory s.regs.pc) → old ≡ reg s SP → sp ≡ slice_index regs.r SP → new ≡ reguarded saves count old sp m
+pub gate_stays : (p : Program) (saves count old sp number : ℕ) (s : State) (regs : Regs) (m new : Memory) → Leaves (instr_for (profile_in p) s.memory s.regs.pc) (Gate number) s.regs s.memory regs → m ≡ s.memory
+    → count ≡ pushes_some (instr_for (profile_in p) s.memory s.regs.pc) → old ≡ reg s SP → sp ≡ slice_index regs.r SP → new ≡ reguarded saves count old sp m
     → with_pc_of (record s { regs = regs; memory = new }) s.regs.pc ≡ s
-gate_stays saves count old sp number s regs m new l em ec eo es en =
+gate_stays p saves count old sp number s regs m new l em ec eo es en =
     let none : count ≡ 0 = ec ∙ ap pushes_some l.1 in
     let same : sp ≡ reg s SP = es ∙ ap (λ (r : Regs). slice_index r.r SP) l.2 in
     let kept : new ≡ s.memory =
@@ -207,59 +211,74 @@ gate_stays saves count old sp number s regs m new l em ec eo es en =
 pub gate_done : (what : Stepped) (number : ℕ) → ◌≡◌ {A = Result Stepped End} (Ok what) (Ok (Gate number)) → what ≡ Gate number
 gate_done what number e = cc
 
-pub gate_passes : (what : Stepped) (saves count old sp number : ℕ) (s : State) (regs : Regs) (m new : Memory) → what ≡ Gate number
-    → Leaves (instr_at s.memory s.regs.pc) what s.regs s.memory regs → LeavesMemory what s.memory m
-    → count ≡ pushes_some (instr_at s.memory s.regs.pc) → old ≡ reg s SP → sp ≡ slice_index regs.r SP → new ≡ reguarded saves count old sp m
+pub gate_passes : (p : Program) (what : Stepped) (saves count old sp number : ℕ) (s : State) (regs : Regs) (m new : Memory) → what ≡ Gate number
+    → Leaves (instr_for (profile_in p) s.memory s.regs.pc) what s.regs s.memory regs → LeavesMemory what s.memory m
+    → count ≡ pushes_some (instr_for (profile_in p) s.memory s.regs.pc) → old ≡ reg s SP → sp ≡ slice_index regs.r SP → new ≡ reguarded saves count old sp m
     → with_pc_of (record s { regs = regs; memory = new }) s.regs.pc ≡ s
-gate_passes what saves count old sp number s regs m new e l lm ec eo es en =
-    gate_stays saves count old sp number s regs m new (subst (λ (w : Stepped). Leaves (instr_at s.memory s.regs.pc) w s.regs s.memory regs) e l)
+gate_passes p what saves count old sp number s regs m new e l lm ec eo es en =
+    gate_stays p saves count old sp number s regs m new (subst (λ (w : Stepped). Leaves (instr_for (profile_in p) s.memory s.regs.pc) w s.regs s.memory regs) e l)
     (subst (λ (w : Stepped). LeavesMemory w s.memory m) e lm) ec eo es en
 
 -- where no test ended the run, sp is at or above the start of the running stack
 pub above_low : (p : Program) (landing : Option ℕ) (low : ℕ) (at : ℕ × ℕ) (branches : Bool) (what : Stepped) (regs : Regs) → refusal p (landing, low) at branches what regs ≡ None
     → low ≤ slice_index regs.r SP
-above_low p landing low at branches what regs e = go (leaves_cleanup landing at.1 (slice_index regs.r SP)) (nat_lt (slice_index regs.r SP) low) refl e
+above_low p landing low at branches what regs e =
+    go (raises (p.look at.0).lowers at.1 (slice_index regs.r SP)) (leaves_cleanup landing at.1 (slice_index regs.r SP)) (nat_lt (slice_index regs.r SP) low) refl e
   where
-    go : (a b : Bool) → nat_lt (slice_index regs.r SP) low ≡ b
-        → option_or (cond a (Some (the_end.Trap kind.SpInCleanup (slice_index regs.r SP) at.0)) (cond b (Some (the_end.Trap kind.StackLimit (slice_index regs.r SP) at.0)) None)) (control_flow_trap p branches at.0 what regs) ≡ None
+    go : (r a b : Bool) → nat_lt (slice_index regs.r SP) low ≡ b
+        → option_or (cond r (Some (the_end.Trap kind.SpRaised (slice_index regs.r SP) at.0)) (cond a (Some (the_end.Trap kind.SpInCleanup (slice_index regs.r SP) at.0)) (cond b (Some (the_end.Trap kind.StackLimit (slice_index regs.r SP) at.0)) None))) (control_flow_trap p branches at.0 what regs) ≡ None
         → low ≤ slice_index regs.r SP
-    go true b f e = absurd (cc)
-    go false true f e = absurd (cc)
-    go false false f e = ltb-false _ _ f
+    go true a b f e = absurd (cc)
+    go false true b f e = absurd (cc)
+    go false false true f e = absurd (cc)
+    go false false false f e = ltb-false _ _ f
+
+-- ---- what was fetched by the rows of the image's profile
+
+pub in_profile : (x : Accepted) (profile : Profile) (m : Memory) (a : ℕ) (o : Option (Instr × ℕ)) → profile ≡ profile_of x.image → instr_for profile m a ≡ o
+    → instr_for (profile_in (program_of x)) m a ≡ o
+in_profile x profile m a o is e = sym (ap (λ (p : Profile). instr_for p m a) is) ∙ e
+
+pub does_in_profile : (x : Accepted) (profile : Profile) (regs : Regs) (m : Memory) (o : Stepping) → profile ≡ profile_of x.image → step_for profile regs m ≡ o
+    → step_for (profile_in (program_of x)) regs m ≡ o
+does_in_profile x profile regs m o is e = sym (ap (λ (p : Profile). step_for p regs m) is) ∙ e
 
 -- ---- an instruction `at` pc
 
-module _ (regs : Regs) (m : Memory) (at : Instr × ℕ) where
+module _ (profile : Profile) (regs : Regs) (m : Memory) (at : Instr × ℕ) where
   -- its effect is a step
-  pub at_step : (o : Stepping) → instr_at m regs.pc ≡ Some at → o ≡ effect at.0 at.1 regs m → o ≡ step_of regs m
-  at_step o there e = e ∙ sym (step_is regs m at.0 at.1 there)
+  pub at_step : (o : Stepping) → instr_for profile m regs.pc ≡ Some at → o ≡ effect at.0 at.1 regs m → o ≡ step_for profile regs m
+  at_step o there e = e ∙ sym (step_is profile regs m at.0 at.1 there)
 
-  pub branches_there : (is_taken : Bool) → instr_at m regs.pc ≡ Some at → is_taken ≡ branches at.0 regs → is_taken ≡ branches_some (instr_at m regs.pc) regs
+  pub branches_there : (is_taken : Bool) → instr_for profile m regs.pc ≡ Some at → is_taken ≡ branches at.0 regs → is_taken ≡ branches_some (instr_for profile m regs.pc) regs
   branches_there is_taken there e = e ∙ sym (ap (λ (o : Option (Instr × ℕ)). branches_some o regs) there)
 
-  pub pushes_there : (n : ℕ) → instr_at m regs.pc ≡ Some at → n ≡ length (pushed at.0) → n ≡ pushes_some (instr_at m regs.pc)
+  pub pushes_there : (n : ℕ) → instr_for profile m regs.pc ≡ Some at → n ≡ length (pushed at.0) → n ≡ pushes_some (instr_for profile m regs.pc)
   pushes_there n there e = e ∙ sym (ap (λ (o : Option (Instr × ℕ)). pushes_some o) there)
 
-  pub leaves_there : (what : Stepped) (after : Regs) → instr_at m regs.pc ≡ Some at → Leaves (Some at) what regs m after → Leaves (instr_at m regs.pc) what regs m after
+  pub leaves_there : (what : Stepped) (after : Regs) → instr_for profile m regs.pc ≡ Some at → Leaves (Some at) what regs m after → Leaves (instr_for profile m regs.pc) what regs m after
   leaves_there what after there l = subst (λ (o : Option (Instr × ℕ)). Leaves o what regs m after) (sym there) l
 
-  pub in_stack : (n : ℕ) (what : Stepped) (after : Regs) (new : Memory) → IsMap m → length regs.r ≡ 15 → instr_at m regs.pc ≡ Some at → n ≡ length (pushed at.0)
-      → (what, after, new) ≡ step_of regs m → Goes what → 0 < n → InStack n after
-  in_stack n what after new x count there e did h =
-      subst (λ (k : ℕ). PushesInStack k regs m) (sym (pushes_there n there e)) (step_pushed regs m x count) what after new (sym did) h
-
   -- one that stores nothing
-  pub none_stored : AreWords regs → instr_at m regs.pc ≡ Some at → stores_of at.0 regs ≡ None → Restores Nothing regs m
-  none_stored small there e = nothing_back regs m small (ap (λ (o : Option (Instr × ℕ)). stores_of_some o regs) there ∙ e)
+  pub none_stored : AreWords regs → instr_for profile m regs.pc ≡ Some at → stores_of at.0 regs ≡ None → Restores profile Nothing regs m
+  none_stored small there e = nothing_back profile regs m small (ap (λ (o : Option (Instr × ℕ)). stores_of_some o regs) there ∙ e)
+
+-- what it has done leaves the words that it pushes in the stack
+pub in_stack : (regs : Regs) (m : Memory) (at : Instr × ℕ) (n : ℕ) (what : Stepped) (after : Regs) (new : Memory) → IsMap m → length regs.r ≡ 15 → n ≡ length (pushed at.0)
+    → (what, after, new) ≡ effect at.0 at.1 regs m → Goes what → 0 < n → InStack n after
+in_stack regs m at n what after new x count e did h some =
+    let all : 0 < length (pushed at.0) = subst (λ (k : ℕ). 0 < k) e some in
+    let on = subst (λ (o : Stepping). OnGo o.0 (InStack (length (pushed at.0)) o.1)) (sym did) (effect_pushed at.0 at.1 regs m x count all) in
+    subst (λ (k : ℕ). InStack k after) (sym e) (on_go what (InStack (length (pushed at.0)) after) h on)
 
 -- a test ended the run: registers and memory are back
 pub stopped : (p : Program) (s : State) (at : Instr × ℕ) (what : Stepped) (regs : Regs) (m back : Memory) (landing : Option ℕ) (low : ℕ) (taken : Bool) (o : Option End) (end : End)
-    → (p.look s.regs.pc).is_instr ≡ true → instr_at s.memory s.regs.pc ≡ Some at → (what, regs, m) ≡ effect at.0 at.1 s.regs s.memory → Goes what
+    → (p.look s.regs.pc).is_instr ≡ true → instr_for (profile_in p) s.memory s.regs.pc ≡ Some at → (what, regs, m) ≡ effect at.0 at.1 s.regs s.memory → Goes what
     → landing ≡ innermost_of (word s.memory) s.globals → low ≡ s.memory.home.0 → taken ≡ branches at.0 s.regs → o ≡ refusal p (landing, low) (s.regs.pc, reg s SP) taken what regs
     → o ≡ Some end → back ≡ s.memory → ◌≡◌ {A = Passed} (Err end, record s { memory = back }) (passed p s)
 stopped p s at what regs m back landing low taken o end reached there e h words home is_taken is some same =
-    refused_passes p s what regs m reached (at_step s.regs s.memory at (what, regs, m) there e) h end back
-    (tests_are p s what regs landing low taken o words home (branches_there s.regs s.memory at taken there is_taken) is ∙ some) same
+    refused_passes p s what regs m reached (at_step (profile_in p) s.regs s.memory at (what, regs, m) there e) h end back
+    (tests_are p s what regs landing low taken o words home (branches_there (profile_in p) s.regs s.memory at taken there is_taken) is ∙ some) same
 
 -- what is told to go straight on does
 pub straight : (regs : Regs) (m : Memory) (at : Instr × ℕ) (n : ℕ) (what : Stepped) (after : Regs) (new : Memory) → IsFallThrough at.0 regs n → InRange at.0 → length regs.r ≡ 15 → AreWords regs
@@ -279,25 +298,30 @@ not_left (Some landing) old new h = go (nat_lt old new) (le-ltb old new h)
     go true e = absurd (cc)
     go false e = refl
 
+not_raised : (lowers : Bool) (old new : ℕ) → new ≤ old → raises lowers old new ≡ false
+not_raised true old new h = le-ltb old new h
+not_raised false old new h = refl
+
 none_refused : (p : Program) (landing : Option ℕ) (low pc old : ℕ) (regs : Regs) → slice_index regs.r SP ≤ old → low ≤ slice_index regs.r SP → (p.look regs.pc).is_function ≡ false
     → refusal p (landing, low) (pc, old) false Done regs ≡ None
 none_refused p landing low pc old regs high above next =
-    go (leaves_cleanup landing old (slice_index regs.r SP)) (nat_lt (slice_index regs.r SP) low) ((p.look regs.pc).is_function)
-    (not_left landing old (slice_index regs.r SP) high) (le-ltb (slice_index regs.r SP) low above) next
+    go (raises (p.look pc).lowers old (slice_index regs.r SP)) (leaves_cleanup landing old (slice_index regs.r SP)) (nat_lt (slice_index regs.r SP) low)
+    ((p.look regs.pc).is_function) (not_raised (p.look pc).lowers old (slice_index regs.r SP) high) (not_left landing old (slice_index regs.r SP) high) (le-ltb (slice_index regs.r SP) low above) next
   where
-    go : (a b f : Bool) → a ≡ false → b ≡ false → f ≡ false
-        → option_or (cond a (Some (the_end.Trap kind.SpInCleanup (slice_index regs.r SP) pc)) (cond b (Some (the_end.Trap kind.StackLimit (slice_index regs.r SP) pc)) None))
+    go : (r a b f : Bool) → r ≡ false → a ≡ false → b ≡ false → f ≡ false
+        → option_or (cond r (Some (the_end.Trap kind.SpRaised (slice_index regs.r SP) pc)) (cond a (Some (the_end.Trap kind.SpInCleanup (slice_index regs.r SP) pc)) (cond b (Some (the_end.Trap kind.StackLimit (slice_index regs.r SP) pc)) None)))
         (cond f (Some (the_end.Trap kind.FellOff regs.pc pc)) None) ≡ None
-    go true b f ea eb ef = absurd (cc)
-    go false true f ea eb ef = absurd (cc)
-    go false false true ea eb ef = absurd (cc)
-    go false false false ea eb ef = refl
+    go true a b f er ea eb ef = absurd (cc)
+    go false true b f er ea eb ef = absurd (cc)
+    go false false true f er ea eb ef = absurd (cc)
+    go false false false true er ea eb ef = absurd (cc)
+    go false false false false er ea eb ef = refl
 
-pub no_test : (p : Program) (s : State) (at : Instr × ℕ) (n low : ℕ) (what : Stepped) (after : Regs) → instr_at s.memory s.regs.pc ≡ Some at → IsFallThrough at.0 s.regs n → low ≡ s.memory.home.0
+pub no_test : (p : Program) (s : State) (at : Instr × ℕ) (n low : ℕ) (what : Stepped) (after : Regs) → instr_for (profile_in p) s.memory s.regs.pc ≡ Some at → IsFallThrough at.0 s.regs n → low ≡ s.memory.home.0
     → GoesOn n at.1 s.regs what after → low ≤ lowest (reg_of s.regs SP) n → (p.look (even ((s.regs.pc + at.1) % 2 ^ 32))).is_function ≡ false → tests p s what after ≡ None
 no_test p s at n low what after there told home on room next =
     let landing = innermost_of (word s.memory) s.globals in
-    let taken : branches_some (instr_at s.memory s.regs.pc) s.regs ≡ false = ap (λ (o : Option (Instr × ℕ)). branches_some o s.regs) there ∙ told.taken in
+    let taken : branches_some (instr_for (profile_in p) s.memory s.regs.pc) s.regs ≡ false = ap (λ (o : Option (Instr × ℕ)). branches_some o s.regs) there ∙ told.taken in
     let above : s.memory.home.0 ≤ slice_index after.r SP = subst (λ (k : ℕ). k ≤ slice_index after.r SP) home (le_trans room on.low) in
     let none = none_refused p landing s.memory.home.0 s.regs.pc (reg s SP) after on.high above (subst (λ (a : ℕ). (p.look a).is_function ≡ false) (sym on.pc) next) in
     ap (λ (w : Stepped). tests p s w after) on.done
@@ -312,23 +336,25 @@ as_done p s t what is e = let one : Stepped → Passed = λ w. (Ok w, t) in sym 
 none_stops : (p : Program) (landing : Option ℕ) (low pc old : ℕ) (regs : Regs) → slice_index regs.r SP ≡ old → low ≤ slice_index regs.r SP
     → refusal p (landing, low) (pc, old) true Done regs ≡ None
 none_stops p landing low pc old regs same above =
-    go (leaves_cleanup landing old (slice_index regs.r SP)) (nat_lt (slice_index regs.r SP) low) (not_left landing old (slice_index regs.r SP) (omega (arith, same)))
+    go (raises (p.look pc).lowers old (slice_index regs.r SP)) (leaves_cleanup landing old (slice_index regs.r SP)) (nat_lt (slice_index regs.r SP) low)
+    (not_raised (p.look pc).lowers old (slice_index regs.r SP) (omega (arith, same))) (not_left landing old (slice_index regs.r SP) (omega (arith, same)))
     (le-ltb (slice_index regs.r SP) low above)
   where
-    go : (a b : Bool) → a ≡ false → b ≡ false
-        → option_or (cond a (Some (the_end.Trap kind.SpInCleanup (slice_index regs.r SP) pc)) (cond b (Some (the_end.Trap kind.StackLimit (slice_index regs.r SP) pc)) None)) None ≡ None
-    go true b ea eb = absurd (cc)
-    go false true ea eb = absurd (cc)
-    go false false ea eb = refl
+    go : (r a b : Bool) → r ≡ false → a ≡ false → b ≡ false
+        → option_or (cond r (Some (the_end.Trap kind.SpRaised (slice_index regs.r SP) pc)) (cond a (Some (the_end.Trap kind.SpInCleanup (slice_index regs.r SP) pc)) (cond b (Some (the_end.Trap kind.StackLimit (slice_index regs.r SP) pc)) None))) None ≡ None
+    go true a b er ea eb = absurd (cc)
+    go false true b er ea eb = absurd (cc)
+    go false false true er ea eb = absurd (cc)
+    go false false false er ea eb = refl
 
-pub jump_passes : (p : Program) (s : State) (at : Instr × ℕ) (to low : ℕ) → (p.look s.regs.pc).is_instr ≡ true → instr_at s.memory s.regs.pc ≡ Some at → IsJump at.0 s.regs to
+pub jump_passes : (p : Program) (s : State) (at : Instr × ℕ) (to low : ℕ) → (p.look s.regs.pc).is_instr ≡ true → instr_for (profile_in p) s.memory s.regs.pc ≡ Some at → IsJump at.0 s.regs to
     → low ≡ s.memory.home.0 → low ≤ reg s SP → ◌≡◌ {A = Passed} (Ok Done, record s { regs = record s.regs { pc = to } }) (passed p s)
 jump_passes p s at to low reached there told home above =
     let after : Regs = record s.regs { pc = to } in
     let landing = innermost_of (word s.memory) s.globals in
-    let taken : branches_some (instr_at s.memory s.regs.pc) s.regs ≡ true = ap (λ (o : Option (Instr × ℕ)). branches_some o s.regs) there ∙ told.taken in
-    let count : pushes_some (instr_at s.memory s.regs.pc) ≡ 0 = ap (λ (o : Option (Instr × ℕ)). pushes_some o) there ∙ ap length told.pushes in
-    let did : (Done, after, s.memory) ≡ step_of s.regs s.memory = at_step s.regs s.memory at (Done, after, s.memory) there (sym (told.goes at.1 s.memory)) in
+    let taken : branches_some (instr_for (profile_in p) s.memory s.regs.pc) s.regs ≡ true = ap (λ (o : Option (Instr × ℕ)). branches_some o s.regs) there ∙ told.taken in
+    let count : pushes_some (instr_for (profile_in p) s.memory s.regs.pc) ≡ 0 = ap (λ (o : Option (Instr × ℕ)). pushes_some o) there ∙ ap length told.pushes in
+    let did : (Done, after, s.memory) ≡ step_for (profile_in p) s.regs s.memory = at_step (profile_in p) s.regs s.memory at (Done, after, s.memory) there (sym (told.goes at.1 s.memory)) in
     let t : tests p s Done after ≡ None =
     ap (λ (b : Bool). refusal p (landing, s.memory.home.0) (s.regs.pc, reg s SP) b Done after) taken
     ∙ none_stops p landing s.memory.home.0 s.regs.pc (reg s SP) after refl (subst (λ (k : ℕ). k ≤ reg s SP) home above) in

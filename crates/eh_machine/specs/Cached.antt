@@ -1,19 +1,19 @@
 -- What a decode cache holds: of each line what is so of the program, whatever the memory holds now.
 use Rattle.std.specs.Prelude.{◌≡◌, ℕ, ◌<◌, Option, Some, None, slice_index_or}
 use Rattle.thumb_isa.specs.Range.{InRange}
-use Rattle.thumb_isa.specs.Rows.{decoded_of}
+use Rattle.thumb_isa.specs.Rows.{decoded_for}
 use Rattle.thumb_core.specs.Step.{instr_of}
-use Rattle.machines_agree.specs.two_machines.Program.{Program}
+use Rattle.machines_agree.specs.two_machines.Program.{Program, profile_in}
 use Rattle.code_halfwords.specs.Standing.{IsPair}
 use Rattle.eh_machine.specs.Passes.{at_of, HasRoles}
 use Rattle.eh_machine.specs.declared.decode_cache.TheConstants.{LINES}
 use Rattle.eh_machine.specs.declared.decode_cache.CacheLine.{CacheLine}
 use Rattle.eh_machine.specs.declared.decode_cache.DecodeCache.{DecodeCache}
 
--- its halfwords are the instruction, and the checker says of its address what is kept
+-- by the rows of the program's profile its halfwords are the instruction, and the checker says of its address what is kept
 pub record IsOfLine (p : Program) (line : CacheLine) : Type 0 where
   pub pair : IsPair line.halfwords
-  pub decoded : instr_of (decoded_of line.halfwords.first line.halfwords.second) ≡ Some (at_of line.fetched)
+  pub decoded : instr_of (decoded_for (profile_in p) line.halfwords.first line.halfwords.second) ≡ Some (at_of line.fetched)
   pub range : InRange line.fetched.instr
   pub roles : HasRoles p line.address line.fetched
 

@@ -5,7 +5,7 @@ use Rattle.guest_gates.specs.Ends.{is_fault}
 use Rattle.thumb_isa.specs.Range.{InRange}
 use Rattle.thumb_isa.specs.declared.instr.Instr.{Instr}
 use Rattle.thumb_core.specs.Registers.{even}
-use Rattle.thumb_core.specs.Step.{instr_at}
+use Rattle.thumb_core.specs.Step.{instr_for}
 use Rattle.thumb_core.specs.declared.regs.Regs.{Regs}
 use Rattle.thumb_core.specs.declared.regs.Stepped.{Stepped}
 use Rattle.thumb_core.specs.declared.regs.Stepped.TheVariants.{Done, Gate}
@@ -14,7 +14,7 @@ use Rattle.step_ahead.specs.Ahead.{branches, pushed}
 use Rattle.eh_trace.specs.Trace.{Trace}
 use Rattle.eh_gates.specs.declared.state.Core.{Core}
 use Rattle.eh_gates.specs.State.{state_of}
-use Rattle.machines_agree.specs.two_machines.Program.{Program}
+use Rattle.machines_agree.specs.two_machines.Program.{Program, profile_in}
 use Rattle.eh_machine.specs.declared.pass.Fetched.{Fetched}
 use Rattle.machines_agree.specs.two_machines.Machine.{Passed, passed, with_pc_of}
 
@@ -23,15 +23,16 @@ use Rattle.machines_agree.specs.two_machines.Machine.{Passed, passed, with_pc_of
 abbrev pub at_of : Fetched → Instr × ℕ
 at_of at = (at.instr, at.size)
 
--- by the checker: it was reached, whether a function begins after it, and which words that it pushes are saves
+-- by the checker: it was reached, whether it is a lowering place, whether a function begins after it, and which words that it pushes are saves
 pub record HasRoles (p : Program) (a : ℕ) (at : Fetched) : Type 0 where
   pub reached : (p.look a).is_instr ≡ true
+  pub lowers : at.lowers ≡ (p.look a).lowers
   pub last : at.is_last ≡ (p.look (even ((a + at.size) % 2 ^ 32))).is_function
   pub saves : at.saves ≡ (p.look a).saves
 
--- it stands there, with fields that an instruction has
+-- it stands there by the rows of the program's profile, with fields that an instruction has
 pub record IsFetched (p : Program) (a : ℕ) (m : Memory) (at : Fetched) : Type 0 where
-  pub there : instr_at m a ≡ Some (at_of at)
+  pub there : instr_for (profile_in p) m a ≡ Some (at_of at)
   pub range : InRange at.instr
   pub roles : HasRoles p a at
 

@@ -1,16 +1,15 @@
 //! One instruction up to its gate: it is checked, fetched once, done and tested, and its guards are set (docs/machine.md, "An event"). Most are
 //! tested before they are done (`fast_path`), the others after (`pass`).
-ghost use Rattle.std.specs.Prelude.{◌≡◌, ◌+◌, ◌%◌, ◌^◌, Some, IfOk, IfErr};
+ghost use Rattle.std.specs.Prelude.{◌≡◌, ◌+◌, ◌%◌, ◌^◌, IfOk, IfErr};
 ghost use Rattle.thumb_isa.specs.Range.{InRange};
 ghost use Rattle.thumb_isa.specs.declared.instr.Instr.{Instr};
 ghost use Rattle.thumb_core.specs.Registers.{even};
-ghost use Rattle.thumb_core.specs.Step.{instr_at};
 ghost use Rattle.thumb_core.specs.declared.regs.Regs.{Regs};
 ghost use Rattle.step_ahead.specs.Ahead.{IsAhead, IsFallThrough, IsJump};
 ghost use Rattle.step_ahead.specs.UndoRecord.{Restores};
 ghost use Rattle.machines_agree.specs.two_machines.Checked.{program_of};
-ghost use Rattle.machines_agree.specs.two_machines.Program.{Program};
-ghost use Rattle.eh_machine.specs.Passes.{at_of, HasRoles, IsFetched, Passes, Tells, Tried};
+ghost use Rattle.machines_agree.specs.two_machines.Program.{Program, profile_in};
+ghost use Rattle.eh_machine.specs.Passes.{IsFetched, Passes, Tells, Tried};
 
 use crate::guards::{guard_pushed, reguard};
 use crate::tests_of::{has_room, refusal};
@@ -22,7 +21,7 @@ use guest_gates::trap_end;
 use step_ahead::{Ahead, UndoRecord, look_ahead, undo_record_of};
 use thumb_core::ends::{End, TrapKind};
 use thumb_core::regs::{SP, Stepped, are_words};
-use thumb_core::step::{execute, fetch};
+use thumb_core::step::{execute, fetch_for};
 use thumb_isa::instr::Instr;
 
 /// The instruction at an address, its size in bytes, and what the checker says there.
@@ -30,6 +29,8 @@ use thumb_isa::instr::Instr;
 pub(crate) struct Fetched {
     pub(crate) instr: Instr,
     pub(crate) size: u32,
+    /// Whether it is a lowering place.
+    pub(crate) lowers: bool,
     /// Whether a function begins after it.
     pub(crate) is_last: bool,
     /// Which of the words that it pushes are saves: bit k stands for word k.
@@ -44,7 +45,7 @@ fn begins_after(a: &Accepted, address: u32, size: u32) -> bool
     a.is_function(next - next % 2)
 }
 
-/// The instruction at pc, where the checker reached it; or the end by what stands there, which is no fault of the outside.
+/// The instruction at pc by the rows of the image's profile, where the checker reached it; or the end by what stands there, which is no fault of the outside.
 #[inline(always)]
 pub(crate) fn fetch_checked<B: Bus>(a: &Accepted, core: &Core, bus: &B) -> Result<Fetched, End>
     ensures fetched { IfOk result (λ at. IsFetched (program_of a.now) core.now.regs.pc (B.memory bus.now) at) }
@@ -55,10 +56,11 @@ pub(crate) fn fetch_checked<B: Bus>(a: &Accepted, core: &Core, bus: &B) -> Resul
     if !known {
         return Err(End::Trap(TrapKind::FellOff, pc, pc));
     }
-    match fetch(&core.regs, bus) {
+    match fetch_for(a.profile(), &core.regs, bus) {
         Ok(at) => Ok(Fetched {
             instr: at.0,
             size: at.1,
+            lowers: a.lowers_at(pc),
             is_last: begins_after(a, pc, at.1),
             saves: a.saves_at(pc),
         }),
@@ -72,10 +74,9 @@ pub(crate) fn fetch_checked<B: Bus>(a: &Accepted, core: &Core, bus: &B) -> Resul
 /// where it doesn't trap. So there is nothing to keep. Else nothing is changed.
 #[inline(always)]
 pub(crate) fn fast_path<B: Bus>(at: &Fetched, ahead: Ahead, core: &mut Core, bus: &mut B) -> bool
-    requires there { instr_at (B.memory bus.old) core.old.regs.pc ≡ Some (at_of at.now) }
     requires range { InRange at.now.instr }
     requires told { IsAhead at.now.instr core.old.regs ahead }
-    ensures { (p : Program) → HasRoles p core.old.regs.pc at.now → Tried p core.old (B.memory bus.old) result core.new (B.memory bus.new) }
+    ensures { (p : Program) → IsFetched p core.old.regs.pc (B.memory bus.old) at.now → Tried p core.old (B.memory bus.old) result core.new (B.memory bus.new) }
 {
     match ahead {
         Ahead::FallThrough => fall_through(at, 0, core, bus),
@@ -88,10 +89,9 @@ pub(crate) fn fast_path<B: Bus>(at: &Fetched, ahead: Ahead, core: &mut Core, bus
 /// An instruction `at` pc that falls through and pushes so many words.
 #[inline(always)]
 fn fall_through<B: Bus>(at: &Fetched, pushes: u32, core: &mut Core, bus: &mut B) -> bool
-    requires there { instr_at (B.memory bus.old) core.old.regs.pc ≡ Some (at_of at.now) }
     requires range { InRange at.now.instr }
     requires told { IsFallThrough at.now.instr core.old.regs pushes }
-    ensures { (p : Program) → HasRoles p core.old.regs.pc at.now → Tried p core.old (B.memory bus.old) result core.new (B.memory bus.new) }
+    ensures { (p : Program) → IsFetched p core.old.regs.pc (B.memory bus.old) at.now → Tried p core.old (B.memory bus.old) result core.new (B.memory bus.new) }
 {
     let (low, _) = bus.home();
     are_words(&core.regs.r);
@@ -112,9 +112,8 @@ fn fall_through<B: Bus>(at: &Fetched, pushes: u32, core: &mut Core, bus: &mut B)
 /// A branch `at` pc that is taken, to an address: pc alone changes. Where sp stands in the running stack no test forbids it.
 #[inline(always)]
 fn jump<B: Bus>(at: &Fetched, to: u32, core: &mut Core, bus: &mut B) -> bool
-    requires there { instr_at (B.memory bus.old) core.old.regs.pc ≡ Some (at_of at.now) }
     requires told { IsJump at.now.instr core.old.regs to }
-    ensures { (p : Program) → HasRoles p core.old.regs.pc at.now → Tried p core.old (B.memory bus.old) result core.new (B.memory bus.new) }
+    ensures { (p : Program) → IsFetched p core.old.regs.pc (B.memory bus.old) at.now → Tried p core.old (B.memory bus.old) result core.new (B.memory bus.new) }
 {
     let (low, _) = bus.home();
     if core.regs.r[SP as usize] < low {
@@ -192,7 +191,7 @@ fn pass_with<B: Bus>(
 ) -> Result<Stepped, End>
     requires fetched { IsFetched (program_of a.now) core.old.regs.pc (B.memory bus.old) at.now }
     requires told { IsAhead at.now.instr core.old.regs ahead }
-    requires restores { Restores undo_record.now core.old.regs (B.memory bus.old) }
+    requires restores { Restores (profile_in (program_of a.now)) undo_record.now core.old.regs (B.memory bus.old) }
     ensures passes { Passes (program_of a.now) core.old (B.memory bus.old) result core.new (B.memory bus.new) }
 {
     let (branches, pushes) = told_of(ahead);
@@ -209,7 +208,8 @@ fn pass_with<B: Bus>(
     // its tests
     let old = before.r[SP as usize];
     let sp = core.regs.r[SP as usize];
-    if let Some(end) = refusal(a, (landing, low), (pc, old), branches, what, &core.regs) {
+    let stack = (landing, low);
+    if let Some(end) = refusal(a, at.lowers, stack, (pc, old), branches, what, &core.regs) {
         core.regs = before;
         if let Stepped::Done = what {
             undo_record.restore(bus);

@@ -3,13 +3,21 @@ ghost use Rattle.std.specs.Prelude.{◌≡◌, ◌≤◌, ◌*◌, true, false, 
 ghost use Rattle.guest_gates.specs.Ends.{is_fault};
 ghost use Rattle.step_ahead.specs.UndoRecord.{lowest};
 ghost use Rattle.machines_agree.specs.two_machines.Checked.{program_of};
-ghost use Rattle.machines_agree.specs.two_machines.Machine.{leaves_cleanup, sp_end, fell_off, goes_after, control_flow_trap, refusal};
+ghost use Rattle.machines_agree.specs.two_machines.Machine.{raises, leaves_cleanup, sp_end, fell_off, goes_after, control_flow_trap, refusal};
 
 use eh_gates::gates::{ALLOCATE_GATE, BEGIN_CATCH_GATE, END_CATCH_GATE, FREE_GATE, UNCAUGHT_GATE};
 use frame_check::Accepted;
 use guest_gates::{INPUT_GATE, NO_CALLER, OUTPUT_GATE};
 use thumb_core::ends::{End, TrapKind};
 use thumb_core::regs::{Regs, SP, Stepped};
+
+/// Whether sp rises at a lowering place.
+#[inline(always)]
+fn raises(lowers: bool, old: u32, new: u32) -> bool
+    ensures { result ≡ raises lowers old new }
+{
+    lowers && old < new
+}
 
 /// Whether sp rises above the landing sp of the innermost cleanup in progress.
 #[inline(always)]
@@ -22,12 +30,14 @@ fn leaves_cleanup(landing: Option<u32>, old: u32, new: u32) -> bool
     }
 }
 
-/// The end by sp: it rises out of a cleanup, or stands below the running stack, which begins at `low`.
+/// The end by sp: it rises at a lowering place, or out of a cleanup, or stands below the running stack, which begins at `low`.
 #[inline(always)]
-fn sp_end(landing: Option<u32>, low: u32, pc: u32, old: u32, new: u32) -> Option<End>
-    ensures { result ≡ sp_end landing low pc old new }
+fn sp_end(lowers: bool, landing: Option<u32>, low: u32, pc: u32, old: u32, new: u32) -> Option<End>
+    ensures { result ≡ sp_end lowers landing low pc old new }
 {
-    if leaves_cleanup(landing, old, new) {
+    if raises(lowers, old, new) {
+        Some(End::Trap(TrapKind::SpRaised, new, pc))
+    } else if leaves_cleanup(landing, old, new) {
         Some(End::Trap(TrapKind::SpInCleanup, new, pc))
     } else if new < low {
         Some(End::Trap(TrapKind::StackLimit, new, pc))
@@ -105,23 +115,25 @@ fn control_flow_trap(
     }
 }
 
-/// The end by a test: first of sp, then of where the run would go on. `stack` has the landing sp of the innermost cleanup and the start of the
+/// The end by a test: first of sp, then of where the run would go on. `lowers` says whether it is a lowering place, `stack` has the landing sp of the innermost cleanup and the start of the
 /// running stack, `at` pc and sp before the instruction.
 #[inline(always)]
 pub(crate) fn refusal(
     a: &Accepted,
+    lowers: bool,
     stack: (Option<u32>, u32),
     at: (u32, u32),
     branches: bool,
     what: Stepped,
     regs: &Regs,
 ) -> Option<End>
+    requires { lowers ≡ ((program_of a.now).look at.0).lowers }
     ensures is { result ≡ refusal (program_of a.now) stack at branches what regs.now }
     ensures inside { IfSome result (λ end. is_fault end ≡ false) }
 {
     let (landing, low) = stack;
     let (pc, old) = at;
-    let end = sp_end(landing, low, pc, old, regs.r[SP as usize]);
+    let end = sp_end(lowers, landing, low, pc, old, regs.r[SP as usize]);
     if end.is_some() {
         return end;
     }

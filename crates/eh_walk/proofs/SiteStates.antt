@@ -9,8 +9,10 @@ use Rattle.eh_machine.specs.stands_for.thumb_isa.declared.instr.Instr.{Instr}
 use Rattle.eh_machine.specs.stands_for.thumb_isa.declared.instr.Instr.TheVariants.{Bl, Blx, Svc}
 use Rattle.eh_machine.specs.stands_for.thumb_isa.declared.instr.Decoded.{Decoded}
 use Rattle.eh_machine.specs.stands_for.thumb_isa.declared.instr.Decoded.TheVariants.{Is, Undefined, Unpredictable, NotInProfile}
-use Rattle.eh_machine.specs.stands_for.thumb_isa.Rows.{decoded_of}
-use Rattle.eh_machine.specs.stands_for.thumb_core.Step.{instr_at, instr_of}
+use Rattle.eh_machine.specs.stands_for.thumb_isa.Rows.{decoded_of, late_decoded_of, decoded_for}
+use Rattle.eh_machine.specs.stands_for.thumb_isa.declared.profile.Profile.{Profile}
+use Rattle.eh_machine.specs.stands_for.thumb_isa.declared.profile.Profile.TheVariants.{One, Two}
+use Rattle.eh_machine.specs.stands_for.thumb_core.Step.{instr_for, instr_of}
 use Rattle.eh_machine.specs.stands_for.frame_facts.declared.cause.FrameCause.TheVariants.{Undecodable}
 use Rattle.eh_machine.specs.stands_for.frame_graph.declared.places.Standing.{Standing}
 use Rattle.eh_machine.specs.stands_for.frame_graph.declared.places.Standing.TheVariants.{Instruction, Udf, Nothing}
@@ -26,6 +28,7 @@ use Rattle.eh_machine.proofs.stands_for.frame_check.Wells.{placed_at}
 use Rattle.eh_machine.proofs.stands_for.frame_reach.Stands.{stands_inside, stands_size}
 use Rattle.eh_machine.specs.stands_for.two_machines.Activations.{Recorded, memory_of}
 use Rattle.eh_machine.specs.stands_for.two_machines.Checked.{program_of}
+use Rattle.eh_machine.specs.stands_for.two_machines.Program.{profile_in}
 use Rattle.eh_machine.proofs.stands_for.flow.Work.{contains_head}
 use Rattle.eh_machine.proofs.stands_for.accepted_code.Fetch.{code_fetch}
 use Rattle.eh_machine.specs.stands_for.Chain.{code, StandsAt}
@@ -44,26 +47,27 @@ is_instr Undefined = false
 is_instr Unpredictable = false
 is_instr NotInProfile = false
 
-all_others : ℕ → Bool
-all_others zero = true
-all_others (suc n) = cond (is_instr (decoded_of (0xde00 + n) 0)) false true && all_others n
+all_others : Profile → ℕ → Bool
+all_others p zero = true
+all_others p (suc n) = cond (is_instr (decoded_for p (0xde00 + n) 0)) false true && all_others p n
 
-all : all_others 256 ≡ true
-unfolding decoded_of all_others
-all = refl
+all : (p : Profile) → all_others p 256 ≡ true
+unfolding decoded_of late_decoded_of all_others
+all One = refl
+all Two = refl
 
 other : (b : Bool) → cond b false true ≡ true → b ≡ false
 other true e = absurd cc
 other false e = refl
 
-among : (n k : ℕ) → all_others n ≡ true → k < n → is_instr (decoded_of (0xde00 + k) 0) ≡ false
+among : (p : Profile) (n k : ℕ) → all_others p n ≡ true → k < n → is_instr (decoded_for p (0xde00 + k) 0) ≡ false
 unfolding all_others
-among zero k e h = absurd (omega (arith, h))
-among (suc n) k e h =
-    let w = and_parts (cond (is_instr (decoded_of (0xde00 + n) 0)) false true) (all_others n) e in
+among p zero k e h = absurd (omega (arith, h))
+among p (suc n) k e h =
+    let w = and_parts (cond (is_instr (decoded_for p (0xde00 + n) 0)) false true) (all_others p n) e in
     elim (cases_eq k n) [
-      | inl same ↦ subst (λ j. is_instr (decoded_of (0xde00 + j) 0) ≡ false) (sym same) (other (is_instr (decoded_of (0xde00 + n) 0)) w.0)
-      | inr differ ↦ among n k w.1 (omega (arith, h, differ))
+      | inl same ↦ subst (λ j. is_instr (decoded_for p (0xde00 + j) 0) ≡ false) (sym same) (other (is_instr (decoded_for p (0xde00 + n) 0)) w.0)
+      | inr differ ↦ among p n k w.1 (omega (arith, h, differ))
     ]
 
 none_of : (d : Decoded) → is_instr d ≡ false → instr_of d ≡ None
@@ -72,11 +76,11 @@ none_of Undefined e = refl
 none_of Unpredictable e = refl
 none_of NotInProfile e = refl
 
-udf_none : (first : ℕ) → is_udf first ≡ true → instr_of (decoded_of first 0) ≡ None
-udf_none first e =
+udf_none : (p : Profile) (first : ℕ) → is_udf first ≡ true → instr_of (decoded_for p first 0) ≡ None
+udf_none p first e =
     let top : first / 256 ≡ 0xde = eqb-true (first / 256) 0xde e in
     let same : 0xde00 + (first - 0xde00) ≡ first = omega (arith, top) in
-    subst (λ n. instr_of (decoded_of n 0) ≡ None) same (none_of (decoded_of (0xde00 + (first - 0xde00)) 0) (among 256 (first - 0xde00) all (omega (arith, top))))
+    subst (λ n. instr_of (decoded_for p n 0) ≡ None) same (none_of (decoded_for p (0xde00 + (first - 0xde00)) 0) (among p 256 (first - 0xde00) (all p) (omega (arith, top))))
 
 not_udf : (d : Decoded) → of_decoded d ≡ Udf → ⊥
 not_udf (Is i size) e = cc
@@ -84,15 +88,18 @@ not_udf Undefined e = cc
 not_udf Unpredictable e = cc
 not_udf NotInProfile e = cc
 
-wide_not : (first : ℕ) (w : Option ℕ) → wide_of first w ≡ Udf → ⊥
-wide_not first None e = cc
-wide_not first (Some second) e = not_udf (decoded_of first second) e
+wide_not : (p : Profile) (first : ℕ) (w : Option ℕ) → wide_of p first w ≡ Udf → ⊥
+wide_not p first None e = cc
+wide_not p first (Some second) e = not_udf (decoded_for p first second) e
 
 -- ---- what stands at pc
 
 module _ (x : Accepted) (is : IsProgram x) (s : Recorded) (k : Keeps x s) (at : StandsAt x s.first s.segments s.regs s.regs.pc) where
   abbrev flow_graph : FlowGraph
   flow_graph = flow_graph_of x.image at.function
+
+  abbrev profile : Profile
+  profile = profile_in (program_of x)
 
   not_nothing : standing_at flow_graph at.place ≡ Nothing → ⊥
   unfolding causes_at
@@ -103,24 +110,24 @@ module _ (x : Accepted) (is : IsProgram x) (s : Recorded) (k : Keeps x s) (at : 
       not_found c at.place at.fact (none_stands x at.function at.marks is.sound at.of.among at.of.are) at.state Undecodable
       (Contains-append_left (shown (is_undecodable c.flow_graph at.place) Undecodable) _ Undecodable first)
 
-  none_at : standing_at flow_graph at.place ≡ Udf → instr_at (memory_of s) s.regs.pc ≡ None
+  none_at : standing_at flow_graph at.place ≡ Udf → instr_for profile (memory_of s) s.regs.pc ≡ None
   unfolding standing_at
   none_at e = by_halves (halfword_of flow_graph at.place) (halfword_of flow_graph (at.place + 1)) refl e
     where
-      none_by : (first : ℕ) → halfword_of flow_graph at.place ≡ Some first → is_udf first ≡ true → instr_at (memory_of s) s.regs.pc ≡ None
+      none_by : (first : ℕ) → halfword_of flow_graph at.place ≡ Some first → is_udf first ≡ true → instr_for profile (memory_of s) s.regs.pc ≡ None
       none_by first h udf =
           let top : first / 256 ≡ 0xde = eqb-true (first / 256) 0xde udf in
           let fetches : fetch (memory_of s) s.regs.pc ≡ Ok first = rw at.address (code_fetch x.image at.function s.segments is.image at.of.among k.image at.place first h) in
           let narrow : nat_le 0xe800 first ≡ false = lt-leb 0xe800 first (omega (arith, top)) in
-          rw (fetches, narrow) (udf_none first udf)
+          rw (fetches, narrow) (udf_none profile first udf)
 
       by_udf : (u b : Bool) (first : ℕ) (w : Option ℕ) → halfword_of flow_graph at.place ≡ Some first → is_udf first ≡ u
-          → cond u Udf (cond b (of_decoded (decoded_of first 0)) (wide_of first w)) ≡ Udf → instr_at (memory_of s) s.regs.pc ≡ None
+          → cond u Udf (cond b (of_decoded (decoded_for profile first 0)) (wide_of profile first w)) ≡ Udf → instr_for profile (memory_of s) s.regs.pc ≡ None
       by_udf true b first w h u g = none_by first h u
-      by_udf false true first w h u g = absurd (not_udf (decoded_of first 0) g)
-      by_udf false false first w h u g = absurd (wide_not first w g)
+      by_udf false true first w h u g = absurd (not_udf (decoded_for profile first 0) g)
+      by_udf false false first w h u g = absurd (wide_not profile first w g)
 
-      by_halves : (o w : Option ℕ) → halfword_of flow_graph at.place ≡ o → standing_by o w ≡ Udf → instr_at (memory_of s) s.regs.pc ≡ None
+      by_halves : (o w : Option ℕ) → halfword_of flow_graph at.place ≡ o → standing_by profile o w ≡ Udf → instr_for profile (memory_of s) s.regs.pc ≡ None
       by_halves None w h g = absurd cc
       by_halves (Some first) w h g = by_udf (is_udf first) _ first w h refl g
 
@@ -150,7 +157,7 @@ module _ (x : Accepted) (is : IsProgram x) (s : Recorded) (k : Keeps x s) (at : 
         inr (inr (off, does (Bl off) size e, omega (arith, same, low)))
     at_instr i size e h = absurd (none-some site h)
 
-    by_standing : (t : Standing) → standing_at flow_graph at.place ≡ t → site_at s.regs.pc (instr_at (memory_of s) s.regs.pc) ≡ Some site → ThrowsAt x s site
+    by_standing : (t : Standing) → standing_at flow_graph at.place ≡ t → site_at s.regs.pc (instr_for profile (memory_of s) s.regs.pc) ≡ Some site → ThrowsAt x s site
     by_standing (Instruction i size) e h = at_instr i size e (subst (λ (o : Option (Instr × ℕ)). site_at s.regs.pc o ≡ Some site) (simple.fetch x is s k at i size e).stands h)
     by_standing Udf e h = absurd (none-some site (subst (λ (o : Option (Instr × ℕ)). site_at s.regs.pc o ≡ Some site) (none_at e) h))
     by_standing Nothing e h = absurd (not_nothing e)
@@ -160,7 +167,7 @@ pub throws_there : (x : Accepted) (s : Recorded) (site : ℕ) → IsProgram x �
 unfolding site_state
 throws_there x s site is k e = go (look x.roles s.regs.pc).is_instr refl e
   where
-    go : (b : Bool) → (look x.roles s.regs.pc).is_instr ≡ b → cond b (site_at s.regs.pc (instr_at (memory_of s) s.regs.pc)) None ≡ Some site → ThrowsAt x s site
+    go : (b : Bool) → (look x.roles s.regs.pc).is_instr ≡ b → cond b (site_at s.regs.pc (instr_for (profile_in (program_of x)) (memory_of s) s.regs.pc)) None ≡ Some site → ThrowsAt x s site
     go true reached h =
         let at = k.first reached in
         by_standing x is s k at reached site (standing_at (flow_graph_of x.image at.function) at.place) refl h

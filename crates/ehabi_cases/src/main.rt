@@ -14,7 +14,7 @@ use case_file::run_file;
 use std::io::Error;
 
 /// The files of cases.
-const FILES: [&str; 17] = [
+const FILES: [&str; 19] = [
     "commands.txt",
     "sources.txt",
     "bytes.txt",
@@ -26,6 +26,8 @@ const FILES: [&str; 17] = [
     "throws.txt",
     "budgets.txt",
     "traps.txt",
+    "variable_frames.txt",
+    "profiles.txt",
     "walks.txt",
     "forced.txt",
     "gnu.txt",

@@ -37,14 +37,16 @@ const EXAMPLES: [&str; 20] = [
     "check/split_entry.s",
 ];
 
-/// Those that throw, one that would have spoilt what a throw needs, one that is walked, one that is unwound by force, and two whose threads
-/// run by a schedule.
-const THROWS: [&str; 15] = [
+/// Those that throw, the second in the second profile, one that would have spoilt what a throw needs, one that is walked, one that is unwound
+/// by force, and two whose threads run by a schedule.
+const THROWS: [&str; 17] = [
     "throw.s",
+    "baseline.s",
     "cleanups.s",
     "rethrow.s",
     "destructor.s",
     "frame_pointer.s",
+    "variable_frame.s",
     "classes.s",
     "specification.s",
     "specification_bare.s",

@@ -4,10 +4,11 @@ use Rattle.std.specs.Prelude.{is_some}
 use Rattle.std.specs.Option.{option_or}
 use Rattle.event_runs.specs.Runs.{Event, Goes, Ends}
 use Rattle.eh_bus.specs.Memory.{Memory}
-use Rattle.eh_cxa.specs.Words.{block, object_slot, block_slot}
+use Rattle.eh_cxa.specs.Words.{word, block, object_slot, block_slot}
 use Rattle.eh_cxa.specs.Lists.{Cleanup}
 use Rattle.eh_cxa.specs.ListCalls.{allocate_list, free_list, end_list, innermost_in}
 use Rattle.eh_cxa.specs.Allocate.{allocate_of, free_of}
+use Rattle.eh_cxa.specs.Cleanup.{innermost_of}
 use Rattle.eh_cxa.specs.Catch.{begin_catch_of, end_catch_of}
 use Rattle.eh_cxa.specs.declared.globals.CxaFault.{CxaFault}
 use Rattle.eh_types.specs.Graph.{row_of}
@@ -25,8 +26,9 @@ use Rattle.guest_gates.specs.Gates.{gate_event}
 use Rattle.image_memory.specs.Start.{State as Raw}
 use Rattle.plain_run.specs.Machine.{went_event, in_memory, stepped_event, flat_event}
 use Rattle.step_ahead.specs.Ahead.{branches_some}
+use Rattle.thumb_isa.specs.declared.profile.Profile.TheVariants.{One}
 use Rattle.thumb_core.specs.Outcome.{Outcome as Stepping}
-use Rattle.thumb_core.specs.Step.{step_of, instr_at}
+use Rattle.thumb_core.specs.Step.{step_for, instr_for}
 use Rattle.thumb_core.specs.declared.regs.TheConstants.{SP}
 use Rattle.thumb_core.specs.declared.regs.Regs.{Regs}
 use Rattle.thumb_core.specs.declared.regs.CoreTrap.{CoreTrap}
@@ -36,10 +38,10 @@ use Rattle.thumb_core.specs.declared.ends.End.{End}
 use Rattle.thumb_core.specs.declared.ends.End.TheVariants as the_end
 use Rattle.eh_gates.specs.declared.state.Turned.TheVariants.{Went, Ended}
 use Rattle.eh_gates.specs.declared.gates.TheConstants.{ALLOCATE_GATE, FREE_GATE, THROW_GATE, BEGIN_CATCH_GATE, END_CATCH_GATE, RETHROW_GATE, END_CLEANUP_GATE, UNEXPECTED_GATE, TERMINATE_GATE, UNCAUGHT_GATE}
-use Rattle.eh_gates.specs.State.{State, Tables}
-use Rattle.two_machines.specs.Program.{Program, program_tables}
+use Rattle.eh_gates.specs.State.{State, Tables, reg}
+use Rattle.two_machines.specs.Program.{Program, program_tables, profile_in}
 use Rattle.two_machines.specs.Activations.{Activation, Recorded, reg_in, memory_of, words_in, heads, with_lists, lists_of, cleanups_in, InProgress}
-use Rattle.two_machines.specs.Machine.{leaves_cleanup, sp_end, control_flow_trap, fell_off}
+use Rattle.two_machines.specs.Machine.{raises, leaves_cleanup, sp_end, control_flow_trap, fell_off}
 use Rattle.two_machines.specs.Machine as bytes
 use Rattle.two_machines.specs.ActivationMachine as acts
 use Rattle.event_laws.specs.Ends.{NoEventIsBudget}
@@ -53,8 +55,9 @@ Fine o = Lacks is_budget gates_budget (λ n. refl) (λ v pc. refl) (λ v pc. ref
 flow_traps : (p : Program) (branches : Bool) (pc : ℕ) (what : Stepped) (regs : Regs) → Fine (control_flow_trap p branches pc what regs)
 flow_traps p branches pc what regs = flow_trap_is is_budget gates_budget (λ n. refl) (λ v pc. refl) (λ v pc. refl) p branches pc what regs
 
-sps : (landing : Option ℕ) (low pc old new : ℕ) → Fine (sp_end landing low pc old new)
-sps landing low pc old new = either Fine (leaves_cleanup landing old new) _ _ refl (either Fine (nat_lt new low) _ _ refl tt)
+sps : (lowers : Bool) (landing : Option ℕ) (low pc old new : ℕ) → Fine (sp_end lowers landing low pc old new)
+sps lowers landing low pc old new =
+    either Fine (raises lowers old new) _ _ refl (either Fine (leaves_cleanup landing old new) _ _ refl (either Fine (nat_lt new low) _ _ refl tt))
 
 one_of : (a b : Option End) → Fine a → Fine b → Fine (option_or a b)
 one_of (Some end) b h k = h
@@ -76,8 +79,10 @@ module _ (p : Program) (s : State) (input : List ℕ) where
 
   tests_bytes : (what : Stepped) (regs : Regs) → Fine (bytes.tests p s what regs)
   tests_bytes what regs =
-      one_of (sp_end _ s.memory.home.0 s.regs.pc _ (slice_index regs.r SP)) (control_flow_trap p (branches_some (instr_at s.memory s.regs.pc) s.regs) s.regs.pc what regs)
-      (sps _ s.memory.home.0 s.regs.pc _ (slice_index regs.r SP)) (flow_traps p (branches_some (instr_at s.memory s.regs.pc) s.regs) s.regs.pc what regs)
+      one_of (sp_end (p.look s.regs.pc).lowers (innermost_of (word s.memory) s.globals) s.memory.home.0 s.regs.pc (reg s SP) (slice_index regs.r SP))
+      (control_flow_trap p (branches_some (instr_for (profile_in p) s.memory s.regs.pc) s.regs) s.regs.pc what regs)
+      (sps (p.look s.regs.pc).lowers (innermost_of (word s.memory) s.globals) s.memory.home.0 s.regs.pc (reg s SP) (slice_index regs.r SP))
+      (flow_traps p (branches_some (instr_for (profile_in p) s.memory s.regs.pc) s.regs) s.regs.pc what regs)
 
   stepped_bytes : (o : Stepping) → OfBytes (bytes.onward p s (bytes.stepped p s o) input)
   stepped_bytes (Trap trap, regs, m) = trap_budget trap s.regs.pc
@@ -87,7 +92,7 @@ module _ (p : Program) (s : State) (input : List ℕ) where
   stepped_bytes (Gate number, regs, m) = tested_bytes (Gate number) regs m (bytes.tests p s (Gate number) regs) (tests_bytes (Gate number) regs)
 
   checked_bytes : (b : Bool) → OfBytes (bytes.onward p s (bytes.checked p s b) input)
-  checked_bytes true = stepped_bytes (step_of s.regs s.memory)
+  checked_bytes true = stepped_bytes (step_for (profile_in p) s.regs s.memory)
   checked_bytes false = refl
 
   of_bytes : OfBytes (bytes.machine_event p s input)
@@ -208,9 +213,9 @@ module _ (p : Program) (s : Recorded) (input : List ℕ) where
 
   tests_are : (what : Stepped) (regs : Regs) → Fine (acts.tests p s what regs)
   tests_are what regs =
-      one_of (sp_end (innermost_in (cleanups_in s.cleanups)) s.home.0 s.regs.pc (reg_in s SP) (slice_index regs.r SP))
-      (acts.control_flow_trap_of p s (branches_some (instr_at (memory_of s) s.regs.pc) s.regs) what regs)
-      (sps (innermost_in (cleanups_in s.cleanups)) s.home.0 s.regs.pc (reg_in s SP) (slice_index regs.r SP)) (flow_trap_of (branches_some (instr_at (memory_of s) s.regs.pc) s.regs) what regs)
+      one_of (sp_end (p.look s.regs.pc).lowers (innermost_in (cleanups_in s.cleanups)) s.home.0 s.regs.pc (reg_in s SP) (slice_index regs.r SP))
+      (acts.control_flow_trap_of p s (branches_some (instr_for (profile_in p) (memory_of s) s.regs.pc) s.regs) what regs)
+      (sps (p.look s.regs.pc).lowers (innermost_in (cleanups_in s.cleanups)) s.home.0 s.regs.pc (reg_in s SP) (slice_index regs.r SP)) (flow_trap_of (branches_some (instr_for (profile_in p) (memory_of s) s.regs.pc) s.regs) what regs)
 
   tested_recorded : (what : Stepped) (regs : Regs) (m : Memory) (o : Option End) → Fine o → OfRecorded (acts.onward p s (acts.tested p s what regs m o) input)
   tested_recorded what regs m (Some end) h = h
@@ -224,14 +229,14 @@ module _ (p : Program) (s : Recorded) (input : List ℕ) where
   trapped_is trap (Some regs) = with_tests (Return s.first.caller.back) (acts.returned s.first.caller regs) (memory_of s)
 
   stepped_recorded : (o : Stepping) → OfRecorded (acts.onward p s (acts.stepped p s o) input)
-  stepped_recorded (Trap trap, regs, m) = trapped_is trap (acts.pops_back s)
+  stepped_recorded (Trap trap, regs, m) = trapped_is trap (acts.pops_back p s)
   stepped_recorded (Done, regs, m) = with_tests Done regs m
   stepped_recorded (Call target ret, regs, m) = with_tests (Call target ret) regs m
   stepped_recorded (Return to, regs, m) = with_tests (Return to) (acts.returned s.first.caller regs) m
   stepped_recorded (Gate number, regs, m) = with_tests (Gate number) regs m
 
   checked_recorded : (b : Bool) → OfRecorded (acts.onward p s (acts.checked p s b) input)
-  checked_recorded true = stepped_recorded (step_of s.regs (memory_of s))
+  checked_recorded true = stepped_recorded (step_for (profile_in p) s.regs (memory_of s))
   checked_recorded false = refl
 
   of_recorded : OfRecorded (acts.recorded_event p s input)
@@ -268,7 +273,7 @@ stepped_raw (what, regs, m) s input = memory_raw s.memory m (went_event what s.r
 
 of_raw : (s : Raw) (input : List ℕ) → OfRaw (flat_event s input)
 unfolding flat_event
-of_raw s input = stepped_raw (step_of s.regs s.memory) s input
+of_raw s input = stepped_raw (step_for One s.regs s.memory) s input
 
 -- ---- all three
 

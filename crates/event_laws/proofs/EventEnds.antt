@@ -80,6 +80,7 @@ is_rise kind.SavedSlot = false
 is_rise kind.Protected = false
 is_rise kind.NotExecutable = false
 is_rise kind.FellOff = false
+is_rise kind.SpRaised = false
 is_rise kind.SpInCleanup = true
 is_rise kind.StackLimit = false
 is_rise kind.BadCallTarget = false
@@ -102,6 +103,42 @@ is_sp the_end.Budget = false
 is_sp the_end.ReadFault = false
 is_sp the_end.WriteFault = false
 
+-- SpRaised
+abbrev pub is_raise : TrapKind → Bool
+is_raise kind.Undefined = false
+is_raise kind.Unpredictable = false
+is_raise kind.NotInProfile = false
+is_raise kind.EvenTarget = false
+is_raise kind.Unmapped = false
+is_raise kind.Unaligned = false
+is_raise kind.ReadOnly = false
+is_raise kind.SavedSlot = false
+is_raise kind.Protected = false
+is_raise kind.NotExecutable = false
+is_raise kind.FellOff = false
+is_raise kind.SpRaised = true
+is_raise kind.SpInCleanup = false
+is_raise kind.StackLimit = false
+is_raise kind.BadCallTarget = false
+is_raise kind.UnknownGate = false
+is_raise kind.BadObject = false
+is_raise kind.BadUcb = false
+is_raise kind.TooBig = false
+is_raise kind.BadType = false
+is_raise kind.CaughtOrder = false
+is_raise kind.NoCaught = false
+is_raise kind.NoCleanup = false
+is_raise kind.CleanupElsewhere = false
+is_raise kind.ObjectRead = false
+
+abbrev pub is_raised : End → Bool
+is_raised (the_end.Exit number) = false
+is_raised (the_end.Terminate why) = false
+is_raised (the_end.Trap kind value pc) = is_raise kind
+is_raised the_end.Budget = false
+is_raised the_end.ReadFault = false
+is_raised the_end.WriteFault = false
+
 abbrev pub is_budget : End → Bool
 is_budget (the_end.Exit number) = false
 is_budget (the_end.Terminate why) = false
@@ -122,6 +159,7 @@ no_rise kind.SavedSlot h = refl
 no_rise kind.Protected h = refl
 no_rise kind.NotExecutable h = refl
 no_rise kind.FellOff h = refl
+no_rise kind.SpRaised h = refl
 no_rise kind.SpInCleanup h = absurd (cc)
 no_rise kind.StackLimit h = refl
 no_rise kind.BadCallTarget h = refl
@@ -143,6 +181,41 @@ gates_sp (the_end.Trap kind value pc) h = no_rise kind h
 gates_sp the_end.Budget h = refl
 gates_sp the_end.ReadFault h = refl
 gates_sp the_end.WriteFault h = refl
+
+no_raise : (k : TrapKind) → is_gate_kind k ≡ true → is_raise k ≡ false
+no_raise kind.Undefined h = refl
+no_raise kind.Unpredictable h = refl
+no_raise kind.NotInProfile h = refl
+no_raise kind.EvenTarget h = refl
+no_raise kind.Unmapped h = refl
+no_raise kind.Unaligned h = refl
+no_raise kind.ReadOnly h = refl
+no_raise kind.SavedSlot h = refl
+no_raise kind.Protected h = refl
+no_raise kind.NotExecutable h = refl
+no_raise kind.FellOff h = refl
+no_raise kind.SpRaised h = absurd (cc)
+no_raise kind.SpInCleanup h = refl
+no_raise kind.StackLimit h = refl
+no_raise kind.BadCallTarget h = refl
+no_raise kind.UnknownGate h = refl
+no_raise kind.BadObject h = refl
+no_raise kind.BadUcb h = refl
+no_raise kind.TooBig h = refl
+no_raise kind.BadType h = refl
+no_raise kind.CaughtOrder h = refl
+no_raise kind.NoCaught h = refl
+no_raise kind.NoCleanup h = refl
+no_raise kind.CleanupElsewhere h = refl
+no_raise kind.ObjectRead h = refl
+
+pub gates_raised : (end : End) → is_gates end ≡ true → is_raised end ≡ false
+gates_raised (the_end.Exit number) h = refl
+gates_raised (the_end.Terminate why) h = refl
+gates_raised (the_end.Trap kind value pc) h = no_raise kind h
+gates_raised the_end.Budget h = refl
+gates_raised the_end.ReadFault h = refl
+gates_raised the_end.WriteFault h = refl
 
 pub gates_budget : (end : End) → is_gates end ≡ true → is_budget end ≡ false
 gates_budget (the_end.Exit number) h = refl

@@ -52,6 +52,7 @@ is_gate_kind kind.SavedSlot = false
 is_gate_kind kind.Protected = false
 is_gate_kind kind.NotExecutable = false
 is_gate_kind kind.FellOff = false
+is_gate_kind kind.SpRaised = false
 is_gate_kind kind.SpInCleanup = false
 is_gate_kind kind.StackLimit = false
 is_gate_kind kind.BadCallTarget = false

@@ -12,7 +12,7 @@ use Rattle.step_ahead.specs.Ahead.{branches_some}
 use Rattle.step_ahead.proofs.Stored.{step_is}
 use Rattle.thumb_isa.specs.declared.instr.Instr.TheVariants.{Svc}
 use Rattle.thumb_core.specs.Registers.{with_next}
-use Rattle.thumb_core.specs.Step.{instr_at}
+use Rattle.thumb_core.specs.Step.{instr_for}
 use Rattle.thumb_core.specs.declared.regs.TheConstants.{SP}
 use Rattle.thumb_core.specs.declared.regs.Regs.{Regs}
 use Rattle.thumb_core.specs.declared.regs.Stepped.TheVariants.{Gate}
@@ -22,7 +22,7 @@ use Rattle.thumb_core.specs.declared.ends.End.TheVariants as the_end
 use Rattle.eh_gates.specs.declared.state.Turned.TheVariants.{Went, Ended}
 use Rattle.eh_gates.specs.State.{State, Outcome, reg}
 use Rattle.eh_gates.specs.Gates.{gate_of}
-use Rattle.two_machines.specs.Program.{Program, program_tables}
+use Rattle.two_machines.specs.Program.{Program, program_tables, profile_in}
 use Rattle.two_machines.specs.Machine.{sp_end, control_flow_trap, fell_off, goes_after, tests, tested, event_of, in_state, gated, onward, machine_event}
 use Rattle.gate_laws.proofs.Landings.{AfterIn, after_in}
 use Rattle.event_laws.specs.Stack.{Does}
@@ -35,7 +35,7 @@ module _ (p : Program) (s : State) (number next : ℕ) (at : StandsAt p s number
   after = with_next at.size s.regs
 
   pub does : Does p s (Gate number) after s.memory
-  does = record { checked = at.checked; step = step_is s.regs s.memory (Svc number) at.size at.gate; no_trap = λ trap e. absurd (cc) }
+  does = record { checked = at.checked; step = step_is (profile_in p) s.regs s.memory (Svc number) at.size at.gate; no_trap = λ trap e. absurd (cc) }
 
   pub there : after.pc ≡ next
   there = let place = at.place in let is_even = at.is_even in let small = at.small in omega arith
@@ -69,9 +69,11 @@ module _ (p : Program) (s : State) (number next : ℕ) (at : StandsAt p s number
 
   -- ---- or falls off there
 
-  same_sp : (o : Option ℕ) (low pc sp : ℕ) → low ≤ sp → sp_end o low pc sp sp ≡ None
-  same_sp None low pc sp h = rw (le-ltb sp low h) refl
-  same_sp (Some landing) low pc sp h = rw (le-ltb sp sp (omega arith), le-ltb sp low h) refl
+  same_sp : (b : Bool) (o : Option ℕ) (low pc sp : ℕ) → low ≤ sp → sp_end b o low pc sp sp ≡ None
+  same_sp true None low pc sp h = rw (le-ltb sp sp (omega arith), le-ltb sp low h) refl
+  same_sp true (Some landing) low pc sp h = rw (le-ltb sp sp (omega arith), le-ltb sp low h) refl
+  same_sp false None low pc sp h = rw (le-ltb sp low h) refl
+  same_sp false (Some landing) low pc sp h = rw (le-ltb sp sp (omega arith), le-ltb sp low h) refl
 
   falls : (b : Bool) → b ≡ true → (p.look next).is_function ≡ true → cond b (fell_off p s.regs.pc next) None ≡ Some (the_end.Trap kind.FellOff next s.regs.pc)
   falls true e h = rw h refl
@@ -80,9 +82,9 @@ module _ (p : Program) (s : State) (number next : ℕ) (at : StandsAt p s number
   pub falls_there : (input : List ℕ) → goes_after number ≡ true → s.memory.home.0 ≤ reg s 13 → (p.look next).is_function ≡ true
       → machine_event p s input ≡ Ends (the_end.Trap kind.FellOff next s.regs.pc) s
   falls_there input following low starts =
-      let flow_trap : Option End = control_flow_trap p (branches_some (instr_at s.memory s.regs.pc) s.regs) s.regs.pc (Gate number) after in
-      let sp : sp_end (innermost_of (word s.memory) s.globals) s.memory.home.0 s.regs.pc (reg s SP) (slice_index after.r SP) ≡ None =
-      same_sp (innermost_of (word s.memory) s.globals) s.memory.home.0 s.regs.pc (reg s SP) low
+      let flow_trap : Option End = control_flow_trap p (branches_some (instr_for (profile_in p) s.memory s.regs.pc) s.regs) s.regs.pc (Gate number) after in
+      let sp : sp_end (p.look s.regs.pc).lowers (innermost_of (word s.memory) s.globals) s.memory.home.0 s.regs.pc (reg s SP) (slice_index after.r SP) ≡ None =
+      same_sp (p.look s.regs.pc).lowers (innermost_of (word s.memory) s.globals) s.memory.home.0 s.regs.pc (reg s SP) low
       in
       let flow_traps : flow_trap ≡ Some (the_end.Trap kind.FellOff next s.regs.pc) =
       ap (λ (to : ℕ). cond (goes_after number) (fell_off p s.regs.pc to) None) there ∙ falls (goes_after number) following starts

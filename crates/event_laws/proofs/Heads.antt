@@ -5,7 +5,7 @@ use Rattle.eh_bus.specs.Memory.{Memory}
 use Rattle.guest_gates.specs.declared.gates.TheConstants.{EXIT_GATE, OUTPUT_GATE, INPUT_GATE}
 use Rattle.guest_gates.specs.Gates.{gate_event}
 use Rattle.thumb_core.specs.Outcome.{Outcome as Stepping}
-use Rattle.thumb_core.specs.Step.{step_of}
+use Rattle.thumb_core.specs.Step.{step_for}
 use Rattle.thumb_core.specs.declared.regs.Regs.{Regs}
 use Rattle.thumb_core.specs.declared.regs.Stepped.{Stepped}
 use Rattle.thumb_core.specs.declared.regs.Stepped.TheVariants.{Done, Call, Return, Gate, Trap}
@@ -16,7 +16,7 @@ use Rattle.eh_gates.specs.State.{State, Outcome}
 use Rattle.eh_gates.specs.Gates.{gate_of}
 use Rattle.eh_gates.specs.Laws.{AreHeads}
 use Rattle.eh_gates.proofs.Heads.{gate_heads}
-use Rattle.two_machines.specs.Program.{Program, program_tables}
+use Rattle.two_machines.specs.Program.{Program, program_tables, profile_in}
 use Rattle.two_machines.specs.Machine.{Passed, tests, tested, stepped, checked, passed, event_of, in_state, gated, acted, onward, machine_event}
 use Rattle.event_laws.specs.Heads.{state_after, HeadsStayHeads}
 use Rattle.event_laws.proofs.EventEnds.{either}
@@ -41,7 +41,7 @@ module _ (p : Program) (s : State) (heads : AreHeads s.globals) where
   stepped_same (Gate number, regs, m) = tested_same (Gate number) regs m (tests p s (Gate number) regs)
 
   checked_same : (b : Bool) → Same (checked p s b)
-  checked_same true = stepped_same (step_of s.regs s.memory)
+  checked_same true = stepped_same (step_for (profile_in p) s.regs s.memory)
   checked_same false = refl
 
   passed_same : Same (passed p s)

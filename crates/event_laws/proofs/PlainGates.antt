@@ -10,6 +10,7 @@ use Rattle.guest_gates.specs.declared.gates.TheConstants.{EXIT_GATE, OUTPUT_GATE
 use Rattle.guest_gates.specs.Gates.{gate_event, gate_may_fail, gate_fails}
 use Rattle.step_ahead.proofs.Stored.{step_is}
 use Rattle.thumb_isa.specs.declared.instr.Instr.TheVariants.{Svc}
+use Rattle.thumb_isa.specs.declared.profile.Profile.TheVariants.{One}
 use Rattle.thumb_core.specs.Outcome.{Outcome as Stepping}
 use Rattle.thumb_core.specs.Registers.{with_next}
 use Rattle.thumb_core.specs.declared.regs.TheConstants.{SP}
@@ -23,7 +24,7 @@ use Rattle.plain_run.specs.Machine.{flat_event, stepped_event, in_memory, may_fa
 use Rattle.eh_gates.specs.declared.state.Turned.TheVariants.{Ended}
 use Rattle.eh_gates.specs.State.{State, Outcome, reg}
 use Rattle.eh_gates.specs.Gates.{gate_of}
-use Rattle.two_machines.specs.Program.{Program, program_tables}
+use Rattle.two_machines.specs.Program.{Program, program_tables, profile_in}
 use Rattle.two_machines.specs.Machine.{sp_end, fell_off, goes_after, tests, tested, stepped, checked, passed, passed_fails, event_of, in_state, gated, onward, machine_event, may_fail}
 use Rattle.two_machines.specs.Activations.{Recorded, bytes_of, reg_in, memory_of, cleanups_in}
 use Rattle.two_machines.specs.ActivationMachine as acts
@@ -102,9 +103,11 @@ module _ {S : Type 0} (event : List ℕ → Event S End) (may : End → Bool) (s
   }
 
 -- a gate that lets sp as it is passes the tests
-no_sp : (o : Option ℕ) (low pc sp : ℕ) → low ≤ sp → sp_end o low pc sp sp ≡ None
-no_sp None low pc sp h = rw (le-ltb sp low h) refl
-no_sp (Some landing) low pc sp h = rw (le-ltb sp sp (omega arith), le-ltb sp low h) refl
+no_sp : (b : Bool) (o : Option ℕ) (low pc sp : ℕ) → low ≤ sp → sp_end b o low pc sp sp ≡ None
+no_sp true None low pc sp h = rw (le-ltb sp sp (omega arith), le-ltb sp low h) refl
+no_sp true (Some landing) low pc sp h = rw (le-ltb sp sp (omega arith), le-ltb sp low h) refl
+no_sp false None low pc sp h = rw (le-ltb sp low h) refl
+no_sp false (Some landing) low pc sp h = rw (le-ltb sp sp (omega arith), le-ltb sp low h) refl
 
 no_flow_trap : (p : Program) (b : Bool) (pc to : ℕ) → (p.look to).is_function ≡ false → cond b (fell_off p pc to) None ≡ None
 no_flow_trap p true pc to h = rw h refl
@@ -132,8 +135,8 @@ module _ (p : Program) (s : State) (number next : ℕ) (at : StandsAt p s number
 
   no_test : tests p s (Gate number) after_it ≡ None
   no_test =
-      let sp : sp_end (innermost_of (word s.memory) s.globals) s.memory.home.0 s.regs.pc (reg s SP) (slice_index after_it.r SP) ≡ None =
-      no_sp (innermost_of (word s.memory) s.globals) s.memory.home.0 s.regs.pc (reg s SP) low in
+      let sp : sp_end (p.look s.regs.pc).lowers (innermost_of (word s.memory) s.globals) s.memory.home.0 s.regs.pc (reg s SP) (slice_index after_it.r SP) ≡ None =
+      no_sp (p.look s.regs.pc).lowers (innermost_of (word s.memory) s.globals) s.memory.home.0 s.regs.pc (reg s SP) low in
       let flow_trap : cond (goes_after number) (fell_off p s.regs.pc after_it.pc) None ≡ None =
       no_flow_trap p (goes_after number) s.regs.pc after_it.pc (ap (λ (to : ℕ). (p.look to).is_function) (there p s number next at) ∙ plain) in
       ap (λ (o : Option End). option_or o (cond (goes_after number) (fell_off p s.regs.pc after_it.pc) None)) sp ∙ flow_trap
@@ -157,7 +160,7 @@ module _ (p : Program) (s : State) (number next : ℕ) (at : StandsAt p s number
   is_passed : passed p s ≡ tested p s (Gate number) after_it s.memory (tests p s (Gate number) after_it)
   unfolding passed
   is_passed =
-      ap (λ (b : Bool). checked p s b) at.checked ∙ ap (λ (o : Stepping). stepped p s o) (step_is s.regs s.memory (Svc number) at.size at.gate)
+      ap (λ (b : Bool). checked p s b) at.checked ∙ ap (λ (o : Stepping). stepped p s o) (step_is (profile_in p) s.regs s.memory (Svc number) at.size at.gate)
 
   fails_so : (end : End) → may_fail p s end ≡ gate_may_fail number end
   unfolding may_fail
@@ -202,8 +205,8 @@ module _ (p : Program) (s : Recorded) (number next : ℕ) (at : StandsAt p (byte
 
   no_test_too : acts.tests p s (Gate number) after_gate ≡ None
   no_test_too =
-      let sp : sp_end (innermost_in (cleanups_in s.cleanups)) s.home.0 s.regs.pc (reg_in s SP) (slice_index after_gate.r SP) ≡ None =
-      no_sp (innermost_in (cleanups_in s.cleanups)) s.home.0 s.regs.pc (reg_in s SP) low in
+      let sp : sp_end (p.look s.regs.pc).lowers (innermost_in (cleanups_in s.cleanups)) s.home.0 s.regs.pc (reg_in s SP) (slice_index after_gate.r SP) ≡ None =
+      no_sp (p.look s.regs.pc).lowers (innermost_in (cleanups_in s.cleanups)) s.home.0 s.regs.pc (reg_in s SP) low in
       let flow_trap : cond (goes_after number) (fell_off p s.regs.pc after_gate.pc) None ≡ None =
       no_flow_trap p (goes_after number) s.regs.pc after_gate.pc (ap (λ (to : ℕ). (p.look to).is_function) there_too ∙ plain) in
       ap (λ (o : Option End). option_or o (cond (goes_after number) (fell_off p s.regs.pc after_gate.pc) None)) sp ∙ flow_trap
@@ -211,7 +214,7 @@ module _ (p : Program) (s : Recorded) (number next : ℕ) (at : StandsAt p (byte
   passed_too : acts.passed p s ≡ acts.tested p s (Gate number) after_gate (memory_of s) None
   unfolding acts.passed
   passed_too =
-      ap (λ (b : Bool). acts.checked p s b) at.checked ∙ ap (λ (o : Stepping). acts.stepped p s o) (step_is s.regs (memory_of s) (Svc number) at.size at.gate)
+      ap (λ (b : Bool). acts.checked p s b) at.checked ∙ ap (λ (o : Stepping). acts.stepped p s o) (step_is (profile_in p) s.regs (memory_of s) (Svc number) at.size at.gate)
       ∙ ap (λ (o : Option End). acts.tested p s (Gate number) after_gate (memory_of s) o) no_test_too
 
   gated_too : (input : List ℕ) → acts.recorded_event p s input ≡ acts.gated p number s after_gate input
@@ -249,11 +252,11 @@ module _ (s : Raw) (number next : ℕ) (at : StandsInCode s number next) where
 
   plain_in_code : (input : List ℕ) → flat_event s input ≡ in_memory s.memory s.memory (gate_event number s.regs after_code input)
   unfolding flat_event
-  plain_in_code input = ap (λ (o : Stepping). stepped_event o s input) (step_is s.regs s.memory (Svc number) at.size at.gate)
+  plain_in_code input = ap (λ (o : Stepping). stepped_event o s input) (step_is One s.regs s.memory (Svc number) at.size at.gate)
 
   fails_in_code : (end : End) → flat_may_fail s end ≡ gate_may_fail number end
   unfolding flat_may_fail
-  fails_in_code end = ap (λ (o : Stepping). gate_fails o.0 end) (step_is s.regs s.memory (Svc number) at.size at.gate)
+  fails_in_code end = ap (λ (o : Stepping). gate_fails o.0 end) (step_is One s.regs s.memory (Svc number) at.size at.gate)
 
   pub in_code : DoesAsGate (flat_event s) (flat_may_fail s) s (λ regs. record s { regs = regs }) s.regs number next (3 ≤ number)
   in_code =

@@ -3,7 +3,7 @@ use Rattle.std.proofs.Common.{◌≡◌, ℕ, List, [], Option, Some, None, slic
 use Rattle.event_runs.specs.Runs.{Event, Goes}
 use Rattle.eh_bus.specs.Memory.{Memory}
 use Rattle.step_ahead.specs.Ahead.{pushes_some}
-use Rattle.thumb_core.specs.Step.{instr_at}
+use Rattle.thumb_core.specs.Step.{instr_for}
 use Rattle.thumb_core.specs.declared.regs.TheConstants.{SP}
 use Rattle.thumb_core.specs.declared.regs.Regs.{Regs}
 use Rattle.thumb_core.specs.declared.regs.CoreTrap.{CoreTrap}
@@ -12,12 +12,12 @@ use Rattle.thumb_core.specs.declared.regs.Stepped.TheVariants.{Done, Call, Retur
 use Rattle.thumb_core.specs.declared.ends.End.{End}
 use Rattle.eh_gates.specs.State.{State, reg}
 use Rattle.two_machines.specs.Laws.{GuardsAreReleased}
-use Rattle.two_machines.specs.Program.{Program}
+use Rattle.two_machines.specs.Program.{Program, profile_in}
 use Rattle.two_machines.specs.Machine.{reguarded, reguarded_at, tests, tested, acted, onward}
 use Rattle.event_laws.specs.Raises.{LetsGo, RaisesLetGo}
 use Rattle.event_laws.proofs.Stack.{does_is}
 
-module _ (released : GuardsAreReleased) (p : Program) (s t : State) (input text left : List ℕ) (after : Regs) (m : Memory) (nothing : pushes_some (instr_at s.memory s.regs.pc) ≡ 0) where
+module _ (released : GuardsAreReleased) (p : Program) (s t : State) (input text left : List ℕ) (after : Regs) (m : Memory) (nothing : pushes_some (instr_for (profile_in p) s.memory s.regs.pc) ≡ 0) where
   abbrev with_pushes : ℕ → State
   with_pushes count = record s { regs = after; memory = reguarded (p.look s.regs.pc).saves count (reg s SP) (slice_index after.r SP) m }
 

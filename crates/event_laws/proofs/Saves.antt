@@ -19,7 +19,7 @@ use Rattle.thumb_core.specs.Access.{store_end}
 use Rattle.thumb_core.specs.Lists.{words_of, bytes_of}
 use Rattle.thumb_core.specs.Outcome.{Outcome as Stepping}
 use Rattle.thumb_core.specs.Registers.{with_reg, with_next}
-use Rattle.thumb_core.specs.Step.{step_of, instr_at}
+use Rattle.thumb_core.specs.Step.{step_for, instr_for}
 use Rattle.thumb_core.specs.Words.{listed}
 use Rattle.thumb_core.specs.declared.regs.TheConstants.{SP}
 use Rattle.thumb_core.specs.declared.regs.Regs.{Regs}
@@ -28,7 +28,7 @@ use Rattle.thumb_core.specs.declared.ends.TrapKind.TheVariants as kind
 use Rattle.thumb_core.specs.declared.ends.End.{End}
 use Rattle.thumb_core.specs.declared.ends.End.TheVariants as the_end
 use Rattle.eh_gates.specs.State.{State, reg}
-use Rattle.two_machines.specs.Program.{Program}
+use Rattle.two_machines.specs.Program.{Program, profile_in}
 use Rattle.two_machines.specs.Machine.{saved_words, reguarded, reguarded_at, tests, tested, stepped, checked, passed, onward, machine_event}
 use Rattle.event_laws.specs.Saves.{IsSave, PushesGuardTheirSaves}
 use Rattle.event_laws.specs.Refused.{RefusedStoresEnd}
@@ -103,14 +103,14 @@ reguarded_guards saves list before sp m low g =
 
 -- ---- the event of a PUSH
 
-module _ (p : Program) (s t : State) (input text left : List ℕ) (list size g : ℕ) (stands : instr_at s.memory s.regs.pc ≡ Some (Push list, size)) where
+module _ (p : Program) (s t : State) (input text left : List ℕ) (list size g : ℕ) (stands : instr_for (profile_in p) s.memory s.regs.pc ≡ Some (Push list, size)) where
   abbrev start : ℕ
   start = (reg s SP + (2 ^ 32 - bytes_of list)) % 2 ^ 32
 
   abbrev Guarded : State → Type 0
   Guarded u = reg u 13 ≤ reg s 13 → Has u.memory.guards g ↔ (Has s.memory.guards g ⊎ IsSave (p.look s.regs.pc).saves list (reg u 13) g)
 
-  counted : pushes_some (instr_at s.memory s.regs.pc) ≡ length (listed list)
+  counted : pushes_some (instr_for (profile_in p) s.memory s.regs.pc) ≡ length (listed list)
   counted = ap pushes_some stands
 
   guarded : (regs : Regs) (m : Memory) → store_run s.memory start (words_of list s.regs) ≡ (Ok tt, m) → Guarded (record s { regs = regs; memory = reguarded_at p s regs m })
@@ -139,7 +139,7 @@ module _ (p : Program) (s t : State) (input text left : List ℕ) (list size g :
   from_check false f = absurd (cc)
   from_check true f =
       from_store (store_run s.memory start (words_of list s.regs)) refl
-      (sym (ap (λ (o : Stepping). onward p s (stepped p s o) input) (step_is s.regs s.memory (Push list) size stands)) ∙ f)
+      (sym (ap (λ (o : Stepping). onward p s (stepped p s o) input) (step_is (profile_in p) s.regs s.memory (Push list) size stands)) ∙ f)
 
   pub push_guards : machine_event p s input ≡ Goes t text left → Guarded t
   unfolding machine_event passed
@@ -151,7 +151,7 @@ guard_their_saves p s t input text left list size g stands goes low = push_guard
 -- ---- stores of several words that are refused
 
 module _ (p : Program) (s : State) (input : List ℕ) (g : ℕ) (is : (p.look s.regs.pc).is_instr ≡ true) where
-  refused_by : (size : ℕ) (after : Regs) (at : ℕ) (words : List ℕ) → step_of s.regs s.memory ≡ store_end (store_run s.memory at words) size s.regs after
+  refused_by : (size : ℕ) (after : Regs) (at : ℕ) (words : List ℕ) → step_for (profile_in p) s.regs s.memory ≡ store_end (store_run s.memory at words) size s.regs after
       → store_run s.memory at words ≡ (Err (SavedSlot g), s.memory) → machine_event p s input ≡ Ends (the_end.Trap kind.SavedSlot g s.regs.pc) s
   unfolding machine_event passed
   refused_by size after at words step fault =
@@ -162,7 +162,7 @@ pub refused_end : RefusedStoresEnd
 refused_end p s input size list g is = record {
   push = λ stands fault.
       let start = (reg s SP + (2 ^ 32 - bytes_of list)) % 2 ^ 32 in
-      refused_by p s input g is size (with_reg s.regs SP start) start (words_of list s.regs) (step_is s.regs s.memory (Push list) size stands) fault;
+      refused_by p s input g is size (with_reg s.regs SP start) start (words_of list s.regs) (step_is (profile_in p) s.regs s.memory (Push list) size stands) fault;
   stm = λ n stands fault.
-      refused_by p s input g is size (with_reg s.regs n (reg s n + bytes_of list)) (reg s n) (words_of list s.regs) (step_is s.regs s.memory (Stm n list) size stands) fault;
+      refused_by p s input g is size (with_reg s.regs n (reg s n + bytes_of list)) (reg s n) (words_of list s.regs) (step_is (profile_in p) s.regs s.memory (Stm n list) size stands) fault;
 }

@@ -10,7 +10,7 @@ use Rattle.eh_cxa.specs.Cleanup.{innermost_of, innermost_at}
 use Rattle.step_ahead.specs.Ahead.{branches_some}
 use Rattle.guest_gates.specs.Ends.{trap_end}
 use Rattle.thumb_core.specs.Outcome.{Outcome as Stepping}
-use Rattle.thumb_core.specs.Step.{step_of, instr_at}
+use Rattle.thumb_core.specs.Step.{step_for, instr_for}
 use Rattle.thumb_core.specs.declared.regs.TheConstants.{SP}
 use Rattle.thumb_core.specs.declared.regs.Regs.{Regs}
 use Rattle.thumb_core.specs.declared.regs.CoreTrap.{CoreTrap}
@@ -21,7 +21,7 @@ use Rattle.thumb_core.specs.declared.ends.TrapKind.TheVariants as kind
 use Rattle.thumb_core.specs.declared.ends.End.{End}
 use Rattle.thumb_core.specs.declared.ends.End.TheVariants as the_end
 use Rattle.eh_gates.specs.State.{State, reg}
-use Rattle.two_machines.specs.Program.{Program}
+use Rattle.two_machines.specs.Program.{Program, profile_in}
 use Rattle.two_machines.specs.Machine.{sp_end, fell_off, control_flow_trap, tests, tested, stepped, checked, passed, acted, onward, reguarded_at, machine_event}
 use Rattle.event_laws.specs.Stack.{Does}
 use Rattle.event_laws.specs.Tests.{StaysOnStack, branches_at, GoesOnWith, trap_of, TestsEndSo, EventsGoOn}
@@ -36,59 +36,64 @@ module _ (p : Program) (s : State) (input : List ℕ) where
   inner = innermost_of (word s.memory) s.globals
 
   abbrev flow_trap : Stepped → Regs → Option End
-  flow_trap what after = control_flow_trap p (branches_some (instr_at s.memory s.regs.pc) s.regs) s.regs.pc what after
+  flow_trap what after = control_flow_trap p (branches_some (instr_for (profile_in p) s.memory s.regs.pc) s.regs) s.regs.pc what after
 
   -- an event ends as its tests do
   ends : (what : Stepped) (after : Regs) (m : Memory) (end : End) → Does p s what after m → tests p s what after ≡ Some end → machine_event p s input ≡ Ends end s
   ends what after m end d is = does_is p s input what after m d ∙ ap (λ (o : Option End). onward p s (tested p s what after m o) input) is
 
-  falls : (o : Option ℕ) (low pc old new : ℕ) → new ≤ old → new < low → sp_end o low pc old new ≡ Some (the_end.Trap kind.StackLimit new pc)
-  falls None low pc old new f h = rw (lt-ltb new low h) refl
-  falls (Some landing) low pc old new f h = rw (le-ltb old new f, lt-ltb new low h) refl
+  falls : (b : Bool) (o : Option ℕ) (low pc old new : ℕ) → new ≤ old → new < low → sp_end b o low pc old new ≡ Some (the_end.Trap kind.StackLimit new pc)
+  falls true None low pc old new f h = rw (le-ltb old new f, lt-ltb new low h) refl
+  falls true (Some landing) low pc old new f h = rw (le-ltb old new f, lt-ltb new low h) refl
+  falls false None low pc old new f h = rw (lt-ltb new low h) refl
+  falls false (Some landing) low pc old new f h = rw (le-ltb old new f, lt-ltb new low h) refl
 
-  stays : (o : Option ℕ) (low pc old new : ℕ) → new ≤ old → low ≤ new → sp_end o low pc old new ≡ None
-  stays None low pc old new f h = rw (le-ltb new low h) refl
-  stays (Some landing) low pc old new f h = rw (le-ltb old new f, le-ltb new low h) refl
+  stays : (b : Bool) (o : Option ℕ) (low pc old new : ℕ) → new ≤ old → low ≤ new → sp_end b o low pc old new ≡ None
+  stays true None low pc old new f h = rw (le-ltb old new f, le-ltb new low h) refl
+  stays true (Some landing) low pc old new f h = rw (le-ltb old new f, le-ltb new low h) refl
+  stays false None low pc old new f h = rw (le-ltb new low h) refl
+  stays false (Some landing) low pc old new f h = rw (le-ltb old new f, le-ltb new low h) refl
 
   low : (what : Stepped) (after : Regs) (m : Memory) → Does p s what after m → slice_index after.r 13 ≤ reg s 13 → slice_index after.r 13 < s.memory.home.0
       → machine_event p s input ≡ Ends (the_end.Trap kind.StackLimit (slice_index after.r 13) s.regs.pc) s
   low what after m d f h =
       ends what after m (the_end.Trap kind.StackLimit (slice_index after.r 13) s.regs.pc) d
-      (ap (λ (o : Option End). option_or o (flow_trap what after)) (falls inner s.memory.home.0 s.regs.pc (reg s SP) (slice_index after.r SP) f h))
+      (ap (λ (o : Option End). option_or o (flow_trap what after)) (falls (p.look s.regs.pc).lowers inner s.memory.home.0 s.regs.pc (reg s SP) (slice_index after.r SP) f h))
 
   nowhere : (target ret : ℕ) (after : Regs) (m : Memory) → Does p s (Call target ret) after m → slice_index after.r 13 ≡ reg s 13 → s.memory.home.0 ≤ reg s 13
       → (p.look target).is_function ≡ false → machine_event p s input ≡ Ends (the_end.Trap kind.BadCallTarget target s.regs.pc) s
   nowhere target ret after m d same high none =
       ends (Call target ret) after m (the_end.Trap kind.BadCallTarget target s.regs.pc) d
-      (ap (λ (o : Option End). option_or o (flow_trap (Call target ret) after)) (stays inner s.memory.home.0 s.regs.pc (reg s SP) (slice_index after.r SP) (omega (arith, same)) (omega (arith, same, high)))
+      (ap (λ (o : Option End). option_or o (flow_trap (Call target ret) after)) (stays (p.look s.regs.pc).lowers inner s.memory.home.0 s.regs.pc (reg s SP) (slice_index after.r SP) (omega (arith, same)) (omega (arith, same, high)))
       ∙ ap (λ (b : Bool). cond b None (Some (the_end.Trap kind.BadCallTarget target s.regs.pc))) none)
 
-  -- no cleanup is in progress
-  no_landing : (o : Option ℕ) (low pc old new : ℕ) → o ≡ None → low ≤ new → sp_end o low pc old new ≡ None
-  no_landing None low pc old new e h = rw (le-ltb new low h) refl
-  no_landing (Some landing) low pc old new e h = absurd (cc)
+  -- no cleanup is in progress, and this is no lowering place
+  no_landing : (b : Bool) (o : Option ℕ) (low pc old new : ℕ) → b ≡ false → o ≡ None → low ≤ new → sp_end b o low pc old new ≡ None
+  no_landing true o low pc old new f e h = absurd (cc)
+  no_landing false None low pc old new f e h = rw (le-ltb new low h) refl
+  no_landing false (Some landing) low pc old new f e h = absurd (cc)
 
-  exits : (after : Regs) (m : Memory) → Does p s (Return 0xFFFFFFFF) after m → block_slot s.globals.cleanup ≡ None → s.memory.home.0 ≤ slice_index after.r 13
+  exits : (after : Regs) (m : Memory) → Does p s (Return 0xFFFFFFFF) after m → (p.look s.regs.pc).lowers ≡ false → block_slot s.globals.cleanup ≡ None → s.memory.home.0 ≤ slice_index after.r 13
       → machine_event p s input ≡ Ends (the_end.Exit (slice_index after.r 0)) s
-  exits after m d none high =
+  exits after m d plain none high =
       ends (Return 0xFFFFFFFF) after m (the_end.Exit (slice_index after.r 0)) d
       (ap (λ (o : Option End). option_or o (flow_trap (Return 0xFFFFFFFF) after))
-      (no_landing inner s.memory.home.0 s.regs.pc (reg s SP) (slice_index after.r SP) (ap (innermost_at (word s.memory)) none) high))
+      (no_landing (p.look s.regs.pc).lowers inner s.memory.home.0 s.regs.pc (reg s SP) (slice_index after.r SP) plain (ap (innermost_at (word s.memory)) none) high))
 
-  back : (to : ℕ) (after : Regs) (m : Memory) → Does p s (Return to) after m → to ≢ 0xFFFFFFFF → block_slot s.globals.cleanup ≡ None → s.memory.home.0 ≤ slice_index after.r 13
+  back : (to : ℕ) (after : Regs) (m : Memory) → Does p s (Return to) after m → (p.look s.regs.pc).lowers ≡ false → to ≢ 0xFFFFFFFF → block_slot s.globals.cleanup ≡ None → s.memory.home.0 ≤ slice_index after.r 13
       → (p.look after.pc).is_function ≡ true → machine_event p s input ≡ Ends (the_end.Trap kind.FellOff after.pc s.regs.pc) s
-  back to after m d other none high begins =
+  back to after m d plain other none high begins =
       ends (Return to) after m (the_end.Trap kind.FellOff after.pc s.regs.pc) d
       (ap (λ (o : Option End). option_or o (flow_trap (Return to) after))
-      (no_landing inner s.memory.home.0 s.regs.pc (reg s SP) (slice_index after.r SP) (ap (innermost_at (word s.memory)) none) high)
+      (no_landing (p.look s.regs.pc).lowers inner s.memory.home.0 s.regs.pc (reg s SP) (slice_index after.r SP) plain (ap (innermost_at (word s.memory)) none) high)
       ∙ ap (λ (b : Bool). cond b (Some (the_end.Exit (slice_index after.r 0))) (fell_off p s.regs.pc after.pc)) (ne_eqb to 0xFFFFFFFF other)
       ∙ ap (λ (b : Bool). cond b (Some (the_end.Trap kind.FellOff after.pc s.regs.pc)) None) begins)
 
   -- sp stays on the stack, and the rest is where the run goes on
   by_flow : (what : Stepped) (after : Regs) → StaysOnStack s after → tests p s what after ≡ flow_trap what after
-  by_flow what after on = ap (λ (o : Option End). option_or o (flow_trap what after)) (stays inner s.memory.home.0 s.regs.pc (reg s SP) (slice_index after.r SP) on.no_rise on.above)
+  by_flow what after on = ap (λ (o : Option End). option_or o (flow_trap what after)) (stays (p.look s.regs.pc).lowers inner s.memory.home.0 s.regs.pc (reg s SP) (slice_index after.r SP) on.no_rise on.above)
 
-  past : (after : Regs) (m : Memory) → Does p s Done after m → StaysOnStack s after → branches_at s ≡ false → (p.look after.pc).is_function ≡ true
+  past : (after : Regs) (m : Memory) → Does p s Done after m → StaysOnStack s after → branches_at p s ≡ false → (p.look after.pc).is_function ≡ true
       → machine_event p s input ≡ Ends (the_end.Trap kind.FellOff after.pc s.regs.pc) s
   past after m d on straight begins =
       ends Done after m (the_end.Trap kind.FellOff after.pc s.regs.pc) d
@@ -108,7 +113,7 @@ module _ (p : Program) (s : State) (input : List ℕ) where
   same_trap (core.Memory (bus.Protected a)) pc = refl
   same_trap (core.Memory (bus.NotExecutable a)) pc = refl
 
-  traps : (trap : CoreTrap) (after : Regs) (m : Memory) → (p.look s.regs.pc).is_instr ≡ true → step_of s.regs s.memory ≡ (Trap trap, after, m)
+  traps : (trap : CoreTrap) (after : Regs) (m : Memory) → (p.look s.regs.pc).is_instr ≡ true → step_for (profile_in p) s.regs s.memory ≡ (Trap trap, after, m)
       → machine_event p s input ≡ Ends (trap_of trap s.regs.pc) s
   unfolding machine_event passed
   traps trap after m reached step =
@@ -132,7 +137,7 @@ module _ (p : Program) (s : State) (input : List ℕ) where
     events = refl;
   }
 
-  next : (after : Regs) (m : Memory) → Does p s Done after m → StaysOnStack s after → branches_at s ≡ false → (p.look after.pc).is_function ≡ false → GoesOnWith p s input after
+  next : (after : Regs) (m : Memory) → Does p s Done after m → StaysOnStack s after → branches_at p s ≡ false → (p.look after.pc).is_function ≡ false → GoesOnWith p s input after
   next after m d on straight none =
       goes Done after m d
       (by_flow Done after on
@@ -140,7 +145,7 @@ module _ (p : Program) (s : State) (input : List ℕ) where
       ∙ ap (λ (b : Bool). cond b (Some (the_end.Trap kind.FellOff after.pc s.regs.pc)) None) none)
       refl
 
-  jumps : (after : Regs) (m : Memory) → Does p s Done after m → StaysOnStack s after → branches_at s ≡ true → GoesOnWith p s input after
+  jumps : (after : Regs) (m : Memory) → Does p s Done after m → StaysOnStack s after → branches_at p s ≡ true → GoesOnWith p s input after
   jumps after m d on branches =
       goes Done after m d (by_flow Done after on ∙ ap (λ (b : Bool). cond b None (fell_off p s.regs.pc after.pc)) branches) refl
 
@@ -149,12 +154,12 @@ module _ (p : Program) (s : State) (input : List ℕ) where
       goes (Call target ret) after m d
       (by_flow (Call target ret) after on ∙ ap (λ (b : Bool). cond b None (Some (the_end.Trap kind.BadCallTarget target s.regs.pc))) begins) refl
 
-  returns : (to : ℕ) (after : Regs) (m : Memory) → Does p s (Return to) after m → to ≢ 0xFFFFFFFF → block_slot s.globals.cleanup ≡ None → s.memory.home.0 ≤ slice_index after.r 13
+  returns : (to : ℕ) (after : Regs) (m : Memory) → Does p s (Return to) after m → (p.look s.regs.pc).lowers ≡ false → to ≢ 0xFFFFFFFF → block_slot s.globals.cleanup ≡ None → s.memory.home.0 ≤ slice_index after.r 13
       → (p.look after.pc).is_function ≡ false → GoesOnWith p s input after
-  returns to after m d other none high ends_none =
+  returns to after m d plain other none high ends_none =
       goes (Return to) after m d
       (ap (λ (o : Option End). option_or o (flow_trap (Return to) after))
-      (no_landing inner s.memory.home.0 s.regs.pc (reg s SP) (slice_index after.r SP) (ap (innermost_at (word s.memory)) none) high)
+      (no_landing (p.look s.regs.pc).lowers inner s.memory.home.0 s.regs.pc (reg s SP) (slice_index after.r SP) plain (ap (innermost_at (word s.memory)) none) high)
       ∙ ap (λ (b : Bool). cond b (Some (the_end.Exit (slice_index after.r 0))) (fell_off p s.regs.pc after.pc)) (ne_eqb to 0xFFFFFFFF other)
       ∙ ap (λ (b : Bool). cond b (Some (the_end.Trap kind.FellOff after.pc s.regs.pc)) None) ends_none)
       refl

@@ -3,18 +3,18 @@ use Rattle.std.specs.Prelude.{◌≡◌, ◌≢◌, ℕ, ◌+◌, ◌%◌, ◌^�
 use Rattle.event_runs.specs.Runs.{Goes, Ends}
 use Rattle.eh_bus.specs.Lists.{Has}
 use Rattle.thumb_isa.specs.declared.instr.Instr.TheVariants.{Svc}
-use Rattle.thumb_core.specs.Step.{instr_at}
+use Rattle.thumb_core.specs.Step.{instr_for}
 use Rattle.thumb_core.specs.declared.ends.TrapKind.TheVariants as kind
 use Rattle.thumb_core.specs.declared.ends.End.TheVariants as the_end
 use Rattle.eh_gates.specs.State.{State, reg}
-use Rattle.two_machines.specs.Program.{Program}
+use Rattle.two_machines.specs.Program.{Program, profile_in}
 use Rattle.two_machines.specs.Machine.{machine_event}
 
 -- a checked gate stands at pc, and the instruction after it at `next`
 pub record StandsAt (p : Program) (s : State) (number next : ℕ) : Type 0 where
   pub checked : (p.look s.regs.pc).is_instr ≡ true
   pub size : ℕ
-  pub gate : instr_at s.memory s.regs.pc ≡ Some (Svc number, size)
+  pub gate : instr_for (profile_in p) s.memory s.regs.pc ≡ Some (Svc number, size)
   pub place : next ≡ s.regs.pc + size
   pub is_even : next % 2 ≡ 0
   pub small : next < 2 ^ 32

@@ -4,12 +4,12 @@ use Rattle.event_runs.specs.Runs.{Goes}
 use Rattle.eh_bus.specs.Lists.{Has}
 use Rattle.eh_bus.specs.Memory.{Memory}
 use Rattle.step_ahead.specs.Ahead.{pushes_some}
-use Rattle.thumb_core.specs.Step.{instr_at}
+use Rattle.thumb_core.specs.Step.{instr_for}
 use Rattle.thumb_core.specs.declared.regs.Regs.{Regs}
 use Rattle.thumb_core.specs.declared.regs.Stepped.{Stepped}
 use Rattle.thumb_core.specs.declared.regs.Stepped.TheVariants.{Gate}
 use Rattle.eh_gates.specs.State.{State, reg}
-use Rattle.two_machines.specs.Program.{Program}
+use Rattle.two_machines.specs.Program.{Program, profile_in}
 use Rattle.two_machines.specs.Machine.{machine_event}
 use Rattle.event_laws.specs.Stack.{Does}
 
@@ -24,4 +24,4 @@ pub record LetsGo (s t : State) (m : Memory) : Type 0 where
 abbrev pub RaisesLetGo : Type 0
 RaisesLetGo =
     (p : Program) (s t : State) (input text left : List ℕ) (what : Stepped) (after : Regs) (m : Memory) → Does p s what after m → ((number : ℕ) → what ≡ Gate number → ⊥)
-    → pushes_some (instr_at s.memory s.regs.pc) ≡ 0 → machine_event p s input ≡ Goes t text left → LetsGo s t m
+    → pushes_some (instr_for (profile_in p) s.memory s.regs.pc) ≡ 0 → machine_event p s input ≡ Goes t text left → LetsGo s t m

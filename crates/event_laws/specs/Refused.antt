@@ -4,25 +4,25 @@ use Rattle.event_runs.specs.Runs.{Ends}
 use Rattle.eh_bus.specs.Memory.{store_run}
 use Rattle.eh_bus.specs.declared.fault.BusFault.TheVariants.{SavedSlot}
 use Rattle.thumb_isa.specs.declared.instr.Instr.TheVariants.{Push, Stm}
-use Rattle.thumb_core.specs.Step.{instr_at}
+use Rattle.thumb_core.specs.Step.{instr_for}
 use Rattle.thumb_core.specs.Lists.{words_of}
 use Rattle.thumb_core.specs.Words.{listed}
 use Rattle.thumb_core.specs.declared.ends.TrapKind.TheVariants as kind
 use Rattle.thumb_core.specs.declared.ends.End.TheVariants as the_end
 use Rattle.eh_gates.specs.State.{State, reg}
-use Rattle.two_machines.specs.Program.{Program}
+use Rattle.two_machines.specs.Program.{Program, profile_in}
 use Rattle.two_machines.specs.Machine.{machine_event}
 
 -- by SavedSlot with the word that refused it, and leaves the state as it was
 pub record RefusalsEnd (p : Program) (s : State) (input : List ℕ) (size list g : ℕ) : Type 0 where
   -- the registers of a PUSH go to the words below sp
   pub push :
-      instr_at s.memory s.regs.pc ≡ Some (Push list, size)
+      instr_for (profile_in p) s.memory s.regs.pc ≡ Some (Push list, size)
       → store_run s.memory ((reg s 13 + (2 ^ 32 - 4 * length (listed list))) % 2 ^ 32) (words_of list s.regs) ≡ (Err (SavedSlot g), s.memory)
       → machine_event p s input ≡ Ends (the_end.Trap kind.SavedSlot g s.regs.pc) s
   -- those of an STM to the words from its base register on
   pub stm :
-      (n : ℕ) → instr_at s.memory s.regs.pc ≡ Some (Stm n list, size) → store_run s.memory (reg s n) (words_of list s.regs) ≡ (Err (SavedSlot g), s.memory)
+      (n : ℕ) → instr_for (profile_in p) s.memory s.regs.pc ≡ Some (Stm n list, size) → store_run s.memory (reg s n) (words_of list s.regs) ≡ (Err (SavedSlot g), s.memory)
       → machine_event p s input ≡ Ends (the_end.Trap kind.SavedSlot g s.regs.pc) s
 
 abbrev pub RefusedStoresEnd : Type 0

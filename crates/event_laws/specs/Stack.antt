@@ -1,9 +1,9 @@
--- sp above the landing sp of a cleanup in progress (docs/machine.md, "An event").
-use Rattle.std.specs.Prelude.{◌≡◌, ℕ, ◌<◌, true, List, slice_index, Some}
+-- The tests of sp: at a lowering place, and above the landing sp of a cleanup in progress (docs/machine.md, "An event").
+use Rattle.std.specs.Prelude.{◌≡◌, ℕ, ◌<◌, true, false, List, slice_index, Some}
 use Rattle.event_runs.specs.Runs.{Ends}
 use Rattle.eh_bus.specs.Memory.{Memory}
 use Rattle.eh_cxa.specs.Words.{word, block_slot}
-use Rattle.thumb_core.specs.Step.{step_of}
+use Rattle.thumb_core.specs.Step.{step_for}
 use Rattle.thumb_core.specs.declared.regs.Regs.{Regs}
 use Rattle.thumb_core.specs.declared.regs.CoreTrap.{CoreTrap}
 use Rattle.thumb_core.specs.declared.regs.Stepped.{Stepped}
@@ -11,14 +11,39 @@ use Rattle.thumb_core.specs.declared.regs.Stepped.TheVariants.{Trap}
 use Rattle.thumb_core.specs.declared.ends.TrapKind.TheVariants as kind
 use Rattle.thumb_core.specs.declared.ends.End.TheVariants as the_end
 use Rattle.eh_gates.specs.State.{State, reg}
-use Rattle.two_machines.specs.Program.{Program}
+use Rattle.two_machines.specs.Program.{Program, profile_in}
 use Rattle.two_machines.specs.Machine.{machine_event}
 
 -- a checked instruction does something that is no trap
 pub record Does (p : Program) (s : State) (what : Stepped) (after : Regs) (m : Memory) : Type 0 where
   pub checked : (p.look s.regs.pc).is_instr ≡ true
-  pub step : step_of s.regs s.memory ≡ (what, after, m)
+  pub step : step_for (profile_in p) s.regs s.memory ≡ (what, after, m)
   pub no_trap : (trap : CoreTrap) → what ≡ Trap trap → ⊥
+
+-- ---- at a lowering place
+
+-- sp (r13) rises there
+pub record RisesThere (p : Program) (s : State) (after : Regs) : Type 0 where
+  pub lowers : (p.look s.regs.pc).lowers ≡ true
+  pub rises : reg s 13 < slice_index after.r 13
+
+-- then the event is SpRaised with the new sp, whatever cleanup is in progress and wherever the stack ends, and leaves the state
+abbrev pub LoweringsNeverRaise : Type 0
+LoweringsNeverRaise =
+    (p : Program) (s : State) (input : List ℕ) (what : Stepped) (after : Regs) (m : Memory) → Does p s what after m → RisesThere p s after
+    → machine_event p s input ≡ Ends (the_end.Trap kind.SpRaised (slice_index after.r 13) s.regs.pc) s
+
+-- and only then: not at any other place, and not where sp stays or falls
+pub record IsRaised (p : Program) (s : State) (after : Regs) (value : ℕ) : Type 0 where
+  pub rises : RisesThere p s after
+  pub is_value : value ≡ slice_index after.r 13
+
+abbrev pub OnlyLoweringsAreRaised : Type 0
+OnlyLoweringsAreRaised =
+    (p : Program) (s t : State) (input : List ℕ) (what : Stepped) (after : Regs) (m : Memory) (value pc : ℕ) → Does p s what after m
+    → machine_event p s input ≡ Ends (the_end.Trap kind.SpRaised value pc) t → IsRaised p s after value
+
+-- ---- above the landing sp of a cleanup in progress
 
 -- the innermost cleanup in progress, by word 25 of its slot, was entered with this sp
 pub record IsInnermost (s : State) (landing : ℕ) : Type 0 where
@@ -31,14 +56,16 @@ pub record RisesAbove (s : State) (after : Regs) (landing : ℕ) : Type 0 where
   pub rises : reg s 13 < slice_index after.r 13
   pub above : landing < slice_index after.r 13
 
--- then the event is SpInCleanup with the new sp, and leaves the state
+-- then the event is SpInCleanup with the new sp, and leaves the state, but at a lowering place, where it is SpRaised
 abbrev pub RisesAreRefused : Type 0
 RisesAreRefused =
-    (p : Program) (s : State) (input : List ℕ) (what : Stepped) (after : Regs) (m : Memory) (landing : ℕ) → Does p s what after m → IsInnermost s landing
-    → RisesAbove s after landing → machine_event p s input ≡ Ends (the_end.Trap kind.SpInCleanup (slice_index after.r 13) s.regs.pc) s
+    (p : Program) (s : State) (input : List ℕ) (what : Stepped) (after : Regs) (m : Memory) (landing : ℕ) → Does p s what after m
+    → (p.look s.regs.pc).lowers ≡ false → IsInnermost s landing → RisesAbove s after landing
+    → machine_event p s input ≡ Ends (the_end.Trap kind.SpInCleanup (slice_index after.r 13) s.regs.pc) s
 
--- and only then: not where sp rises to the landing sp or stays below it
-pub record IsRefused (s : State) (after : Regs) (value : ℕ) : Type 0 where
+-- and only then: not where sp rises to the landing sp or stays below it, and not at a lowering place
+pub record IsRefused (p : Program) (s : State) (after : Regs) (value : ℕ) : Type 0 where
+  pub plain : (p.look s.regs.pc).lowers ≡ false
   pub landing : ℕ
   pub innermost : IsInnermost s landing
   pub rises : RisesAbove s after landing
@@ -47,4 +74,4 @@ pub record IsRefused (s : State) (after : Regs) (value : ℕ) : Type 0 where
 abbrev pub OnlyRisesAreRefused : Type 0
 OnlyRisesAreRefused =
     (p : Program) (s t : State) (input : List ℕ) (what : Stepped) (after : Regs) (m : Memory) (value pc : ℕ) → Does p s what after m
-    → machine_event p s input ≡ Ends (the_end.Trap kind.SpInCleanup value pc) t → IsRefused s after value
+    → machine_event p s input ≡ Ends (the_end.Trap kind.SpInCleanup value pc) t → IsRefused p s after value

@@ -5,7 +5,7 @@ use Rattle.eh_bus.specs.Memory.{Memory}
 use Rattle.eh_bus.specs.declared.fault.BusFault.TheVariants as bus
 use Rattle.eh_cxa.specs.Words.{block_slot}
 use Rattle.step_ahead.specs.Ahead.{branches_some}
-use Rattle.thumb_core.specs.Step.{step_of, instr_at}
+use Rattle.thumb_core.specs.Step.{step_for, instr_for}
 use Rattle.thumb_core.specs.declared.regs.Regs.{Regs}
 use Rattle.thumb_core.specs.declared.regs.CoreTrap.{CoreTrap}
 use Rattle.thumb_core.specs.declared.regs.CoreTrap.TheVariants as core
@@ -15,7 +15,7 @@ use Rattle.thumb_core.specs.declared.ends.TrapKind.TheVariants as kind
 use Rattle.thumb_core.specs.declared.ends.End.{End}
 use Rattle.thumb_core.specs.declared.ends.End.TheVariants as the_end
 use Rattle.eh_gates.specs.State.{State, reg}
-use Rattle.two_machines.specs.Program.{Program}
+use Rattle.two_machines.specs.Program.{Program, profile_in}
 use Rattle.two_machines.specs.Machine.{machine_event}
 use Rattle.event_laws.specs.Stack.{Does}
 
@@ -25,8 +25,8 @@ pub record StaysOnStack (s : State) (after : Regs) : Type 0 where
   pub above : s.memory.home.0 ≤ slice_index after.r 13
 
 -- whether the instruction at pc takes a branch of its own
-abbrev pub branches_at : State → Bool
-branches_at s = branches_some (instr_at s.memory s.regs.pc) s.regs
+abbrev pub branches_at : Program → State → Bool
+branches_at p s = branches_some (instr_for (profile_in p) s.memory s.regs.pc) s.regs
 
 -- the event goes on with these registers, writes nothing and takes nothing of the input; what is kept of exceptions and of events stays
 pub record GoesOnWith (p : Program) (s : State) (input : List ℕ) (after : Regs) : Type 0 where
@@ -61,36 +61,39 @@ pub record EndsByTests (p : Program) (s : State) (input : List ℕ) : Type 0 whe
   pub nowhere :
       (target ret : ℕ) (after : Regs) (m : Memory) → Does p s (Call target ret) after m → slice_index after.r 13 ≡ reg s 13 → s.memory.home.0 ≤ reg s 13
       → (p.look target).is_function ≡ false → machine_event p s input ≡ Ends (the_end.Trap kind.BadCallTarget target s.regs.pc) s
-  -- a return to FFFFFFFF, with no cleanup in progress, exits with r0
+  -- a return to FFFFFFFF, with no cleanup in progress, exits with r0; at a lowering place no return stands
   pub exits :
-      (after : Regs) (m : Memory) → Does p s (Return 0xFFFFFFFF) after m → block_slot s.globals.cleanup ≡ None → s.memory.home.0 ≤ slice_index after.r 13
+      (after : Regs) (m : Memory) → Does p s (Return 0xFFFFFFFF) after m → (p.look s.regs.pc).lowers ≡ false
+      → block_slot s.globals.cleanup ≡ None → s.memory.home.0 ≤ slice_index after.r 13
       → machine_event p s input ≡ Ends (the_end.Exit (slice_index after.r 0)) s
   -- any other return, with no cleanup in progress, to where a function begins
   pub back :
-      (to : ℕ) (after : Regs) (m : Memory) → Does p s (Return to) after m → to ≢ 0xFFFFFFFF → block_slot s.globals.cleanup ≡ None → s.memory.home.0 ≤ slice_index after.r 13
+      (to : ℕ) (after : Regs) (m : Memory) → Does p s (Return to) after m → (p.look s.regs.pc).lowers ≡ false → to ≢ 0xFFFFFFFF
+      → block_slot s.globals.cleanup ≡ None → s.memory.home.0 ≤ slice_index after.r 13
       → (p.look after.pc).is_function ≡ true → machine_event p s input ≡ Ends (the_end.Trap kind.FellOff after.pc s.regs.pc) s
   -- an instruction that takes no branch, where a function begins at the next address
   pub past :
-      (after : Regs) (m : Memory) → Does p s Done after m → StaysOnStack s after → branches_at s ≡ false → (p.look after.pc).is_function ≡ true
+      (after : Regs) (m : Memory) → Does p s Done after m → StaysOnStack s after → branches_at p s ≡ false → (p.look after.pc).is_function ≡ true
       → machine_event p s input ≡ Ends (the_end.Trap kind.FellOff after.pc s.regs.pc) s
   -- a trap of the core
   pub traps :
-      (trap : CoreTrap) (after : Regs) (m : Memory) → (p.look s.regs.pc).is_instr ≡ true → step_of s.regs s.memory ≡ (Trap trap, after, m)
+      (trap : CoreTrap) (after : Regs) (m : Memory) → (p.look s.regs.pc).is_instr ≡ true → step_for (profile_in p) s.regs s.memory ≡ (Trap trap, after, m)
       → machine_event p s input ≡ Ends (trap_of trap s.regs.pc) s
 
 -- and where it goes on
 pub record GoesOnByTests (p : Program) (s : State) (input : List ℕ) : Type 0 where
   -- to the next address, where no function begins
   pub next :
-      (after : Regs) (m : Memory) → Does p s Done after m → StaysOnStack s after → branches_at s ≡ false → (p.look after.pc).is_function ≡ false → GoesOnWith p s input after
+      (after : Regs) (m : Memory) → Does p s Done after m → StaysOnStack s after → branches_at p s ≡ false → (p.look after.pc).is_function ≡ false → GoesOnWith p s input after
   -- by a branch of its own, wherever that leads
-  pub jumps : (after : Regs) (m : Memory) → Does p s Done after m → StaysOnStack s after → branches_at s ≡ true → GoesOnWith p s input after
+  pub jumps : (after : Regs) (m : Memory) → Does p s Done after m → StaysOnStack s after → branches_at p s ≡ true → GoesOnWith p s input after
   -- by a call to where a function begins
   pub calls :
       (target ret : ℕ) (after : Regs) (m : Memory) → Does p s (Call target ret) after m → StaysOnStack s after → (p.look target).is_function ≡ true → GoesOnWith p s input after
   -- by a return, with no cleanup in progress, to where no function begins
   pub returns :
-      (to : ℕ) (after : Regs) (m : Memory) → Does p s (Return to) after m → to ≢ 0xFFFFFFFF → block_slot s.globals.cleanup ≡ None → s.memory.home.0 ≤ slice_index after.r 13
+      (to : ℕ) (after : Regs) (m : Memory) → Does p s (Return to) after m → (p.look s.regs.pc).lowers ≡ false → to ≢ 0xFFFFFFFF
+      → block_slot s.globals.cleanup ≡ None → s.memory.home.0 ≤ slice_index after.r 13
       → (p.look after.pc).is_function ≡ false → GoesOnWith p s input after
 
 abbrev pub EventsGoOn : Type 0

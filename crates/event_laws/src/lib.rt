@@ -1,7 +1,7 @@
 //! What one event promises, and a run, in the words of their users (docs/machine.md, "An event").
 #![tactic(auto)]
 
-ghost use Rattle.event_laws.specs.Stack.{RisesAreRefused, OnlyRisesAreRefused};
+ghost use Rattle.event_laws.specs.Stack.{LoweringsNeverRaise, OnlyLoweringsAreRaised, RisesAreRefused, OnlyRisesAreRefused};
 ghost use Rattle.event_laws.specs.Tests.{TestsEndSo, EventsGoOn};
 ghost use Rattle.event_laws.specs.GoingOn.{GatesGoOn, GatesFallOff};
 ghost use Rattle.event_laws.specs.PlainGates.{PlainGatesAreAsTold};
@@ -13,12 +13,22 @@ ghost use Rattle.event_laws.specs.Heads.{HeadsStayHeads};
 
 use two_machines::laws::guards_are_released;
 
-/// Where sp rises above the landing sp of the innermost cleanup in progress, the event is SpInCleanup with the new sp.
+/// Where sp rises at a lowering place the event is SpRaised with the new sp: this test is the first of sp.
+pub fn lowerings_never_raise()
+    ensures { LoweringsNeverRaise }
+{}
+
+/// SpRaised comes only there: at no other place, and not where sp stays or falls.
+pub fn only_lowerings_are_raised()
+    ensures { OnlyLoweringsAreRaised }
+{}
+
+/// Where sp rises above the landing sp of the innermost cleanup in progress, the event is SpInCleanup with the new sp, but at a lowering place.
 pub fn rises_are_refused()
     ensures { RisesAreRefused }
 {}
 
-/// SpInCleanup comes only there: not where sp rises to the landing sp, and not where it stays below it.
+/// SpInCleanup comes only there: not where sp rises to the landing sp, not where it stays below it, and not at a lowering place.
 pub fn only_rises_are_refused()
     ensures { OnlyRisesAreRefused }
 {}

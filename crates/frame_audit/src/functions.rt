@@ -1,5 +1,6 @@
 //! Each function of an image, judged by itself (docs/audit.md, "Functions").
 ghost use Rattle.std.specs.Prelude.{◌≡◌, IfOk, Some};
+ghost use Rattle.image_memory.specs.Profiles.{profile_of};
 ghost use Rattle.frame_check.specs.Roots.{flow_graph_of};
 ghost use Rattle.frame_check.specs.Judged.{IsPlaced};
 ghost use Rattle.frame_audit.specs.Listing.{can_unwind, IsFinding, IsAudited, AreAudited};
@@ -12,6 +13,7 @@ use frame_facts::FrameCause;
 use frame_graph::{Cover, FlowGraph, Unwinding};
 use std::alloc::{AllocError, AllocFailed, Global};
 use std::marker::Model;
+use thumb_isa::profile::Profile;
 
 /// Where a function isn't well, and why.
 #[derive(Clone, Copy, PartialEq, Eq, Debug)]
@@ -109,16 +111,18 @@ fn audit_function<'a>(
     })
 }
 
-/// What is found of each function, in rising order. An entry that covers several is read once, and the facts of one function are kept
-/// at a time.
+/// What is found of each function, in rising order, by the profile of their image. An entry that covers several is read once, and the
+/// facts of one function are kept at a time.
 pub fn audit_functions<'a>(
     alloc: Global,
     index: &Index<'_, 'a>,
+    profile: Profile,
 ) -> Result<Vec<Audited<'a>>, AuditMemory>
+    requires { profile ≡ profile_of index.now }
     ensures { IfOk result (λ audited. AreAudited index.now index.now.functions audited.items) }
 {
     let mut audited = Vec::new(alloc);
-    let mut cover = Cover::new(alloc, index);
+    let mut cover = Cover::new(alloc, index, profile);
     for f in index.image().functions() {
         let turned = cover.turned(alloc, f.start)?;
         cover = turned.around(alloc, f.start, f.end)?;

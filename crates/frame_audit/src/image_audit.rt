@@ -14,6 +14,7 @@ use eh_index::{Index, IndexFault};
 use eh_types::TypeFault;
 use elf_image::Image;
 use frame_check::{CheckFault, types_of};
+use image_memory::profile::profile_of;
 use std::alloc::Global;
 use std::marker::Model;
 use thiserror::Error;
@@ -89,7 +90,7 @@ pub fn audit_image<'a>(alloc: Global, image: &Image<'a>) -> Result<Audit<'a>, Au
     match Index::read(image) {
         Err(fault) => Err(AuditFault::Index(fault)),
         Ok(index) => {
-            let functions = audit_functions(alloc, &index)?;
+            let functions = audit_functions(alloc, &index, profile_of(image))?;
             let types = types_fault(alloc, &index)?;
             Ok(Audit {
                 functions,

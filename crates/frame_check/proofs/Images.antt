@@ -9,6 +9,7 @@ use Rattle.elf_image.specs.Image.{Image}
 use Rattle.image_memory.specs.Start.{begins_function}
 use Rattle.frame_graph.specs.FlowGraph.{FlowGraph}
 use Rattle.frame_graph.specs.Places.{address_of}
+use Rattle.frame_graph.specs.Lowering.{is_lowering}
 use Rattle.frame_graph.specs.Reach.{IsReached}
 use Rattle.frame_reach.specs.Marks.{Marks, AreMarks}
 use Rattle.frame_reach.specs.Prologue.{prologue, lines, places}
@@ -20,7 +21,7 @@ use Rattle.frame_check.specs.Roles.{Table, no_table, look}
 use Rattle.frame_check.specs.Roots.{flow_graph_of}
 use Rattle.frame_check.specs.Pushes.{pushes_of}
 use Rattle.frame_check.specs.Marking.{saves_over, IsMarked}
-use Rattle.frame_check.specs.Accepts.{IsInstr, saves_at, AreRoles}
+use Rattle.frame_check.specs.Accepts.{IsInstr, IsLowering, saves_at, AreRoles}
 use Rattle.frame_check.proofs.Lines.{IsFrom, pushes_inside}
 
 -- ---- PUSHes elsewhere
@@ -65,6 +66,7 @@ blank_look a = go (a % 2 == 1)
 pub no_roles : (image : Image) → AreRoles image [] no_table
 no_roles image = record {
   instr = λ a. ((λ e. absurd (let f : false ≡ true = sym (ap (λ (x : Role). x.is_instr) (blank_look a)) ∙ e in cc)), (λ i. absurd (omega (arith, (i.among).1))));
+  lowers = λ a. ((λ e. absurd (let f : false ≡ true = sym (ap (λ (x : Role). x.lowers) (blank_look a)) ∙ e in cc)), (λ i. absurd (omega (arith, (i.among).1))));
   starts = λ a. ap (λ (x : Role). x.is_function) (blank_look a);
   saves = λ f m a c am i. absurd (omega (arith, c.1));
   blank = λ a away. ap (λ (x : Role). x.saves) (blank_look a);
@@ -74,7 +76,7 @@ pub roles_more : (image : Image) (done : List Function) (f : Function) (m : Mark
     → All (λ (g : Function). g.end ≤ f.start) done → MarksAgree → AreMarks (flow_graph_of image f) m → AreRoles image done old → IsMarked (flow_graph_of image f) m old new
     → AreRoles image (done ++ f ∷ []) new
 unfolding saves_at
-roles_more image done f m old new even low before agree are x y = record { instr = λ a. (there a, back a); starts = starts; saves = saves; blank = blank }
+roles_more image done f m old new even low before agree are x y = record { instr = λ a. (there a, back a); lowers = λ a. (low_there a, low_back a); starts = starts; saves = saves; blank = blank }
   where
     s : FlowGraph
     s = flow_graph_of image f
@@ -102,6 +104,33 @@ roles_more image done f m old new even low before agree are x y = record { instr
         go (inr e) =
             (y.instr a).1
             (inr (i.place, subst (λ (g : Function). IsReached (flow_graph_of image g) i.place) (sym e) i.reached, i.address ∙ ap (λ (g : Function). address_of (flow_graph_of image g) i.place) (sym e)))
+
+    low_there : (a : ℕ) → (look new a).lowers ≡ true → IsLowering image (done ++ f ∷ []) a
+    low_there a e = go ((y.lowers a).0 e)
+      where
+        go : ((look old a).lowers ≡ true) ⊎ ((p : ℕ) × (is_lowering (flow_graph_of image f) m.reached p ≡ true) × (a ≡ address_of (flow_graph_of image f) p)) → IsLowering image (done ++ f ∷ []) a
+        go (inl h) =
+            let i = (x.lowers a).0 h in
+            record { function = i.function; among = Contains-append_left done (f ∷ []) i.function i.among; marks = i.marks; are = i.are; place = i.place; lowers = i.lowers; address = i.address }
+        go (inr (p, l, h)) = record { function = f; among = Contains-push done f; marks = m; are = are; place = p; lowers = l; address = h }
+
+    low_back : (a : ℕ) → IsLowering image (done ++ f ∷ []) a → (look new a).lowers ≡ true
+    low_back a i = go (Contains-push_cases done f i.function i.among)
+      where
+        here : AreMarks (flow_graph_of image f) i.marks → is_lowering (flow_graph_of image f) i.marks.reached i.place ≡ true → a ≡ address_of (flow_graph_of image f) i.place
+            → (look new a).lowers ≡ true
+        here bm l h =
+            let same = agree (flow_graph_of image f) m i.marks are bm in
+            (y.lowers a).1 (inr (i.place, ap (λ (z : Marks). is_lowering (flow_graph_of image f) z.reached i.place) same ∙ l, h))
+
+        go : Contains done i.function ⊎ (f ≡ i.function) → (look new a).lowers ≡ true
+        go (inl c) =
+            (y.lowers a).1
+            (inl ((x.lowers a).1 (record { function = i.function; among = c; marks = i.marks; are = i.are; place = i.place; lowers = i.lowers; address = i.address })))
+        go (inr e) =
+            subst
+            (λ (g : Function). AreMarks (flow_graph_of image g) i.marks → is_lowering (flow_graph_of image g) i.marks.reached i.place ≡ true → a ≡ address_of (flow_graph_of image g) i.place
+            → (look new a).lowers ≡ true) e here i.are i.lowers i.address
 
     starts : (a : ℕ) → (look new a).is_function ≡ begins_function (done ++ f ∷ []) a
     starts a =

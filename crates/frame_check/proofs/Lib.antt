@@ -14,4 +14,5 @@ pub mod Judging
 pub mod Walking
 pub mod Saving
 pub mod Entries
+pub mod Lowerings
 mod Bytes

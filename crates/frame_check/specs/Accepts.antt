@@ -12,6 +12,7 @@ use Rattle.frame_facts.specs.declared.cause.FrameCause.TheVariants.{Undecodable,
 use Rattle.frame_graph.specs.declared.unwinding.Unwinding.TheVariants as unwinding
 use Rattle.frame_graph.specs.FlowGraph.{FlowGraph}
 use Rattle.frame_graph.specs.Places.{address_of}
+use Rattle.frame_graph.specs.Lowering.{is_lowering}
 use Rattle.frame_graph.specs.Sites.{unwinding_at, has_fault}
 use Rattle.frame_graph.specs.Reach.{IsReached}
 use Rattle.frame_reach.specs.Marks.{Marks, AreMarks, IsTooLong, IsSplit}
@@ -27,9 +28,9 @@ use Rattle.frame_check.specs.Pushes.{pushes_of, saves_in}
 
 -- ---- functions
 
--- a function with its prologue and its landing pads
+-- a function with its prologue, its landing pads and its lowering places
 abbrev pub framed : FlowGraph → Marks → Framed
-framed s m = record { flow_graph = s; prologue = prologue s m; pad = m.pad }
+framed s m = record { flow_graph = s; prologue = prologue s m; pad = m.pad; lowers = is_lowering s m.reached }
 
 -- What stands at the start of a function: what the entry that covers it shows, by its codes and by its descriptors, and what is refused of
 -- the function as a whole. Every other cause stands where a fact meets it.
@@ -106,13 +107,24 @@ pub record IsInstr (image : Image) (functions : List Function) (a : ℕ) : Type 
   pub reached : IsReached (flow_graph_of image function) place
   pub address : a ≡ address_of (flow_graph_of image function) place
 
+-- a lowering place of one of these functions
+pub record IsLowering (image : Image) (functions : List Function) (a : ℕ) : Type 0 where
+  pub function : Function
+  pub among : Contains functions function
+  pub marks : Marks
+  pub are : AreMarks (flow_graph_of image function) marks
+  pub place : ℕ
+  pub lowers : is_lowering (flow_graph_of image function) marks.reached place ≡ true
+  pub address : a ≡ address_of (flow_graph_of image function) place
+
 -- which words the PUSH at an address stores that are saves of the function's prologue
 unfoldable pub saves_at : FlowGraph → Marks → ℕ → ℕ
 saves_at s m a = saves_in (pushes_of (prologue s m) s.start (lines s m.target (places s) 0)) a
 
--- the roles of these functions: instructions, starts, and the saves of each function's prologue; elsewhere no words are saves
+-- the roles of these functions: instructions, lowering places, starts, and the saves of each function's prologue; elsewhere no words are saves
 pub record AreRoles (image : Image) (functions : List Function) (roles : Table) : Type 0 where
   pub instr : (a : ℕ) → ((look roles a).is_instr ≡ true) ↔ IsInstr image functions a
+  pub lowers : (a : ℕ) → ((look roles a).lowers ≡ true) ↔ IsLowering image functions a
   pub starts : (a : ℕ) → (look roles a).is_function ≡ begins_function functions a
   pub saves : (f : Function) (m : Marks) (a : ℕ) → Contains functions f → AreMarks (flow_graph_of image f) m → is_inside a f ≡ true
       → (look roles a).saves ≡ saves_at (flow_graph_of image f) m a

@@ -9,7 +9,7 @@ use Rattle.frame_graph.specs.Reach.{IsReached}
 use Rattle.frame_reach.specs.declared.marks.TheConstants.{MOST_REACHED}
 use Rattle.std.specs.Int.{bit_at}
 use Rattle.thumb_core.specs.Words.{listed}
-use Rattle.thumb_isa.specs.declared.instr.Instr.TheVariants.{Push}
+use Rattle.thumb_isa.specs.declared.instr.Instr.TheVariants.{AddSubReg, MovHigh, Push}
 use Rattle.elf_image.specs.Functions.{Function}
 use Rattle.elf_image.specs.Image.{Image, type_symbols_of}
 use Rattle.eh_desc.specs.declared.descriptor.CatchType.TheVariants.{One}
@@ -23,6 +23,7 @@ use Rattle.frame_facts.specs.Saves.{saves_of}
 use Rattle.frame_facts.specs.Prologues.{taken}
 use Rattle.frame_graph.specs.declared.places.Standing.TheVariants.{Instruction}
 use Rattle.frame_graph.specs.Places.{address_of, standing_at}
+use Rattle.frame_graph.specs.Edges.{instruction_at}
 use Rattle.frame_reach.specs.Marks.{Marks}
 use Rattle.frame_reach.specs.Prologue.{is_led_to, prologue}
 use Rattle.frame_reach.specs.Laws.{IsRun}
@@ -31,7 +32,7 @@ use Rattle.frame_graph.specs.FlowGraph.{FlowGraph}
 use Rattle.frame_graph.specs.Sites.{items_at, unwinding_at, site_at, entry_at}
 use Rattle.frame_check.specs.declared.fault.CheckFault.{CheckFault}
 use Rattle.frame_check.specs.Roots.{flow_graph_of, roots_of}
-use Rattle.frame_check.specs.Accepts.{CauseStands, IsWell, IsAccepted, Refuses, saves_at}
+use Rattle.frame_check.specs.Accepts.{CauseStands, IsWell, IsAccepted, IsLowering, Refuses, saves_at}
 
 -- a function is well exactly where no cause stands at any of its places
 abbrev pub WellIsUnrefused : Type 0
@@ -86,3 +87,26 @@ pub record SavesAreWords : Type 0 where
       → ((p : ℕ) (run : Straight) (list : ℕ) → IsPush s m p run list → a ≡ address_of s p → ⊥) → saves_at s m a ≡ 0
   pub each : (s : FlowGraph) (m : Marks) (x : Save) → Contains (saves_of (prologue s m)) x
       → (p : ℕ) × (run : Straight) × (list : ℕ) × (k : ℕ) × IsPush s m p run list × IsWord run list k x.offset
+
+-- ---- lowering places
+
+-- At an address of one of these functions stands a MOV of a register into sp, and 2 bytes before it a SUB of two registers into that
+-- register. Paths from the function's entry reach both.
+pub record IsLoweredAt (image : Image) (functions : List Function) (a : ℕ) : Type 0 where
+  pub function : Function
+  pub among : Contains functions function
+  pub before : ℕ
+  pub place : ℕ
+  pub register : ℕ
+  pub minuend : ℕ
+  pub subtrahend : ℕ
+  pub address : a ≡ address_of (flow_graph_of image function) place
+  pub after : a ≡ address_of (flow_graph_of image function) before + 2
+  pub subtraction : instruction_at (flow_graph_of image function) before ≡ Some (AddSubReg true register minuend subtrahend)
+  pub copy : instruction_at (flow_graph_of image function) place ≡ Some (MovHigh 13 register)
+  pub first : IsReached (flow_graph_of image function) before
+  pub second : IsReached (flow_graph_of image function) place
+
+-- the lowering places of the functions of an image are these, and no others
+abbrev pub LoweringsAreCopies : Type 0
+LoweringsAreCopies = (image : Image) (functions : List Function) (a : ℕ) → IsLowering image functions a ↔ IsLoweredAt image functions a

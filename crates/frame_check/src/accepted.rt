@@ -1,10 +1,11 @@
 //! An image that is accepted. docs/checking.md, "Look-ups".
 ghost use Rattle.std.specs.Prelude.{◌≡◌, ◌↔◌, IsTrue, Contains, true};
 ghost use Rattle.elf_image.specs.Functions.{Function as Range, is_inside};
+ghost use Rattle.image_memory.specs.Profiles.{profile_of};
 ghost use Rattle.image_memory.specs.Start.{begins_function};
 ghost use Rattle.frame_reach.specs.Marks.{Marks, AreMarks};
 ghost use Rattle.frame_check.specs.Roots.{flow_graph_of};
-ghost use Rattle.frame_check.specs.Accepts.{Accepted as Parts, IsSound, IsInstr, saves_at};
+ghost use Rattle.frame_check.specs.Accepts.{Accepted as Parts, IsSound, IsInstr, IsLowering, saves_at};
 ghost use Rattle.frame_check.specs.Roles.{look};
 
 use crate::roles::Roles;
@@ -12,23 +13,28 @@ use eh_index::Index;
 use eh_types::TypeGraph;
 use elf_image::image::Image;
 use std::marker::Model;
+use thumb_isa::profile::Profile;
 
 /// An image whose index is read, whose functions are well and whose types have a graph.
 #[derive(Drop)]
 pub struct Accepted<'a> {
     pub(crate) image: Image<'a>,
+    /// The image's.
+    pub(crate) profile: Profile,
     pub(crate) types: TypeGraph<'a>,
     pub(crate) roles: Roles,
 }
 
 impl<'a> Model for Accepted<'a> {
+    ghost use Rattle.std.specs.Prelude.{◌≡◌};
+    ghost use Rattle.image_memory.specs.Profiles.{profile_of};
     ghost use Rattle.frame_check.specs.Accepts.{Accepted as Parts, IsSound};
 
     ghost Value = { Parts };
 
     ghost view = { λ a. record { image = a.image; types = a.types; roles = a.roles } };
 
-    ghost invariant = { λ a. IsSound (record { image = a.image; types = a.types; roles = a.roles }) };
+    ghost invariant = { λ a. IsSound (record { image = a.image; types = a.types; roles = a.roles }) × (a.profile ≡ profile_of a.image) };
 }
 
 impl<'a> Accepted<'a> {
@@ -38,6 +44,13 @@ impl<'a> Accepted<'a> {
         ensures sound { IsSound self.now }
     {
         &self.image
+    }
+
+    /// The profile whose rows its instructions are decoded by. It takes no time.
+    pub fn profile(&self) -> Profile
+        ensures { result ≡ profile_of self.now.image }
+    {
+        self.profile
     }
 
     /// Its exception index. It takes no time.
@@ -60,6 +73,15 @@ impl<'a> Accepted<'a> {
         ensures reached { IsTrue result ↔ IsInstr self.now.image self.now.image.functions a }
     {
         self.roles.look(a).is_instr
+    }
+
+    /// Whether an address is a lowering place: there stands a MOV into sp of what the subtraction in front of it left, and both are reached.
+    /// One look-up.
+    pub fn lowers_at(&self, a: u32) -> bool
+        ensures role { result ≡ (look self.now.roles a).lowers }
+        ensures lowers { IsTrue result ↔ IsLowering self.now.image self.now.image.functions a }
+    {
+        self.roles.look(a).lowers
     }
 
     /// Whether a function begins at an address. One look-up.

@@ -1,6 +1,7 @@
 //! Checking an image. docs/checking.md.
 ghost use Rattle.std.specs.Prelude.{◌≡◌, ◌≢◌, ◌<◌, All, IfOk, IfErr, OnOk};
 ghost use Rattle.eh_types.specs.Meant.{IsGraph};
+ghost use Rattle.image_memory.specs.Profiles.{profile_of};
 ghost use Rattle.frame_reach.specs.Held.{marks_of};
 ghost use Rattle.frame_reach.specs.Marks.{AreMarks};
 ghost use Rattle.frame_check.specs.declared.fault.CheckFault.TheVariants.{OutOfMemory as NoMemory};
@@ -23,7 +24,9 @@ use elf_image::segment::Segment;
 use frame_flow::FrameFault;
 use frame_graph::{Cover, FlowGraph};
 use frame_reach::Reached;
+use image_memory::profile::profile_of;
 use std::alloc::Global;
+use thumb_isa::profile::Profile;
 
 /// What a run asks of an image that is accepted.
 #[derive(Drop)]
@@ -88,14 +91,15 @@ fn check_function(
     }
 }
 
-/// Checks the functions, in rising order. An entry that covers several is read once.
-fn check_functions(alloc: Global, index: &Index) -> Result<Roles, CheckFault>
+/// Checks the functions, in rising order, by the profile of their image. An entry that covers several is read once.
+fn check_functions(alloc: Global, index: &Index, profile: Profile) -> Result<Roles, CheckFault>
+    requires { profile ≡ profile_of index.now }
     ensures well { OnOk result (AreWell index.now index.now.functions) }
     ensures roles { IfOk result (AreRoles index.now index.now.functions) }
     ensures refused { IfErr result (RefusesFunctions index.now) }
 {
     let mut roles = Roles::new(alloc);
-    let mut cover = Cover::new(alloc, index);
+    let mut cover = Cover::new(alloc, index, profile);
     for f in index.image().functions() {
         let turned = cover.turned(alloc, f.start)?;
         cover = turned.around(alloc, f.start, f.end)?;
@@ -143,15 +147,16 @@ fn hold_bytes(segments: &[Segment])
     }
 }
 
-/// What a run asks of an image, where it is accepted.
-fn checked<'a>(alloc: Global, image: &Image<'a>) -> Result<Parts<'a>, CheckFault>
+/// What a run asks of an image of this profile, where it is accepted.
+fn checked<'a>(alloc: Global, image: &Image<'a>, profile: Profile) -> Result<Parts<'a>, CheckFault>
+    requires { profile ≡ profile_of image.now }
     ensures sound { IfOk result (λ c. IsSound (record { image = image.now; types = c.types; roles = c.roles })) }
     ensures refused { IfErr result (λ fault. fault ≢ NoMemory → Refuses image.now fault) }
 {
     match Index::read(image) {
         Err(fault) => Err(CheckFault::Index(fault)),
         Ok(index) => {
-            let roles = check_functions(alloc, &index)?;
+            let roles = check_functions(alloc, &index, profile)?;
             let types = types_of(alloc, &index)?;
             hold_bytes(image.segments());
             Ok(Parts { types, roles })
@@ -167,10 +172,12 @@ pub fn check<'a>(alloc: Global, image: Image<'a>) -> Result<Accepted<'a>, CheckF
     ensures refused { IfErr result (λ fault. fault ≢ NoMemory → Refuses image.entry fault) }
     ensures exact { IfErr result (λ fault. fault ≢ NoMemory → IsAccepted image.entry → ⊥) }
 {
-    match checked(alloc, &image) {
+    let profile = profile_of(&image);
+    match checked(alloc, &image, profile) {
         Err(fault) => Err(fault),
         Ok(Parts { types, roles }) => Ok(Accepted {
             image,
+            profile,
             types,
             roles,
         }),

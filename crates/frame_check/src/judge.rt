@@ -37,7 +37,12 @@ fn solved(alloc: Global, flow_graph: &FlowGraph, reached: &Reached) -> Result<()
     ensures well { IfOk result (λ _. HasFacts (framed flow_graph.now (marks_of reached.now))) }
     ensures refused { IfErr result (IsJudged flow_graph.now) }
 {
-    let framed = Framed::new(flow_graph, reached.prologue(flow_graph), reached.pads());
+    let framed = Framed::new(
+        flow_graph,
+        reached.prologue(flow_graph),
+        reached.pads(),
+        reached.reached(),
+    );
     solve(alloc, &framed)
 }
 

@@ -1,9 +1,9 @@
 //! What a run asks of the addresses of a function, put into the roles. docs/checking.md, "Look-ups".
-ghost use Rattle.std.specs.Prelude.{◌≡◌, ℕ, ◌+◌, ◌*◌, ◌%◌, ◌^◌, ◌<◌, ◌≤◌, All, Contains, OnOk};
+ghost use Rattle.std.specs.Prelude.{◌≡◌, ℕ, ◌+◌, ◌*◌, ◌%◌, ◌^◌, ◌<◌, ◌≤◌, ◌∷◌, [], All, Contains, OnOk};
 ghost use Rattle.frame_reach.specs.Marks.{AreMarks};
-ghost use Rattle.frame_reach.specs.Held.{marks_of};
+ghost use Rattle.frame_reach.specs.Held.{is_set, marks_of};
 ghost use Rattle.frame_check.specs.declared.pushes.Pushed.{Pushed as Push};
-ghost use Rattle.frame_check.specs.Marking.{with_instr, with_start, with_saves, Turned, AreInstrs, AreSaved, IsMarked};
+ghost use Rattle.frame_check.specs.Marking.{with_instr, with_lowers, with_start, with_saves, Turned, AreInstrs, AreLowered, AreSaved, IsMarked};
 
 use crate::pushes::Pushed;
 use crate::roles::Roles;
@@ -19,6 +19,16 @@ fn mark_instr(roles: &mut Roles, a: u32) -> Result<(), AllocError>
 {
     let mut role = roles.look(a);
     role.is_instr = true;
+    roles.put(a, role)
+}
+
+/// Marks an address as a lowering place.
+fn mark_lowers(roles: &mut Roles, a: u32) -> Result<(), AllocError>
+    requires { a % 2 ≡ 0 }
+    ensures { OnOk result (Turned with_lowers a roles.old roles.new) }
+{
+    let mut role = roles.look(a);
+    role.lowers = true;
     roles.put(a, role)
 }
 
@@ -54,6 +64,41 @@ fn mark_places(roles: &mut Roles, flow_graph: &FlowGraph, places: &[u32]) -> Res
     Ok(())
 }
 
+/// Marks a place of a function, where it is a lowering place.
+fn mark_lowering(
+    roles: &mut Roles,
+    flow_graph: &FlowGraph,
+    reached: &[bool],
+    place: u32,
+) -> Result<(), AllocError>
+    requires even { flow_graph.now.start % 2 ≡ 0 }
+    requires low { flow_graph.now.start + 2 * place < 2 ^ 32 }
+    ensures { OnOk result (AreLowered flow_graph.now (is_set reached.now) (place ∷ []) roles.old roles.new) }
+{
+    if flow_graph.is_lowering(reached, place) {
+        mark_lowers(roles, flow_graph.address_of(place))
+    } else {
+        Ok(())
+    }
+}
+
+/// Marks those places of a function that are lowering places.
+fn mark_lowerings(
+    roles: &mut Roles,
+    flow_graph: &FlowGraph,
+    reached: &[bool],
+    places: &[u32],
+) -> Result<(), AllocError>
+    requires even { flow_graph.now.start % 2 ≡ 0 }
+    requires low { (p : ℕ) → Contains places.now p → flow_graph.now.start + 2 * p < 2 ^ 32 }
+    ensures { OnOk result (AreLowered flow_graph.now (is_set reached.now) places.now roles.old roles.new) }
+{
+    for place in places {
+        mark_lowering(roles, flow_graph, reached, *place)?;
+    }
+    Ok(())
+}
+
 /// Marks the saves of PUSHes.
 fn mark_pushes(roles: &mut Roles, pushes: &[Pushed]) -> Result<(), AllocError>
     requires { All (λ (x : Push). x.at % 2 ≡ 0) pushes.now }
@@ -65,7 +110,7 @@ fn mark_pushes(roles: &mut Roles, pushes: &[Pushed]) -> Result<(), AllocError>
     Ok(())
 }
 
-/// Marks the checked instructions of a function, its start, and its prologue's saves.
+/// Marks the checked instructions of a function, its lowering places, its start, and its prologue's saves.
 pub(crate) fn mark(
     alloc: Global,
     roles: &mut Roles,
@@ -79,7 +124,9 @@ pub(crate) fn mark(
     ensures { OnOk result (IsMarked flow_graph.now (marks_of reached.now) roles.old roles.new) }
 {
     let _end = flow_graph.end();
-    mark_places(roles, flow_graph, reached.places())?;
+    let found = reached.places();
+    mark_places(roles, flow_graph, found)?;
+    mark_lowerings(roles, flow_graph, reached.reached(), found)?;
     mark_start(roles, flow_graph.start())?;
     let pushes = pushes_of(alloc, flow_graph, reached)?;
     mark_pushes(roles, &pushes)

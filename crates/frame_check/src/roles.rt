@@ -13,6 +13,8 @@ pub const PAGE_ROLES: usize = 2048;
 pub struct Role {
     /// Whether an instruction stands there that some path from its function's entry reaches.
     pub is_instr: bool,
+    /// Whether it is a lowering place: a MOV into sp of what the subtraction in front of it left.
+    pub lowers: bool,
     /// Whether a function begins there.
     pub is_function: bool,
     /// Of a PUSH of a prologue, which of the words that it stores are saves: bit k stands for word k, counted from the lowest address.
@@ -22,6 +24,7 @@ pub struct Role {
 /// Nothing is known of the address.
 pub const NO_ROLE: Role = Role {
     is_instr: false,
+    lowers: false,
     is_function: false,
     saves: 0,
 };

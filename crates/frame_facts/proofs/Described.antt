@@ -1,13 +1,14 @@
 -- The instructions that work on registers keep what a fact says of them.
-use Rattle.std.proofs.Common.{ℕ, ◌≡◌, ◌<◌, ◌≤◌, ◌+◌, ◌-◌, ◌%◌, ◌^◌, length, Bool, true, false, not, cond, eqb, ltb, leb, ◌&&◌, ◌||◌, Option, Some, None, sym, ◌∙◌, ap, subst, refl, ⊎_elim, arith, set, get_or, ℤ, pos, negsuc, ◌⊎◌, List, [], ◌∷◌, inl, inr}
+use Rattle.std.proofs.Common.{ℕ, ◌≡◌, ◌≢◌, ◌<◌, ◌≤◌, ◌+◌, ◌-◌, ◌%◌, ◌^◌, length, Bool, true, false, not, cond, eqb, ltb, leb, ◌&&◌, ◌||◌, Option, Some, None, sym, ◌∙◌, ap, subst, refl, ⊎_elim, arith, set, get_or, ℤ, pos, negsuc, ◌⊎◌, List, [], ◌∷◌, inl, inr}
 use Rattle.std.specs.Prelude.{◌+ℤ◌, ◌-ℤ◌}
 use Rattle.std.specs.List.{list_any}
 use Rattle.std.specs.Option.{option_map_or}
-use Rattle.std.proofs.lemmas.Bool.{cases_eq, eqb-true, lt-ltb, leb-true, and_parts, false≢true, cases_Bool, cases_lt}
+use Rattle.std.proofs.lemmas.Bool.{cases_eq, eqb-true, lt-ltb, le-ltb, leb-true, and_parts, false≢true, cases_Bool, cases_lt}
+use Rattle.std.proofs.lemmas.Bool.Decides.{nat_tests}
 use Rattle.std.proofs.lemmas.Option.{same_Some, none-some}
 use Rattle.std.proofs.lemmas.Int.{ints}
 use Rattle.std.proofs.lemmas.List.{get_or-set_same, get_or-set_other, get_or_past, length-set}
-use Rattle.thumb_isa.specs.declared.instr.Instr.TheVariants.{ShiftImm, AddSubReg, AddSubImm3, Imm8, Alu, Adr, AddRdSp, Extend, Rev}
+use Rattle.thumb_isa.specs.declared.instr.Instr.TheVariants.{ShiftImm, AddSubReg, AddSubImm3, Imm8, Alu, Adr, AddRdSp, Extend, Rev, MovW, MovT, Div}
 use Rattle.thumb_core.specs.declared.regs.Regs.{Regs}
 use Rattle.thumb_core.specs.Registers.{reg, word_in, with_flags, operand, pc_read, with_next, with_reg, with_pc}
 use Rattle.thumb_core.specs.Arith.{sum_or_difference, sum_of, difference_of}
@@ -25,43 +26,77 @@ use Rattle.frame_facts.specs.Machine.{Means, Describes, IsRoomy, DataIsDescribed
 
 -- ---- places of registers
 
-low_slot : (d : ℕ) → d < 8 → slot d ≡ d
-low_slot d l = ap (λ b. cond b d (cond (eqb d 14) 13 14)) (lt-ltb d 13 (omega (arith, l)))
+-- r0 to r12, lr, and all others
+slots : (k : ℕ) → ((k < 13) × (slot k ≡ k)) ⊎ (((k ≡ 14) × (slot k ≡ 13)) ⊎ (slot k ≡ 14))
+slots k = elim (cases_lt k 13) [
+  | inl low ↦ inl (low, ap (λ b. cond b k (cond (eqb k 14) 13 14)) (lt-ltb k 13 low))
+  | inr high ↦ elim (cases_eq k 14) [
+    | inl e ↦ inr (inl (e, subst (λ n. slot n ≡ 13) (sym e) refl))
+    | inr other ↦ inr (inr (ap (λ b. cond b k (cond (eqb k 14) 13 14)) (le-ltb k 13 high) ∙ ap (λ b. cond b 13 14) (let differs : eqb k 14 ≡ false = grind (arith, nat_tests) in differs)))
+  ]
+]
 
-far_slot : (d k : ℕ) → d < 8 → (k ≡ d → ⊥) → slot k ≡ d → ⊥
-far_slot d k l n = by_low (ltb k 13) (eqb k 14)
-  where
-    by_low : (b c : Bool) → cond b k (cond c 13 14) ≡ d → ⊥
-    by_low true c e = n e
-    by_low false true e = absurd (omega (arith, l, e))
-    by_low false false e = absurd (omega (arith, l, e))
+same_slot : (k d : ℕ) → slot k ≡ slot d → slot d < 14 → k ≡ d
+same_slot k d e low = elim (slots k) [
+  | inl a ↦ elim (slots d) [
+    | inl b ↦ omega (arith, a.1, b.1, e)
+    | inr (inl b) ↦ absurd (omega (arith, a.0, a.1, b.1, e))
+    | inr (inr b) ↦ absurd (omega (arith, b, low))
+  ]
+  | inr (inl a) ↦ elim (slots d) [
+    | inl b ↦ absurd (omega (arith, b.0, b.1, a.1, e))
+    | inr (inl b) ↦ omega (arith, a.0, b.0)
+    | inr (inr b) ↦ absurd (omega (arith, b, low))
+  ]
+  | inr (inr a) ↦ absurd (omega (arith, a, e, low))
+]
+
+few_slots : (d : ℕ) → slot d < 14 → d < 15
+few_slots d low = elim (slots d) [
+  | inl b ↦ omega (arith, b.0)
+  | inr (inl b) ↦ omega (arith, b.0)
+  | inr (inr b) ↦ absurd (omega (arith, b, low))
+]
+
+-- a register of which nothing is known any more
+lost_cases : (f : Fact) (r k : ℕ) → (source (lost r f) k ≡ Other) ⊎ ((source (lost r f) k ≡ source f k) × (k ≡ r → ⊥))
+lost_cases f r k = ⊎_elim
+    (λ (e : slot k ≡ slot r). inl (ap (λ j. get_or (lost r f).regs j Other) e ∙ ⊎_elim
+    (λ (l : slot r < length f.regs). get_or-set_same f.regs (slot r) Other Other l)
+    (λ (l : length f.regs ≤ slot r). get_or_past (lost r f).regs (slot r) Other (omega (arith, length-set f.regs (slot r) Other, l)))
+    (cases_lt (slot r) (length f.regs))))
+    (λ (n : slot k ≡ slot r → ⊥). inr (get_or-set_other f.regs (slot r) (slot k) Other Other n, λ e. n (ap slot e)))
+    (cases_eq (slot k) (slot r))
 
 module _ (entry : ℕ → ℕ) (cfa : ℕ) where
-  -- a register is written, and its source
-  written : (f : Fact) (regs new : Regs) (d : ℕ) (s : Source) (w : ℕ) → d < 8 → IsRoomy cfa regs → Describes entry cfa f regs → new.r ≡ set regs.r d w → Means entry cfa s w
-      → Describes entry cfa (with_source f d s) new
-  written f regs new d s w low roomy x is means = record {
-    long = length-set f.regs (slot d) s ∙ x.long;
-    sources = λ k. ⊎_elim
-        (λ (e : k ≡ d). subst (λ j. Means entry cfa (source (with_source f d s) j) (reg new j)) (sym e)
-        (subst (λ t. Means entry cfa t (reg new d)) (sym at_d) (subst (λ v. Means entry cfa s v) (sym new_d) means)))
-        (λ (n : k ≡ d → ⊥). subst (λ t. Means entry cfa t (reg new k)) (sym (get_or-set_other f.regs (slot d) (slot k) s Other (λ e. far_slot d k low n (e ∙ low_slot d low))))
-        (subst (λ v. Means entry cfa (source f k) v) (sym (new_other k n)) (x.sources k)))
-        (cases_eq k d);
-    sp = λ b. ap (λ v. v + f.depth) (new_other 13 (λ e. absurd (omega (arith, low, e)))) ∙ x.sp b;
+  -- a register but sp is written, and its source
+  written : (f : Fact) (regs new : Regs) (d : ℕ) (t : Source) (w : ℕ) → d ≢ 13 → IsRoomy cfa regs → Describes entry cfa f regs → new.r ≡ set regs.r d w → Means entry cfa t w
+      → Describes entry cfa (with_source f d t) new
+  written f regs new d t w low roomy x is means = record {
+    long = length-set f.regs (slot d) t ∙ x.long;
+    sources = λ k. elim (cases_eq (slot k) (slot d)) [
+      | inl same ↦ elim (cases_lt (slot d) 14) [
+        | inl few ↦ at_d k (same_slot k d same few) few
+        | inr past ↦ subst (λ u. Means entry cfa u (reg new k)) (sym (get_or_past (with_source f d t).regs (slot k) Other (omega (arith, length-set f.regs (slot d) t, x.long, past, same)))) tt
+      ]
+      | inr other ↦ subst (λ u. Means entry cfa u (reg new k)) (sym (get_or-set_other f.regs (slot d) (slot k) t Other other))
+          (subst (λ v. Means entry cfa (source f k) v) (sym (new_other k (λ e. other (ap slot e)))) (x.sources k))
+    ];
+    sp = λ b. ap (λ v. v + f.depth) (new_other 13 (λ e. low (sym e))) ∙ x.sp b;
   }
     where
-      at_d : source (with_source f d s) d ≡ s
-      at_d = get_or-set_same f.regs (slot d) s Other (let l : slot d < length f.regs = omega (arith, low_slot d low, low, x.long) in l)
-
-      new_d : reg new d ≡ w
-      new_d = ap (λ r. get_or r d 0) is ∙ get_or-set_same regs.r d w 0 (let l : d < length regs.r = omega (arith, low, roomy.count) in l)
-
       new_other : (k : ℕ) → (k ≡ d → ⊥) → reg new k ≡ reg regs k
       new_other k n = ap (λ r. get_or r k 0) is ∙ get_or-set_other regs.r d k w 0 n
 
+      at_d : (k : ℕ) → k ≡ d → slot d < 14 → Means entry cfa (source (with_source f d t) k) (reg new k)
+      at_d k e few =
+          let src : source (with_source f d t) d ≡ t = get_or-set_same f.regs (slot d) t Other (let l : slot d < length f.regs = omega (arith, few, x.long) in l) in
+          let in_list = few_slots d few in
+          let val : reg new d ≡ w = ap (λ r. get_or r d 0) is ∙ get_or-set_same regs.r d w 0 (let l : d < length regs.r = omega (arith, in_list, roomy.count) in l) in
+          subst (λ j. Means entry cfa (source (with_source f d t) j) (reg new j)) (sym e) (subst (λ u. Means entry cfa u (reg new d)) (sym src) (subst (λ v. Means entry cfa t v) (sym val) means))
+
   -- of a register that an instruction may write nothing is said
-  untold : (f : Fact) (regs new : Regs) (d w : ℕ) → d < 8 → IsRoomy cfa regs → Describes entry cfa f regs → new.r ≡ set regs.r d w → Describes entry cfa (lost d f) new
+  untold : (f : Fact) (regs new : Regs) (d w : ℕ) → d ≢ 13 → IsRoomy cfa regs → Describes entry cfa f regs → new.r ≡ set regs.r d w → Describes entry cfa (lost d f) new
   untold f regs new d w low roomy x is = written f regs new d Other w low roomy x is tt
 
   unchanged : (f : Fact) (regs new : Regs) → Describes entry cfa f regs → new.r ≡ regs.r → Describes entry cfa f new
@@ -71,24 +106,23 @@ module _ (entry : ℕ → ℕ) (cfa : ℕ) where
     sp = λ b. ap (λ r. get_or r 13 0 + f.depth) is ∙ x.sp b;
   }
 
-  clobbers : (f : Fact) (regs : Regs) (d : ℕ) → d < 8 → Describes entry cfa f regs → Describes entry cfa (lost d f) regs
-  clobbers f regs d low x = record {
+  clobbers : (f : Fact) (regs : Regs) (d : ℕ) → Describes entry cfa f regs → Describes entry cfa (lost d f) regs
+  clobbers f regs d x = record {
     long = length-set f.regs (slot d) Other ∙ x.long;
     sources = λ k. ⊎_elim
-        (λ (e : k ≡ d). subst (λ j. Means entry cfa (source (lost d f) j) (reg regs j)) (sym e)
-        (subst (λ t. Means entry cfa t (reg regs d)) (sym (get_or-set_same f.regs (slot d) Other Other (let l : slot d < length f.regs = omega (arith, low_slot d low, low, x.long) in l))) tt))
-        (λ (n : k ≡ d → ⊥). subst (λ t. Means entry cfa t (reg regs k)) (sym (get_or-set_other f.regs (slot d) (slot k) Other Other (λ e. far_slot d k low n (e ∙ low_slot d low)))) (x.sources k))
-        (cases_eq k d);
+        (λ (e : source (lost d f) k ≡ Other). subst (λ t. Means entry cfa t (reg regs k)) (sym e) tt)
+        (λ (v : (source (lost d f) k ≡ source f k) × (k ≡ d → ⊥)). subst (λ t. Means entry cfa t (reg regs k)) (sym v.0) (x.sources k))
+        (lost_cases f d k);
     sp = x.sp;
   }
 
   -- ---- values
 
-  low_word : (d v : ℕ) → d < 8 → word_in d v ≡ v % 2 ^ 32
+  low_word : (d v : ℕ) → d ≢ 13 → word_in d v ≡ v % 2 ^ 32
   low_word d v low = split (eqb d 13) refl
     where
       split : (b : Bool) → eqb d 13 ≡ b → cond b (v % 2 ^ 32 - v % 2 ^ 32 % 4) (v % 2 ^ 32) ≡ v % 2 ^ 32
-      split true e = absurd (omega (arith, low, eqb-true d 13 e))
+      split true e = absurd (low (eqb-true d 13 e))
       split false e = refl
 
   kept : (s : Source) (v w : ℕ) → v < 2 ^ 32 → w ≡ v % 2 ^ 32 → Means entry cfa s v → Means entry cfa s w
@@ -113,7 +147,7 @@ module _ (entry : ℕ → ℕ) (cfa : ℕ) where
   same_value true imm v e = omega (arith, e)
   same_value false imm v e = omega (arith, e)
 
-  imm3_described : (sub : Bool) (d n imm : ℕ) (f : Fact) (regs new : Regs) → d < 8 → IsRoomy cfa regs → Describes entry cfa f regs → new.r ≡ set regs.r d (word_in d (sum_or_difference sub (reg regs n) imm).value)
+  imm3_described : (sub : Bool) (d n imm : ℕ) (f : Fact) (regs new : Regs) → d ≢ 13 → IsRoomy cfa regs → Describes entry cfa f regs → new.r ≡ set regs.r d (word_in d (sum_or_difference sub (reg regs n) imm).value)
       → Describes entry cfa (with_source f d (cond (eqb imm 0) (source f n) (shifted sub imm (source f n)))) new
   imm3_described sub d n imm f regs new low roomy x is = written f regs new d (cond (eqb imm 0) (source f n) (shifted sub imm (source f n))) (word_in d (sum_or_difference sub (reg regs n) imm).value) low roomy x is (split (eqb imm 0) refl)
     where
@@ -121,7 +155,7 @@ module _ (entry : ℕ → ℕ) (cfa : ℕ) where
       split true e = kept (source f n) (reg regs n) (word_in d (sum_or_difference sub (reg regs n) imm).value) (roomy.words n) (low_word d (sum_or_difference sub (reg regs n) imm).value low ∙ same_value sub imm (reg regs n) (eqb-true imm 0 e)) (x.sources n)
       split false e = moved_means sub imm (source f n) (reg regs n) (word_in d (sum_or_difference sub (reg regs n) imm).value) roomy.room roomy.top (roomy.words n) (low_word d (sum_or_difference sub (reg regs n) imm).value low) (x.sources n)
 
-  shift_described : (op d m n : ℕ) (f : Fact) (regs new : Regs) → d < 8 → IsRoomy cfa regs → Describes entry cfa f regs → new.r ≡ set regs.r d (word_in d (shift_of op (reg regs m) n regs.c).0)
+  shift_described : (op d m n : ℕ) (f : Fact) (regs new : Regs) → d ≢ 13 → IsRoomy cfa regs → Describes entry cfa f regs → new.r ≡ set regs.r d (word_in d (shift_of op (reg regs m) n regs.c).0)
       → Describes entry cfa (cond (eqb op 0 && eqb n 0) (with_source f d (source f m)) (lost d f)) new
   shift_described op d m n f regs new low roomy x is = split (eqb op 0 && eqb n 0) refl
     where
@@ -133,9 +167,9 @@ module _ (entry : ℕ → ℕ) (cfa : ℕ) where
           (low_word d (shift_of op (reg regs m) n regs.c).0 low ∙ ap (λ k. (shift_of op (reg regs m) k regs.c).0 % 2 ^ 32) none) (x.sources m))
       split false e = untold f regs new d (word_in d (shift_of op (reg regs m) n regs.c).0) low roomy x is
 
-  maybe_described : (b : Bool) (d w : ℕ) (f : Fact) (regs new : Regs) → d < 8 → IsRoomy cfa regs → Describes entry cfa f regs → new.r ≡ cond b (set regs.r d w) regs.r → Describes entry cfa (lost d f) new
+  maybe_described : (b : Bool) (d w : ℕ) (f : Fact) (regs new : Regs) → d ≢ 13 → IsRoomy cfa regs → Describes entry cfa f regs → new.r ≡ cond b (set regs.r d w) regs.r → Describes entry cfa (lost d f) new
   maybe_described true d w f regs new low roomy x is = untold f regs new d w low roomy x is
-  maybe_described false d w f regs new low roomy x is = unchanged (lost d f) regs new (clobbers f regs d low x) is
+  maybe_described false d w f regs new low roomy x is = unchanged (lost d f) regs new (clobbers f regs d x) is
 
   unwritten : (op x y : ℕ) (regs : Regs) → (eqb op 8 || eqb op 10 || eqb op 11) ≡ true → (alu_of op x y regs).written ≡ false
   unwritten op x y regs e = split (eqb op 8) (eqb op 10) (eqb op 11) refl refl refl e
@@ -146,7 +180,7 @@ module _ (entry : ℕ → ℕ) (cfa : ℕ) where
       split false false true p q r e = ap (λ o. (alu_of o x y regs).written) (eqb-true op 11 r)
       split false false false p q r e = absurd (false≢true e)
 
-  alu_described : (op d m : ℕ) (f : Fact) (regs new : Regs) → d < 8 → IsRoomy cfa regs → Describes entry cfa f regs
+  alu_described : (op d m : ℕ) (f : Fact) (regs new : Regs) → d ≢ 13 → IsRoomy cfa regs → Describes entry cfa f regs
       → new.r ≡ cond (alu_of op (reg regs d) (reg regs m) regs).written (set regs.r d (word_in d (alu_of op (reg regs d) (reg regs m) regs).value)) regs.r
       → Describes entry cfa (cond (eqb op 8 || eqb op 10 || eqb op 11) f (lost d f)) new
   alu_described op d m f regs new low roomy x is = split (eqb op 8 || eqb op 10 || eqb op 11) refl
@@ -155,7 +189,7 @@ module _ (entry : ℕ → ℕ) (cfa : ℕ) where
       split true e = unchanged f regs new x (is ∙ ap (λ t. cond t (set regs.r d (word_in d (alu_of op (reg regs d) (reg regs m) regs).value)) regs.r) (unwritten op (reg regs d) (reg regs m) regs e))
       split false e = maybe_described (alu_of op (reg regs d) (reg regs m) regs).written d (word_in d (alu_of op (reg regs d) (reg regs m) regs).value) f regs new low roomy x is
 
-  sp_described : (d off : ℕ) (f : Fact) (regs new : Regs) → d < 8 → IsRoomy cfa regs → Describes entry cfa f regs → new.r ≡ set regs.r d (word_in d (forward (reg regs 13) (pos off)))
+  sp_described : (d off : ℕ) (f : Fact) (regs new : Regs) → d ≢ 13 → IsRoomy cfa regs → Describes entry cfa f regs → new.r ≡ set regs.r d (word_in d (forward (reg regs 13) (pos off)))
       → Describes entry cfa (with_source f d (sp_plus f (pos off))) new
   sp_described d off f regs new low roomy x is = written f regs new d (sp_plus f (pos off)) (word_in d (forward (reg regs 13) (pos off))) low roomy x is (split f.below refl)
     where
@@ -164,7 +198,7 @@ module _ (entry : ℕ → ℕ) (cfa : ℕ) where
       split false e = at_place (pos f.depth -ℤ pos off) (word_in d (forward (reg regs 13) (pos off)))
           (λ n z deep. let sum : n + off ≡ f.depth = omega (arith, ints, z) in omega (arith, roomy.top, low_word d (forward (reg regs 13) (pos off)) low, x.sp e, sum))
 
-  imm8_described : (op d imm : ℕ) (f : Fact) (regs : Regs) → d < 8 → IsRoomy cfa regs → Describes entry cfa f regs → Describes entry cfa (imm8 op d imm f) (data_effect (Imm8 op d imm) regs)
+  imm8_described : (op d imm : ℕ) (f : Fact) (regs : Regs) → d ≢ 13 → IsRoomy cfa regs → Describes entry cfa f regs → Describes entry cfa (imm8 op d imm f) (data_effect (Imm8 op d imm) regs)
   imm8_described op d imm f regs low roomy x = split (eqb op 0) (eqb op 1) (eqb op 2)
     where
       raised : (sub : Bool) (new : Regs) → new.r ≡ set regs.r d (word_in d (sum_or_difference sub (reg regs d) imm).value) → Describes entry cfa (with_source f d (shifted sub imm (source f d))) new
@@ -188,21 +222,24 @@ to_g : (entry : ℕ → ℕ) (cfa : ℕ) (regs : Regs) (f g : Fact) → Some f �
 to_g entry cfa regs f g e x = subst (λ h. Describes entry cfa h regs) (same_Some f g e) x
 
 pub data_described : DataIsDescribed
-data_described entry cfa p lowers at (ShiftImm op d m n) d' f g regs on low roomy x e = to_g entry cfa (data_effect (ShiftImm op d m n) regs) (shift_imm op d m n f) g e (shift_described entry cfa op d m n f regs (data_effect (ShiftImm op d m n) regs) (for_d (λ k. k < 8) d d' on low) roomy x refl)
-data_described entry cfa p lowers at (AddSubReg sub d n m) d' f g regs on low roomy x e = to_g entry cfa (data_effect (AddSubReg sub d n m) regs) (lost d f) g e (untold entry cfa f regs (data_effect (AddSubReg sub d n m) regs) d _ (for_d (λ k. k < 8) d d' on low) roomy x refl)
-data_described entry cfa p lowers at (AddSubImm3 sub d n imm) d' f g regs on low roomy x e = to_g entry cfa (data_effect (AddSubImm3 sub d n imm) regs) (add_sub_imm3 sub d n imm f) g e (imm3_described entry cfa sub d n imm f regs (data_effect (AddSubImm3 sub d n imm) regs) (for_d (λ k. k < 8) d d' on low) roomy x refl)
-data_described entry cfa p lowers at (Imm8 op d imm) d' f g regs on low roomy x e = to_g entry cfa (data_effect (Imm8 op d imm) regs) (imm8 op d imm f) g e (imm8_described entry cfa op d imm f regs (for_d (λ k. k < 8) d d' on low) roomy x)
-data_described entry cfa p lowers at (Alu op d m) d' f g regs on low roomy x e = to_g entry cfa (data_effect (Alu op d m) regs) (alu op d f) g e (alu_described entry cfa op d m f regs (data_effect (Alu op d m) regs) (for_d (λ k. k < 8) d d' on low) roomy x refl)
-data_described entry cfa p lowers at (Adr d off) d' f g regs on low roomy x e = to_g entry cfa (data_effect (Adr d off) regs) (lost d f) g e (untold entry cfa f regs (data_effect (Adr d off) regs) d _ (for_d (λ k. k < 8) d d' on low) roomy x refl)
-data_described entry cfa p lowers at (AddRdSp d (pos off)) d' f g regs on low roomy x e = to_g entry cfa (data_effect (AddRdSp d (pos off)) regs) (with_source f d (sp_plus f (pos off))) g e (sp_described entry cfa d off f regs (data_effect (AddRdSp d (pos off)) regs) (for_d (λ k. k < 8) d d' on low) roomy x refl)
+data_described entry cfa p lowers at (ShiftImm op d m n) d' f g regs on low roomy x e = to_g entry cfa (data_effect (ShiftImm op d m n) regs) (shift_imm op d m n f) g e (shift_described entry cfa op d m n f regs (data_effect (ShiftImm op d m n) regs) (for_d (λ k. k ≢ 13) d d' on low) roomy x refl)
+data_described entry cfa p lowers at (AddSubReg sub d n m) d' f g regs on low roomy x e = to_g entry cfa (data_effect (AddSubReg sub d n m) regs) (lost d f) g e (untold entry cfa f regs (data_effect (AddSubReg sub d n m) regs) d _ (for_d (λ k. k ≢ 13) d d' on low) roomy x refl)
+data_described entry cfa p lowers at (AddSubImm3 sub d n imm) d' f g regs on low roomy x e = to_g entry cfa (data_effect (AddSubImm3 sub d n imm) regs) (add_sub_imm3 sub d n imm f) g e (imm3_described entry cfa sub d n imm f regs (data_effect (AddSubImm3 sub d n imm) regs) (for_d (λ k. k ≢ 13) d d' on low) roomy x refl)
+data_described entry cfa p lowers at (Imm8 op d imm) d' f g regs on low roomy x e = to_g entry cfa (data_effect (Imm8 op d imm) regs) (imm8 op d imm f) g e (imm8_described entry cfa op d imm f regs (for_d (λ k. k ≢ 13) d d' on low) roomy x)
+data_described entry cfa p lowers at (Alu op d m) d' f g regs on low roomy x e = to_g entry cfa (data_effect (Alu op d m) regs) (alu op d f) g e (alu_described entry cfa op d m f regs (data_effect (Alu op d m) regs) (for_d (λ k. k ≢ 13) d d' on low) roomy x refl)
+data_described entry cfa p lowers at (Adr d off) d' f g regs on low roomy x e = to_g entry cfa (data_effect (Adr d off) regs) (lost d f) g e (untold entry cfa f regs (data_effect (Adr d off) regs) d _ (for_d (λ k. k ≢ 13) d d' on low) roomy x refl)
+data_described entry cfa p lowers at (AddRdSp d (pos off)) d' f g regs on low roomy x e = to_g entry cfa (data_effect (AddRdSp d (pos off)) regs) (with_source f d (sp_plus f (pos off))) g e (sp_described entry cfa d off f regs (data_effect (AddRdSp d (pos off)) regs) (for_d (λ k. k ≢ 13) d d' on low) roomy x refl)
 data_described entry cfa p lowers at (AddRdSp d (negsuc off)) d' f g regs on low roomy x e = absurd (none-some d' on)
-data_described entry cfa p lowers at (Extend op d m) d' f g regs on low roomy x e = to_g entry cfa (data_effect (Extend op d m) regs) (lost d f) g e (untold entry cfa f regs (data_effect (Extend op d m) regs) d _ (for_d (λ k. k < 8) d d' on low) roomy x refl)
-data_described entry cfa p lowers at (Rev op d m) d' f g regs on low roomy x e = to_g entry cfa (data_effect (Rev op d m) regs) (lost d f) g e (untold entry cfa f regs (data_effect (Rev op d m) regs) d _ (for_d (λ k. k < 8) d d' on low) roomy x refl)
+data_described entry cfa p lowers at (Extend op d m) d' f g regs on low roomy x e = to_g entry cfa (data_effect (Extend op d m) regs) (lost d f) g e (untold entry cfa f regs (data_effect (Extend op d m) regs) d _ (for_d (λ k. k ≢ 13) d d' on low) roomy x refl)
+data_described entry cfa p lowers at (Rev op d m) d' f g regs on low roomy x e = to_g entry cfa (data_effect (Rev op d m) regs) (lost d f) g e (untold entry cfa f regs (data_effect (Rev op d m) regs) d _ (for_d (λ k. k ≢ 13) d d' on low) roomy x refl)
+data_described entry cfa p lowers at (MovW d imm) d' f g regs on low roomy x e = to_g entry cfa (data_effect (MovW d imm) regs) (lost d f) g e (untold entry cfa f regs (data_effect (MovW d imm) regs) d _ (for_d (λ k. k ≢ 13) d d' on low) roomy x refl)
+data_described entry cfa p lowers at (MovT d imm) d' f g regs on low roomy x e = to_g entry cfa (data_effect (MovT d imm) regs) (lost d f) g e (untold entry cfa f regs (data_effect (MovT d imm) regs) d _ (for_d (λ k. k ≢ 13) d d' on low) roomy x refl)
+data_described entry cfa p lowers at (Div signed d n m) d' f g regs on low roomy x e = to_g entry cfa (data_effect (Div signed d n m) regs) (lost d f) g e (untold entry cfa f regs (data_effect (Div signed d n m) regs) d _ (for_d (λ k. k ≢ 13) d d' on low) roomy x refl)
 data_described entry cfa p lowers at i d' f g regs on low roomy x e = absurd (none-some d' on)
 
 -- ---- moves
 
-module _ (entry : ℕ → ℕ) (cfa d m : ℕ) (f : Fact) (regs : Regs) (low : d < 8) (roomy : IsRoomy cfa regs) (x : Describes entry cfa f regs) where
+module _ (entry : ℕ → ℕ) (cfa d m : ℕ) (f : Fact) (regs : Regs) (low : d ≢ 13) (roomy : IsRoomy cfa regs) (x : Describes entry cfa f regs) where
   sp_copied : (w : ℕ) → w ≡ reg regs 13 % 2 ^ 32 → Means entry cfa (sp_plus f (pos 0)) w
   sp_copied w e = split f.below refl
     where
@@ -226,9 +263,12 @@ pub moves_described : MovesAreDescribed
 moves_described entry cfa p lowers at d m size f g regs low roomy x e =
     by_d (eqb d 13) (eqb d 15) refl refl e
   where
+    no_sp : d ≢ 13
+    no_sp q = omega (arith, low, q)
+
     done : Some (with_source f d (copied m f)) ≡ Some g → Describes entry cfa g (with_next size (with_reg regs d (operand regs m)))
     done h = to_g entry cfa (with_next size (with_reg regs d (operand regs m))) (with_source f d (copied m f)) g h
-        (written entry cfa f regs (with_next size (with_reg regs d (operand regs m))) d (copied m f) (word_in d (operand regs m)) low roomy x refl (copy_means entry cfa d m f regs low roomy x))
+        (written entry cfa f regs (with_next size (with_reg regs d (operand regs m))) d (copied m f) (word_in d (operand regs m)) no_sp roomy x refl (copy_means entry cfa d m f regs no_sp roomy x))
 
     by_d : (a b : Bool) → eqb d 13 ≡ a → eqb d 15 ≡ b
         → cond a (cond lowers (Some (let r : Fact = record f { below = true } in r)) (sp_set p (copied m f) f)) (Some (with_source f d (copied m f))) ≡ Some g
@@ -238,15 +278,6 @@ moves_described entry cfa p lowers at d m size f g regs low roomy x e =
     by_d false false q r h = done h
 
 -- ---- forgetting
-
-lost_cases : (f : Fact) (r k : ℕ) → (source (lost r f) k ≡ Other) ⊎ ((source (lost r f) k ≡ source f k) × (k ≡ r → ⊥))
-lost_cases f r k = ⊎_elim
-    (λ (e : slot k ≡ slot r). inl (ap (λ j. get_or (lost r f).regs j Other) e ∙ ⊎_elim
-    (λ (l : slot r < length f.regs). get_or-set_same f.regs (slot r) Other Other l)
-    (λ (l : length f.regs ≤ slot r). get_or_past (lost r f).regs (slot r) Other (omega (arith, length-set f.regs (slot r) Other, l)))
-    (cases_lt (slot r) (length f.regs))))
-    (λ (n : slot k ≡ slot r → ⊥). inr (get_or-set_other f.regs (slot r) (slot k) Other Other n, λ e. n (ap slot e)))
-    (cases_eq (slot k) (slot r))
 
 differs : (a b : ℕ) → (b ≡ a → ⊥) → eqb a b ≡ false
 differs a b n = ⊎_elim (λ (e : eqb a b ≡ true). absurd (n (sym (eqb-true a b e)))) (λ (e : eqb a b ≡ false). e) (cases_Bool (eqb a b))

@@ -8,7 +8,7 @@ use Rattle.std.proofs.lemmas.List.{length-set}
 use Rattle.std.proofs.lemmas.List.Sums.{sum_by-cons}
 use Rattle.thumb_core.specs.Words.{listed}
 use Rattle.thumb_isa.specs.declared.instr.Instr.{Instr}
-use Rattle.thumb_isa.specs.declared.instr.Instr.TheVariants.{ShiftImm, AddSubReg, AddSubImm3, Imm8, Alu, AddHigh, CmpHigh, MovHigh, Bx, Blx, LdrLit, MemReg, MemImm, MemSp, Adr, AddRdSp, AddSp, SubSp, Extend, Rev, Push, Pop, Hint, Stm, Ldm, BCond, Svc, B, Bl, Barrier}
+use Rattle.thumb_isa.specs.declared.instr.Instr.TheVariants.{ShiftImm, AddSubReg, AddSubImm3, Imm8, Alu, AddHigh, CmpHigh, MovHigh, Bx, Blx, LdrLit, MemReg, MemImm, MemSp, Adr, AddRdSp, AddSp, SubSp, Extend, Rev, Push, Pop, Hint, Stm, Ldm, BCond, Svc, B, Bl, Barrier, Cbz, BWide, MovW, MovT, Div}
 use Rattle.frame_facts.specs.declared.cause.FrameCause.{FrameCause}
 use Rattle.frame_facts.specs.declared.cause.FrameCause.TheVariants.{IndirectBranch, SpWrite, ReturnState}
 use Rattle.frame_facts.specs.declared.facts.Source.{Source}
@@ -155,6 +155,11 @@ effect_fits p lowers at (Svc imm) f x = always p.count (clobbered gate_changes f
 effect_fits p lowers at (B off) f x = always p.count f x
 effect_fits p lowers at (Bl off) f x = always p.count (clobbered call_changes f) (clobbered_fits p.count call_changes f x)
 effect_fits p lowers at (Barrier op option) f x = always p.count f x
+effect_fits p lowers at (Cbz nonzero n off) f x = always p.count f x
+effect_fits p lowers at (BWide off) f x = always p.count f x
+effect_fits p lowers at (MovW d imm) f x = always p.count (lost d f) (lost_fits p.count f d x)
+effect_fits p lowers at (MovT d imm) f x = always p.count (lost d f) (lost_fits p.count f d x)
+effect_fits p lowers at (Div signed d n m) f x = always p.count (lost d f) (lost_fits p.count f d x)
 
 err_ok : (e : FrameCause) (x : Fact) → (let r : Result Fact FrameCause = Err e in r) ≡ Ok x → ⊥
 err_ok e x h = cc

@@ -8,7 +8,7 @@ use Rattle.std.proofs.lemmas.Bool.{and_parts, and_from, false≢true, true≢fal
 use Rattle.std.proofs.lemmas.Option.{same_Some, none-some}
 use Rattle.thumb_core.specs.Words.{listed}
 use Rattle.thumb_isa.specs.declared.instr.Instr.{Instr}
-use Rattle.thumb_isa.specs.declared.instr.Instr.TheVariants.{ShiftImm, AddSubReg, AddSubImm3, Imm8, Alu, AddHigh, CmpHigh, MovHigh, Bx, Blx, LdrLit, MemReg, MemImm, MemSp, Adr, AddRdSp, AddSp, SubSp, Extend, Rev, Push, Pop, Hint, Stm, Ldm, BCond, Svc, B, Bl, Barrier}
+use Rattle.thumb_isa.specs.declared.instr.Instr.TheVariants.{ShiftImm, AddSubReg, AddSubImm3, Imm8, Alu, AddHigh, CmpHigh, MovHigh, Bx, Blx, LdrLit, MemReg, MemImm, MemSp, Adr, AddRdSp, AddSp, SubSp, Extend, Rev, Push, Pop, Hint, Stm, Ldm, BCond, Svc, B, Bl, Barrier, Cbz, BWide, MovW, MovT, Div}
 use Rattle.frame_facts.specs.declared.cause.FrameCause.{FrameCause}
 use Rattle.frame_facts.specs.declared.cause.FrameCause.TheVariants.{IndirectBranch, SpWrite, ReturnState}
 use Rattle.frame_facts.specs.declared.facts.Source.{Source}
@@ -213,6 +213,11 @@ effect_vaguer p lowers at (Svc imm) f g x = always (clobbered gate_changes f) (c
 effect_vaguer p lowers at (B off) f g x = always f g x
 effect_vaguer p lowers at (Bl off) f g x = always (clobbered call_changes f) (clobbered call_changes g) (clobbered_vaguer call_changes f g x)
 effect_vaguer p lowers at (Barrier op option) f g x = always f g x
+effect_vaguer p lowers at (Cbz nonzero n off) f g x = always f g x
+effect_vaguer p lowers at (BWide off) f g x = always f g x
+effect_vaguer p lowers at (MovW d imm) f g x = always (lost d f) (lost d g) (lost_vaguer f g d x)
+effect_vaguer p lowers at (MovT d imm) f g x = always (lost d f) (lost d g) (lost_vaguer f g d x)
+effect_vaguer p lowers at (Div signed d n m) f g x = always (lost d f) (lost d g) (lost_vaguer f g d x)
 
 -- ---- branches and returns
 

@@ -2,7 +2,7 @@
 use Rattle.std.specs.Prelude.{ℕ, Bool, false, if◌then◌else◌, Option, Some, None, Result, Ok, Err, pos, ◌+ℤ◌, ◌-ℤ◌, is_none, not}
 use Rattle.std.specs.Option.{option_map_or}
 use Rattle.thumb_isa.specs.declared.instr.Instr.{Instr}
-use Rattle.thumb_isa.specs.declared.instr.Instr.TheVariants.{ShiftImm, AddSubReg, AddSubImm3, Imm8, Alu, AddHigh, CmpHigh, MovHigh, Bx, Blx, LdrLit, MemReg, MemImm, MemSp, Adr, AddRdSp, AddSp, SubSp, Extend, Rev, Push, Pop, Hint, Stm, Ldm, BCond, Svc, B, Bl, Barrier}
+use Rattle.thumb_isa.specs.declared.instr.Instr.TheVariants.{ShiftImm, AddSubReg, AddSubImm3, Imm8, Alu, AddHigh, CmpHigh, MovHigh, Bx, Blx, LdrLit, MemReg, MemImm, MemSp, Adr, AddRdSp, AddSp, SubSp, Extend, Rev, Push, Pop, Hint, Stm, Ldm, BCond, Svc, B, Bl, Barrier, Cbz, BWide, MovW, MovT, Div}
 use Rattle.frame_facts.specs.declared.cause.FrameCause.{FrameCause}
 use Rattle.frame_facts.specs.declared.cause.FrameCause.TheVariants.{IndirectBranch, SpWrite, ReturnState}
 use Rattle.frame_facts.specs.declared.facts.Source.{Source}
@@ -48,6 +48,11 @@ effect p lowers at (Svc imm) f = Some (clobbered gate_changes f)
 effect p lowers at (B off) f = Some f
 effect p lowers at (Bl off) f = Some (clobbered call_changes f)
 effect p lowers at (Barrier op option) f = Some f
+effect p lowers at (Cbz nonzero n off) f = Some f
+effect p lowers at (BWide off) f = Some f
+effect p lowers at (MovW d imm) f = Some (lost d f)
+effect p lowers at (MovT d imm) f = Some (lost d f)
+effect p lowers at (Div signed d n m) f = Some (lost d f)
 
 -- ---- the causes, each by itself
 

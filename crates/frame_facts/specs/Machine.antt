@@ -1,8 +1,8 @@
 -- What a fact says of the machine's registers, and that the effects of the instructions that work on registers keep it so.
-use Rattle.std.specs.Prelude.{ℕ, ◌≡◌, ◌<◌, ◌≤◌, ◌+◌, ◌^◌, ◌==◌, Bool, false, List, length, Option, Some, None, pos}
+use Rattle.std.specs.Prelude.{ℕ, ◌≡◌, ◌≢◌, ◌<◌, ◌≤◌, ◌+◌, ◌^◌, ◌==◌, Bool, false, List, length, Option, Some, None, pos}
 use Rattle.std.specs.List.{list_any}
 use Rattle.thumb_isa.specs.declared.instr.Instr.{Instr}
-use Rattle.thumb_isa.specs.declared.instr.Instr.TheVariants.{MovHigh, ShiftImm, AddSubReg, AddSubImm3, Imm8, Alu, Adr, AddRdSp, Extend, Rev}
+use Rattle.thumb_isa.specs.declared.instr.Instr.TheVariants.{MovHigh, ShiftImm, AddSubReg, AddSubImm3, Imm8, Alu, Adr, AddRdSp, Extend, Rev, MovW, MovT, Div}
 use Rattle.thumb_core.specs.declared.regs.Regs.{Regs}
 use Rattle.thumb_core.specs.Registers.{reg}
 use Rattle.thumb_core.specs.Branch.{mov_high}
@@ -34,7 +34,7 @@ pub record IsRoomy (cfa : ℕ) (regs : Regs) : Type 0 where
   pub room : DEEPEST ≤ cfa
   pub top : cfa < 2 ^ 32
 
--- the low register that an instruction of the data group works on
+-- the register that an instruction of the data group works on
 abbrev pub works_on : Instr → Option ℕ
 works_on (ShiftImm op d m n) = Some d
 works_on (AddSubReg sub d n m) = Some d
@@ -45,12 +45,16 @@ works_on (Adr d off) = Some d
 works_on (AddRdSp d (pos off)) = Some d
 works_on (Extend op d m) = Some d
 works_on (Rev op d m) = Some d
+works_on (MovW d imm) = Some d
+works_on (MovT d imm) = Some d
+works_on (Div signed d n m) = Some d
 works_on i = None
 
--- Where a fact describes the registers before such an instruction, the fact after it describes those that it leaves.
+-- Where a fact describes the registers before such an instruction, which works on another register than sp, the fact after it describes
+-- those that it leaves.
 abbrev pub DataIsDescribed : Type 0
 DataIsDescribed = (entry : ℕ → ℕ) (cfa : ℕ) (p : Prologue) (lowers : Bool) (at : ℕ) (i : Instr) (d : ℕ) (f g : Fact) (regs : Regs)
-    → works_on i ≡ Some d → d < 8 → IsRoomy cfa regs → Describes entry cfa f regs → effect p lowers at i f ≡ Some g
+    → works_on i ≡ Some d → d ≢ 13 → IsRoomy cfa regs → Describes entry cfa f regs → effect p lowers at i f ≡ Some g
     → Describes entry cfa g (data_effect i regs)
 
 -- So it is for MOV of any register to a low one.

@@ -4,7 +4,7 @@ use Rattle.std.specs.List.{list_any}
 use Rattle.std.specs.Option.{option_map_or}
 use Rattle.thumb_core.specs.Words.{listed}
 use Rattle.thumb_isa.specs.declared.instr.Instr.{Instr}
-use Rattle.thumb_isa.specs.declared.instr.Instr.TheVariants.{ShiftImm, AddSubReg, AddSubImm3, Imm8, Alu, AddHigh, CmpHigh, MovHigh, Bx, Blx, LdrLit, MemReg, MemImm, MemSp, Adr, AddRdSp, AddSp, SubSp, Extend, Rev, Push, Pop, Hint, Stm, Ldm, BCond, Svc, B, Bl, Barrier}
+use Rattle.thumb_isa.specs.declared.instr.Instr.TheVariants.{ShiftImm, AddSubReg, AddSubImm3, Imm8, Alu, AddHigh, CmpHigh, MovHigh, Bx, Blx, LdrLit, MemReg, MemImm, MemSp, Adr, AddRdSp, AddSp, SubSp, Extend, Rev, Push, Pop, Hint, Stm, Ldm, BCond, Svc, B, Bl, Barrier, Cbz, BWide, MovW, MovT, Div}
 use Rattle.frame_facts.specs.declared.facts.Source.{Source}
 use Rattle.frame_facts.specs.declared.facts.Source.TheVariants.{Entry, SpAt, Other}
 use Rattle.frame_facts.specs.declared.facts.Fact.{Fact}
@@ -57,6 +57,11 @@ may_stand (Svc imm) = false
 may_stand (B off) = false
 may_stand (Bl off) = false
 may_stand (Barrier op option) = true
+may_stand (Cbz nonzero n off) = false
+may_stand (BWide off) = false
+may_stand (MovW d imm) = is_free d
+may_stand (MovT d imm) = is_free d
+may_stand (Div signed d n m) = is_free d
 
 -- a word at an offset saves a register where the value that it holds is the entry's of one that is the caller's
 abbrev pub saved : ℕ → Source → Option Save

@@ -58,7 +58,12 @@ pub(crate) fn is_indirect(fact: &Fact, i: &Instr) -> bool
         | Instr::Svc { .. }
         | Instr::B { .. }
         | Instr::Bl { .. }
-        | Instr::Barrier { .. } => false,
+        | Instr::Barrier { .. }
+        | Instr::Cbz { .. }
+        | Instr::BWide { .. }
+        | Instr::MovW { .. }
+        | Instr::MovT { .. }
+        | Instr::Div { .. } => false,
     }
 }
 
@@ -96,7 +101,12 @@ pub(crate) fn return_to(p: &Prologue, fact: &Fact, i: &Instr) -> Option<Source>
         | Instr::Svc { .. }
         | Instr::B { .. }
         | Instr::Bl { .. }
-        | Instr::Barrier { .. } => None,
+        | Instr::Barrier { .. }
+        | Instr::Cbz { .. }
+        | Instr::BWide { .. }
+        | Instr::MovW { .. }
+        | Instr::MovT { .. }
+        | Instr::Div { .. } => None,
     }
 }
 

@@ -47,6 +47,11 @@ pub(crate) fn effect(fact: &Fact, i: &Instr, at: u32, p: &Prologue, lowers: bool
         Instr::B { .. } => Some(*fact),
         Instr::Bl { .. } => Some(call(fact)),
         Instr::Barrier { .. } => Some(*fact),
+        Instr::Cbz { .. } => Some(*fact),
+        Instr::BWide { .. } => Some(*fact),
+        Instr::MovW { d, .. } => Some(fact.with(d, Source::Other)),
+        Instr::MovT { d, .. } => Some(fact.with(d, Source::Other)),
+        Instr::Div { d, .. } => Some(fact.with(d, Source::Other)),
     }
 }
 

@@ -29,8 +29,8 @@ pub fn standard_frames_agree()
     ensures { StandardFrames }
 {}
 
-/// Facts say what is so of the machine's registers: where a fact describes them before an instruction that works on a low register, or a
-/// MOV to one, the fact after it describes those that the core leaves; and a fact that clobbers some registers describes any that differ
+/// Facts say what is so of the machine's registers: where a fact describes them before an instruction that works on a register, or a
+/// MOV to a low one, the fact after it describes those that the core leaves; and a fact that clobbers some registers describes any that differ
 /// only in these.
 pub fn registers_are_described()
     ensures { RegistersAreDescribed }

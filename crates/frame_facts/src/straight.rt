@@ -81,6 +81,11 @@ fn may_stand(i: &Instr) -> bool
         Instr::B { .. } => false,
         Instr::Bl { .. } => false,
         Instr::Barrier { .. } => true,
+        Instr::Cbz { .. } => false,
+        Instr::BWide { .. } => false,
+        Instr::MovW { d, .. } => is_free(d),
+        Instr::MovT { d, .. } => is_free(d),
+        Instr::Div { d, .. } => is_free(d),
     }
 }
 
@@ -182,7 +187,12 @@ impl Straight {
             | Instr::Svc { .. }
             | Instr::B { .. }
             | Instr::Bl { .. }
-            | Instr::Barrier { .. } => Some(self.prologue),
+            | Instr::Barrier { .. }
+            | Instr::Cbz { .. }
+            | Instr::BWide { .. }
+            | Instr::MovW { .. }
+            | Instr::MovT { .. }
+            | Instr::Div { .. } => Some(self.prologue),
         }
     }
 

@@ -68,7 +68,7 @@ instruction_vaguer : (x : Framed) (p : ℕ) (f g : Fact) (i : Instr) → IsAtMos
 instruction_vaguer x p f g i m h =
     let a = both_nil (answered (after_at x p g i)) (option_map_or (site_causes x (is_call i) g) (site_at x.flow_graph p) []) h in
     let w = answered_ok (after_at x p g i) a.0 in
-    let v = after_vaguer x.prologue false (address_of x.flow_graph p) i f g w.0 m w.1 in
+    let v = after_vaguer x.prologue (x.lowers p) (address_of x.flow_graph p) i f g w.0 m w.1 in
     from_nils (answered (after_at x p f i)) (option_map_or (site_causes x (is_call i) f) (site_at x.flow_graph p) [])
     (ap answered v.1) (sites_vaguer x (is_call i) f g (site_at x.flow_graph p) m a.1)
 

@@ -51,8 +51,8 @@ is_answered r d e = subst (λ (s : Result _ FrameCause). Contains (answered s) d
 abbrev ByEffect : FrameCause → Type 0
 ByEffect c = (c ≡ IndirectBranch) ⊎ ((c ≡ SpWrite) ⊎ (c ≡ ReturnState))
 
-after_shows : (p : Prologue) (at : ℕ) (i : Instr) (f : Fact) (c : FrameCause) → after_of p false at i f ≡ Err c → ByEffect c
-after_shows p at i f c h = first (is_indirect i f) h
+after_shows : (p : Prologue) (lowers : Bool) (at : ℕ) (i : Instr) (f : Fact) (c : FrameCause) → after_of p lowers at i f ≡ Err c → ByEffect c
+after_shows p lowers at i f c h = first (is_indirect i f) h
   where
     well : (b : Bool) (g : Fact) → cond b (Ok g) (Err ReturnState) ≡ Err c → ByEffect c
     well true g h = absurd cc
@@ -66,9 +66,9 @@ after_shows p at i f c h = first (is_indirect i f) h
     gone pc None h = inr (inl cc)
     gone pc (Some g) h = back pc g h
 
-    first : (b : Bool) → cond b (Err IndirectBranch) (gone_on (return_to p i f) (effect p false at i f)) ≡ Err c → ByEffect c
+    first : (b : Bool) → cond b (Err IndirectBranch) (gone_on (return_to p i f) (effect p lowers at i f)) ≡ Err c → ByEffect c
     first true h = inl cc
-    first false h = gone (return_to p i f) (effect p false at i f) h
+    first false h = gone (return_to p i f) (effect p lowers at i f) h
 
 abbrev BySite : FrameCause → Type 0
 BySite c = ((reg : ℕ) × (c ≡ CallState reg)) ⊎ ((reg : ℕ) × (c ≡ FramePointerLost reg))
@@ -183,7 +183,7 @@ holds x p f c (shows i e h) = ⊎_elim
     (λ (is : c ≡ SpWrite). subst (λ k. Holds x p f k) (sym is) (i, e, h ∙ ap Err is))
     (λ (is : c ≡ ReturnState). subst (λ k. Holds x p f k) (sym is) (i, e, h ∙ ap Err is))
     more)
-    (after_shows x.prologue (address_of x.flow_graph p) i f c h)
+    (after_shows x.prologue (x.lowers p) (address_of x.flow_graph p) i f c h)
 holds x p f c (unwinds i site e s h by) = ⊎_elim
     (λ (w : (reg : ℕ) × (c ≡ CallState reg)). subst (λ k. Holds x p f k) (sym w.1) (i, site, e, s, subst (λ k. Disagrees x.prologue (unwinding_at x.flow_graph site) i f k) w.1 h))
     (λ (w : (reg : ℕ) × (c ≡ FramePointerLost reg)). subst (λ k. Holds x p f k) (sym w.1) (i, site, e, s, subst (λ k. Disagrees x.prologue (unwinding_at x.flow_graph site) i f k) w.1 h))

@@ -107,7 +107,7 @@ transfer_vaguer x p f g m h q f' c =
     let e = transfer_is x p f q f' c in
     let i = after_is x p f e.0 e.1 in
     let b = passes_after x p g i.0 (passes_found x p g h) i.1 in
-    let v = after_vaguer x.prologue false (address_of x.flow_graph p) i.0 f g b.0 m b.1 in
+    let v = after_vaguer x.prologue (x.lowers p) (address_of x.flow_graph p) i.0 f g b.0 m b.1 in
     let one : v.0 ≡ e.0 = same_Some v.0 e.0 (sym (is_after x p f v.0 i.0 i.1 v.1) ∙ e.1) in
     let w = e.2.0 in
     let to : w.to ≡ q = ap (λ (y : ℕ × Fact). y.0) e.2.2 in
@@ -128,7 +128,7 @@ state_fits x _ _ at_entry = entered_fits x.prologue.count
 state_fits x _ _ (along {p} {q} {f} {g} s e) =
     let w = transfer_is x p f q g e in
     let i = after_is x p f w.0 w.1 in
-    let fit = after_fits x.prologue false (address_of x.flow_graph p) i.0 f w.0 (state_fits x p f s) i.2 in
+    let fit = after_fits x.prologue (x.lowers p) (address_of x.flow_graph p) i.0 f w.0 (state_fits x p f s) i.2 in
     subst (λ k. IsFit x.prologue.count k) (ap (λ (y : ℕ × Fact). y.1) w.2.2) (clobbered_fits x.prologue.count (listed w.2.0.clobbers) w.0 fit)
 state_fits x _ _ (meeting {p} {f} {g} {h} s t e) = join_fits x.prologue.count f g h (state_fits x p f s) e
 

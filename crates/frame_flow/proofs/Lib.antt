@@ -6,7 +6,6 @@ pub mod Visiting
 pub mod Reaching
 pub mod Rising
 pub mod Conditions
-pub mod Pads
 pub mod Standing
 pub mod Transfers
 pub mod Slots

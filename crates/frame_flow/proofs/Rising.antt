@@ -68,12 +68,12 @@ gone_between : (pc : Option Source) (o : Option Fact) → Between 2 7 (gone_on p
 gone_between pc None = (omega arith, omega arith)
 gone_between pc (Some g) = returned_between pc g
 
-after_between : (p : Prologue) (at : ℕ) (i : Instr) (f : Fact) → Between 2 7 (after_of p false at i f)
-after_between p at i f = by (is_indirect i f)
+after_between : (p : Prologue) (lowers : Bool) (at : ℕ) (i : Instr) (f : Fact) → Between 2 7 (after_of p lowers at i f)
+after_between p lowers at i f = by (is_indirect i f)
   where
-    by : (b : Bool) → Between {X = Fact} 2 7 (cond b (Err IndirectBranch) (gone_on (return_to p i f) (effect p false at i f)))
+    by : (b : Bool) → Between {X = Fact} 2 7 (cond b (Err IndirectBranch) (gone_on (return_to p i f) (effect p lowers at i f)))
     by true = (omega arith, omega arith)
-    by false = gone_between (return_to p i f) (effect p false at i f)
+    by false = gone_between (return_to p i f) (effect p lowers at i f)
 
 answer_between : (o : Option ℕ) (lost : Bool) (base : ℕ) → Between 7 9 (answer o lost base)
 answer_between (Some reg) lost base = (omega arith, omega arith)
@@ -106,7 +106,7 @@ site_rises x call f (Some site) =
 
 instruction_rises : (x : Framed) (p : ℕ) (f : Fact) (i : Instr) → Rising 2 (instruction_causes x p f i)
 instruction_rises x p f i = answered_rises 2 7 (after_at x p f i) (option_map_or (site_causes x (is_call i) f) (site_at x.flow_graph p) []) (omega arith)
-    (after_between x.prologue (address_of x.flow_graph p) i f) (site_rises x (is_call i) f (site_at x.flow_graph p))
+    (after_between x.prologue (x.lowers p) (address_of x.flow_graph p) i f) (site_rises x (is_call i) f (site_at x.flow_graph p))
 
 -- BL shows no cause by its effect
 call_is_fine : (x : Framed) (p : ℕ) (f : Fact) (i : Instr) (t : ℕ) → call_target (address_of x.flow_graph p) i ≡ Some t → answered (after_at x p f i) ≡ []

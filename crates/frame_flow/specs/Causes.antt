@@ -54,9 +54,9 @@ site_causes x call f site =
 
 -- ---- places
 
--- what the instruction at a place does to the fact; no address is a place where sp is lowered by an unknown amount
+-- what the instruction at a place does to the fact
 abbrev pub after_at : Framed → ℕ → Fact → Instr → Result Fact FrameCause
-after_at x p f i = after_of x.prologue false (address_of x.flow_graph p) i f
+after_at x p f i = after_of x.prologue (x.lowers p) (address_of x.flow_graph p) i f
 
 abbrev pub instruction_causes : Framed → ℕ → Fact → Instr → List FrameCause
 instruction_causes x p f i = answered (after_at x p f i) ++ option_map_or (site_causes x (is_call i) f) (site_at x.flow_graph p) []

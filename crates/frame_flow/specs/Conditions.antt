@@ -24,10 +24,10 @@ use Rattle.frame_flow.specs.Flows.{transfer, IsStateOf, StandsIn}
 
 -- the effect of the instruction at a place
 abbrev pub Leaves : Framed → ℕ → Fact → Fact → Type 0
-Leaves x p f g = (i : Instr) × (instruction_at x.flow_graph p ≡ Some i) × (after_of x.prologue false (address_of x.flow_graph p) i f ≡ Ok g)
+Leaves x p f g = (i : Instr) × (instruction_at x.flow_graph p ≡ Some i) × (after_of x.prologue (x.lowers p) (address_of x.flow_graph p) i f ≡ Ok g)
 
 abbrev pub Shows : Framed → ℕ → Fact → FrameCause → Type 0
-Shows x p f c = (i : Instr) × (instruction_at x.flow_graph p ≡ Some i) × (after_of x.prologue false (address_of x.flow_graph p) i f ≡ Err c)
+Shows x p f c = (i : Instr) × (instruction_at x.flow_graph p ≡ Some i) × (after_of x.prologue (x.lowers p) (address_of x.flow_graph p) i f ≡ Err c)
 
 -- a site at a place
 abbrev pub AtSite : Framed → ℕ → (Instr → ℕ → Type 0) → Type 0

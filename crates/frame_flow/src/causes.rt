@@ -1,16 +1,18 @@
 //! The causes that a fact meets at a place, the lowest first. docs/acceptance.md, "Causes".
-ghost use Rattle.std.specs.Prelude.{◌≡◌, ◌+◌, ◌*◌, ◌<◌, ◌^◌};
+ghost use Rattle.std.specs.Prelude.{◌≡◌, ◌+◌, ◌*◌, ◌<◌, ◌^◌, Some, is_some};
 ghost use Rattle.frame_flow.specs.Framed.{framed_of};
 ghost use Rattle.frame_flow.specs.Causes.{is_call, unwound, throws_in_leaf, site_causes, causes_at};
 ghost use Rattle.frame_flow.specs.Flows.{fact_after, parting};
 ghost use Rattle.frame_flow.specs.Work.{by_first, passed};
+ghost use Rattle.frame_graph.specs.Edges.{instruction_at};
+ghost use Rattle.frame_graph.specs.Lowering.{sets_sp_from};
 ghost use Rattle.frame_graph.specs.Sites.{unwinding_at, pads_out};
 ghost use Rattle.frame_graph.specs.Stretch.{Tells, TellsOn};
 
 use crate::framed::Framed;
 use frame_facts::{Fact, FrameCause, after, agrees};
 use frame_graph::{Standing, Stretch, Unwinding};
-use thumb_core::regs::LR;
+use thumb_core::regs::{LR, SP};
 use thumb_isa::instr::Instr;
 
 /// Of a call and a gate, the call.
@@ -18,6 +20,13 @@ fn is_call(i: &Instr) -> bool
     ensures { result ≡ is_call i.now }
 {
     matches!(*i, Instr::Bl { .. } | Instr::Blx { .. })
+}
+
+/// Whether it is a MOV into sp.
+fn sets_sp(i: &Instr) -> bool
+    ensures { result ≡ is_some (sets_sp_from i.now) }
+{
+    matches!(*i, Instr::MovHigh { d: SP, .. })
 }
 
 impl<'f, 's, 'i, 'a> Framed<'f, 's, 'i, 'a> {
@@ -74,6 +83,14 @@ impl<'f, 's, 'i, 'a> Framed<'f, 's, 'i, 'a> {
         Ok(())
     }
 
+    /// Whether a frame of variable size is made at a place, by the instruction there. Only for a MOV into sp is anything else looked at.
+    fn lowers_at(&self, place: u32, i: &Instr) -> bool
+        requires { instruction_at self.now.flow_graph place ≡ Some i.now }
+        ensures { result ≡ (framed_of self.now).lowers place }
+    {
+        sets_sp(i) && self.flow_graph.is_lowering(self.reached, place)
+    }
+
     /// The fact after a place, none where nothing leads on; or the lowest cause that the fact before it meets there. The stretch is
     /// that of its site.
     pub(crate) fn passed(
@@ -104,7 +121,7 @@ impl<'f, 's, 'i, 'a> Framed<'f, 's, 'i, 'a> {
             &i,
             self.flow_graph.address_of(place),
             &self.prologue,
-            false,
+            self.lowers_at(place, &i),
         ) {
             Err(cause) => Err(cause),
             Ok(next) => match self.flow_graph.site_by(place, standing) {

@@ -6,12 +6,14 @@ use frame_facts::Prologue;
 use frame_graph::FlowGraph;
 use std::marker::Model;
 
-/// A function, its prologue, and a mark for each of its places that says whether it is a landing pad; a place without a mark is none.
+/// A function, its prologue, and two marks for each of its places that say whether it is a landing pad and whether it is reached; a place
+/// without a mark is neither.
 #[derive(Drop)]
 pub struct Framed<'f, 's, 'i, 'a> {
     pub(crate) flow_graph: &'f FlowGraph<'s, 'i, 'a>,
     pub(crate) prologue: Prologue,
     pub(crate) pads: &'f [bool],
+    pub(crate) reached: &'f [bool],
 }
 
 impl<'f, 's, 'i, 'a> Model for Framed<'f, 's, 'i, 'a> {
@@ -19,22 +21,24 @@ impl<'f, 's, 'i, 'a> Model for Framed<'f, 's, 'i, 'a> {
 
     ghost Value = { Parts };
 
-    ghost view = { λ f. record { flow_graph = f.flow_graph.now; prologue = f.prologue; pads = f.pads.now } };
+    ghost view = { λ f. record { flow_graph = f.flow_graph.now; prologue = f.prologue; pads = f.pads.now; reached = f.reached.now } };
 }
 
 impl<'f, 's, 'i, 'a> Framed<'f, 's, 'i, 'a> {
-    /// The function of a flow graph with its prologue and its pads.
+    /// The function of a flow graph with its prologue, its pads and the places that are reached.
     pub fn new(
         flow_graph: &'f FlowGraph<'s, 'i, 'a>,
         prologue: Prologue,
         pads: &'f [bool],
+        reached: &'f [bool],
     ) -> Framed<'f, 's, 'i, 'a>
-        ensures { result ≡ record { flow_graph = flow_graph.entry.now; prologue = prologue; pads = pads.entry.now } }
+        ensures { result ≡ record { flow_graph = flow_graph.entry.now; prologue = prologue; pads = pads.entry.now; reached = reached.entry.now } }
     {
         Framed {
             flow_graph,
             prologue,
             pads,
+            reached,
         }
     }
 }

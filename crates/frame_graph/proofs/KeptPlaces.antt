@@ -3,6 +3,8 @@ use Rattle.std.proofs.Common.{ℕ, ◌≡◌, ◌<◌, ◌≤◌, ◌+◌, ◌*�
 use Rattle.std.proofs.Math.ListN.{get_or-append}
 use Rattle.std.proofs.Math.Seq.{get_or-append_seam}
 use borrow.Author.Count.{below_more}
+use Rattle.thumb_isa.specs.declared.profile.Profile.{Profile}
+use Rattle.image_memory.specs.Profiles.{profile_of}
 use Rattle.frame_graph.specs.declared.places.Standing.{Standing}
 use Rattle.frame_graph.specs.declared.kept_places.KeptPlace.{KeptPlace}
 use Rattle.frame_graph.specs.FlowGraph.{FlowGraph}
@@ -32,13 +34,14 @@ held code standing = record { code = code; standing = standing }
 same_held : (a b : Bool) (x y : Standing) → a ≡ b → x ≡ y → held a x ≡ held b y
 same_held a b x y e f = cc
 
--- a place more, by its halfword and that of the next
-pub read_more : (s : FlowGraph) (places : List KeptPlace) (k : ℕ) (code : Bool) (first second : Option ℕ) (standing : Standing) → length places ≡ k → ArePlaces s places
-    → code ≡ is_place s k → first ≡ halfword_of s k → second ≡ halfword_of s (k + 1) → standing ≡ standing_by first second
+-- a place more, by the profile, its halfword and that of the next
+pub read_more : (s : FlowGraph) (places : List KeptPlace) (k : ℕ) (code : Bool) (profile : Profile) (first second : Option ℕ) (standing : Standing) → length places ≡ k → ArePlaces s places
+    → code ≡ is_place s k → profile ≡ profile_of s.image → first ≡ halfword_of s k → second ≡ halfword_of s (k + 1) → standing ≡ standing_by profile first second
     → ArePlaces s (places ++ record { code = code; standing = standing } ∷ [])
 unfolding standing_at
-read_more s places k code first second standing len kept is f g by =
-    let at : standing ≡ standing_at s k = by ∙ (ap (λ (o : Option ℕ). standing_by o second) f ∙ ap (λ (o : Option ℕ). standing_by (halfword_of s k) o) g) in
+read_more s places k code profile first second standing len kept is pr f g by =
+    let at : standing ≡ standing_at s k =
+    by ∙ (ap (λ (p : Profile). standing_by p first second) pr ∙ (ap (λ (o : Option ℕ). standing_by (profile_of s.image) o second) f ∙ ap (λ (o : Option ℕ). standing_by (profile_of s.image) (halfword_of s k) o) g)) in
     one_more s places (held code standing) kept (subst (λ (n : ℕ). held code standing ≡ kept_of s n) (sym len) (same_held code (is_place s k) standing (standing_at s k) is at))
 
 -- whether an address is code, by what is kept of its place

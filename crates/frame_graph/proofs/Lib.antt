@@ -5,5 +5,7 @@ pub mod Kept
 pub mod KeptPlaces
 pub mod Inside
 pub mod Landings
+pub mod Lowered
 pub mod Stretches
 pub mod Thinned
+pub mod NoLowering

@@ -2,7 +2,7 @@
 use Rattle.std.specs.Prelude.{ℕ, ◌+◌, ◌^◌, ◌==◌, not, nat_lt, Bool, true, false, if◌then◌else◌, List, [], ◌∷◌, ◌++◌, Option, Some, None, option_and_then}
 use Rattle.std.specs.Option.{option_map_or}
 use Rattle.thumb_isa.specs.declared.instr.Instr.{Instr}
-use Rattle.thumb_isa.specs.declared.instr.Instr.TheVariants.{MovHigh, AddHigh, Bx, Pop, B, BCond, Bl}
+use Rattle.thumb_isa.specs.declared.instr.Instr.TheVariants.{MovHigh, AddHigh, Bx, Pop, B, BCond, Bl, Cbz, BWide}
 use Rattle.thumb_core.specs.Data.{forward}
 use Rattle.image_memory.specs.Start.{begins_function}
 use Rattle.frame_graph.specs.declared.places.Standing.{Standing}
@@ -11,10 +11,11 @@ use Rattle.frame_graph.specs.declared.edges.Edge.{Edge}
 use Rattle.frame_graph.specs.FlowGraph.{FlowGraph}
 use Rattle.frame_graph.specs.Places.{address_of, place_of, is_code_of, standing_at}
 
--- the instruction can be followed by the one after it: all but B, and what writes pc with the value of a register or a word. A call and
+-- the instruction can be followed by the one after it: all but B of either width, and what writes pc with the value of a register or a word. A call and
 -- a gate come back
 abbrev pub reaches_next : Instr → Bool
 reaches_next (B off) = false
+reaches_next (BWide off) = false
 reaches_next (Bx m) = false
 reaches_next (Pop list) = nat_lt list (2 ^ 15)
 reaches_next (MovHigh d m) = not (d == 15)
@@ -25,6 +26,8 @@ reaches_next i = true
 abbrev pub branch_target : ℕ → Instr → Option ℕ
 branch_target a (B off) = Some (forward (a + 4) off)
 branch_target a (BCond cc off) = Some (forward (a + 4) off)
+branch_target a (Cbz nonzero n off) = Some (forward (a + 4) off)
+branch_target a (BWide off) = Some (forward (a + 4) off)
 branch_target a i = None
 
 -- where BL at an address leads

@@ -1,13 +1,15 @@
 -- What flow graphs tell, in the words of the standard: laws above the definitions.
-use Rattle.std.specs.Prelude.{ℕ, ◌≡◌, ◌+◌, ◌*◌, ◌<◌, true, false, Some, List, ◌∷◌, ◌++◌, [], Ok, option_and_then}
+use Rattle.std.specs.Prelude.{ℕ, ◌≡◌, ◌+◌, ◌*◌, ◌<◌, ◌↔◌, Bool, true, false, Some, List, ◌∷◌, ◌++◌, [], Ok, option_and_then}
 use Rattle.std.specs.List.{Contains, list_any}
 use Rattle.eh_desc.specs.declared.descriptor.Desc.{Desc}
+use Rattle.thumb_isa.specs.declared.instr.Instr.TheVariants.{AddSubReg, MovHigh}
 use Rattle.frame_graph.specs.declared.unwinding.Unwinding.{Unwinding}
 use Rattle.frame_graph.specs.declared.edges.Edge.{Edge}
 use Rattle.frame_graph.specs.FlowGraph.{FlowGraph}
 use Rattle.frame_graph.specs.Reach.{IsReached}
 use Rattle.frame_graph.specs.Places.{is_place, address_of, place_of}
-use Rattle.frame_graph.specs.Edges.{edges_to}
+use Rattle.frame_graph.specs.Edges.{edges_to, instruction_at}
+use Rattle.frame_graph.specs.Lowering.{is_lowering}
 use Rattle.frame_graph.specs.Unwinding.{landing_changes}
 use Rattle.frame_graph.specs.Sites.{Item, is_one, cleans, pad_for, pad_edges, edges_of}
 
@@ -32,3 +34,19 @@ ReachedPlacesAreInside = (s : FlowGraph) (p : ℕ) → s.start < s.end → IsRea
 -- the place of the address of a place that is code of the function is that place
 abbrev pub PlacesHaveTheirAddress : Type 0
 PlacesHaveTheirAddress = (s : FlowGraph) (p : ℕ) → is_place s p ≡ true → place_of s (address_of s p) ≡ Some p
+
+-- a MOV of a register into sp stands at a place, a SUB of two registers into that register stands 2 bytes before it, and both are reached
+pub record IsLoweredFrame (s : FlowGraph) (reached : ℕ → Bool) (place : ℕ) : Type 0 where
+  pub before : ℕ
+  pub register : ℕ
+  pub minuend : ℕ
+  pub subtrahend : ℕ
+  pub address : address_of s place ≡ address_of s before + 2
+  pub subtraction : instruction_at s before ≡ Some (AddSubReg true register minuend subtrahend)
+  pub copy : instruction_at s place ≡ Some (MovHigh 13 register)
+  pub first : reached before ≡ true
+  pub second : reached place ≡ true
+
+-- the lowering places are these, and no others
+abbrev pub LoweringPlacesAreCopies : Type 0
+LoweringPlacesAreCopies = (s : FlowGraph) (reached : ℕ → Bool) (place : ℕ) → (is_lowering s reached place ≡ true) ↔ IsLoweredFrame s reached place

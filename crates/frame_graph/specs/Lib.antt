@@ -8,3 +8,4 @@ pub mod Cover
 pub mod Stretch
 pub mod Laws
 pub mod Reach
+pub mod Lowering

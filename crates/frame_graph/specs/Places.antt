@@ -5,7 +5,9 @@ use Rattle.elf_image.specs.Functions.{segment_at}
 use Rattle.elf_image.specs.Image.{Image, is_code_in}
 use Rattle.thumb_isa.specs.declared.instr.Decoded.{Decoded}
 use Rattle.thumb_isa.specs.declared.instr.Decoded.TheVariants.{Is, Undefined, Unpredictable, NotInProfile}
-use Rattle.thumb_isa.specs.Rows.{decoded_of}
+use Rattle.thumb_isa.specs.declared.profile.Profile.{Profile}
+use Rattle.thumb_isa.specs.Rows.{decoded_for}
+use Rattle.image_memory.specs.Profiles.{profile_of}
 use Rattle.thumb_isa.specs.Range.{size_of}
 use Rattle.frame_graph.specs.declared.places.Standing.{Standing}
 use Rattle.frame_graph.specs.declared.places.Standing.TheVariants as standing
@@ -58,17 +60,17 @@ of_decoded Unpredictable = standing.Nothing
 of_decoded NotInProfile = standing.Nothing
 
 -- an instruction of two halfwords, whose second is the function's too
-abbrev pub wide_of : ℕ → Option ℕ → Standing
-wide_of first None = standing.Nothing
-wide_of first (Some second) = of_decoded (decoded_of first second)
+abbrev pub wide_of : Profile → ℕ → Option ℕ → Standing
+wide_of p first None = standing.Nothing
+wide_of p first (Some second) = of_decoded (decoded_for p first second)
 
 -- by its first halfword an instruction has one or two; the second of two stands at the next place
-abbrev pub standing_by : Option ℕ → Option ℕ → Standing
-standing_by None second = standing.Nothing
-standing_by (Some first) second =
+abbrev pub standing_by : Profile → Option ℕ → Option ℕ → Standing
+standing_by p None second = standing.Nothing
+standing_by p (Some first) second =
     if is_udf first then standing.Udf
-    else (if size_of first == 2 then of_decoded (decoded_of first 0) else wide_of first second)
+    else (if size_of first == 2 then of_decoded (decoded_for p first 0) else wide_of p first second)
 
--- what stands at a place of the function
+-- what stands at a place of the function, by the rows of its image's profile
 unfoldable pub standing_at : FlowGraph → ℕ → Standing
-standing_at s place = standing_by (halfword_of s place) (halfword_of s (place + 1))
+standing_at s place = standing_by (profile_of s.image) (halfword_of s place) (halfword_of s (place + 1))

@@ -4,6 +4,7 @@ ghost use Rattle.std.specs.Prelude.{◌≡◌, ◌++◌, Some, true, IfOk, IfSom
 ghost use Rattle.std.specs.List.{list_any, filter};
 ghost use Rattle.eh_index.specs.Places.{table_of};
 ghost use Rattle.eh_desc.specs.Grammar.{items_of};
+ghost use Rattle.image_memory.specs.Profiles.{profile_of};
 ghost use Rattle.frame_graph.specs.Sites.{is_fault};
 ghost use Rattle.frame_graph.specs.Cover.{CoversTo, IsBetween};
 ghost use Rattle.frame_graph.specs.Stretch.{is_met, IsWithin};
@@ -15,12 +16,15 @@ use eh_desc::{Desc, DescFault, Descs};
 use eh_index::{Entry, Index};
 use std::alloc::{AllocError, Global};
 use std::marker::Model;
+use thumb_isa::profile::Profile;
 
 /// An entry of an exception index with what it says, or no entry yet; of its descriptors those that are at hand, since their scope meets a
 /// span of addresses; and what stands at the places of one function. Contracts see the image alone: what is kept is what its bytes say.
 #[derive(Drop)]
 pub struct Cover<'s, 'i, 'a> {
     pub(crate) index: &'s Index<'i, 'a>,
+    /// That of the index's image.
+    pub(crate) profile: Profile,
     pub(crate) entry: Option<Entry>,
     pub(crate) unwinding: Unwinding,
     pub(crate) items: Vec<Result<Desc, DescFault>>,
@@ -33,7 +37,9 @@ pub struct Cover<'s, 'i, 'a> {
 }
 
 impl<'s, 'i, 'a> Model for Cover<'s, 'i, 'a> {
+    ghost use Rattle.std.specs.Prelude.{◌≡◌};
     ghost use Rattle.elf_image.specs.Image.{Image as Parts};
+    ghost use Rattle.image_memory.specs.Profiles.{profile_of};
     ghost use Rattle.frame_graph.specs.Cover.{IsKept, CoversTo};
     ghost use Rattle.frame_graph.specs.Stretch.{AreAtHand};
     ghost use Rattle.frame_graph.specs.KeptPlaces.{ArePlaces};
@@ -42,7 +48,7 @@ impl<'s, 'i, 'a> Model for Cover<'s, 'i, 'a> {
 
     ghost view = { λ c. c.index.now };
 
-    ghost invariant = { λ c. IsKept c.index.now c.entry c.unwinding c.items.items c.faulty × AreAtHand c.index.now c.entry c.span c.near.items × ArePlaces (record { image = c.index.now; start = c.kept.start; end = c.kept.end }) c.kept.places.items × CoversTo c.index.now c.entry c.last };
+    ghost invariant = { λ c. IsKept c.index.now c.entry c.unwinding c.items.items c.faulty × AreAtHand c.index.now c.entry c.span c.near.items × ArePlaces (record { image = c.index.now; start = c.kept.start; end = c.kept.end }) c.kept.places.items × CoversTo c.index.now c.entry c.last × (c.profile ≡ profile_of c.index.now) };
 }
 
 /// Whether the entry that is kept is this one.
@@ -141,12 +147,14 @@ fn lies_within(span: Option<Span>, function: &Span) -> bool
 const FEW: usize = 8;
 
 impl<'s, 'i, 'a> Cover<'s, 'i, 'a> {
-    /// No entry yet.
-    pub fn new(alloc: Global, index: &'s Index<'i, 'a>) -> Cover<'s, 'i, 'a>
+    /// No entry yet. The profile is that of the index's image.
+    pub fn new(alloc: Global, index: &'s Index<'i, 'a>, profile: Profile) -> Cover<'s, 'i, 'a>
+        requires { profile ≡ profile_of index.now }
         ensures { result ≡ index.entry.now }
     {
         Cover {
             index,
+            profile,
             entry: None,
             unwinding: Unwinding::Refused,
             items: Vec::new(alloc),
@@ -162,14 +170,17 @@ impl<'s, 'i, 'a> Cover<'s, 'i, 'a> {
     fn read(
         alloc: Global,
         index: &'s Index<'i, 'a>,
+        profile: Profile,
         e: Entry,
     ) -> Result<Cover<'s, 'i, 'a>, AllocError>
+        requires { profile ≡ profile_of index.now }
         ensures { IfOk result (λ c. c ≡ index.entry.now) }
     {
         let items = read_items(alloc, index, &e)?;
         let faulty = any_fault(&items);
         Ok(Cover {
             index,
+            profile,
             entry: Some(e),
             unwinding: of_entry(index, &e),
             items,
@@ -192,7 +203,7 @@ impl<'s, 'i, 'a> Cover<'s, 'i, 'a> {
                 if is_entry(self.entry, &e) {
                     Ok(self)
                 } else {
-                    Cover::read(alloc, index, e)
+                    Cover::read(alloc, index, self.profile, e)
                 }
             }
         }
@@ -210,6 +221,7 @@ impl<'s, 'i, 'a> Cover<'s, 'i, 'a> {
         let near = near_items(alloc, &span, &self.items)?;
         Ok(Cover {
             index: self.index,
+            profile: self.profile,
             entry: self.entry,
             unwinding: self.unwinding,
             items: self.items,
@@ -235,10 +247,11 @@ impl<'s, 'i, 'a> Cover<'s, 'i, 'a> {
             low: start,
             last: end.saturating_sub(1).max(start),
         };
-        let kept = KeptPlaces::read(alloc, self.index, start, end)?;
+        let kept = KeptPlaces::read(alloc, self.index, self.profile, start, end)?;
         let around = self.chosen(alloc, &function)?;
         Ok(Cover {
             index: around.index,
+            profile: around.profile,
             entry: around.entry,
             unwinding: around.unwinding,
             items: around.items,

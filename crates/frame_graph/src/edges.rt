@@ -24,7 +24,7 @@ fn reaches_next(i: Instr) -> bool
     ensures { result ≡ reaches_next i }
 {
     match i {
-        Instr::B { .. } | Instr::Bx { .. } => false,
+        Instr::B { .. } | Instr::BWide { .. } | Instr::Bx { .. } => false,
         Instr::Pop { list } => list < 0x8000,
         Instr::MovHigh { d, .. } | Instr::AddHigh { d, .. } => d != 15,
         Instr::ShiftImm { .. }
@@ -51,7 +51,11 @@ fn reaches_next(i: Instr) -> bool
         | Instr::BCond { .. }
         | Instr::Svc { .. }
         | Instr::Bl { .. }
-        | Instr::Barrier { .. } => true,
+        | Instr::Barrier { .. }
+        | Instr::Cbz { .. }
+        | Instr::MovW { .. }
+        | Instr::MovT { .. }
+        | Instr::Div { .. } => true,
     }
 }
 
@@ -70,6 +74,12 @@ fn branch_target(a: u32, i: Instr) -> Option<u32>
         return Some(target(a, off));
     }
     if let Instr::BCond { off, .. } = i {
+        return Some(target(a, off));
+    }
+    if let Instr::Cbz { off, .. } = i {
+        return Some(target(a, off));
+    }
+    if let Instr::BWide { off } = i {
         return Some(target(a, off));
     }
     None

@@ -1,5 +1,6 @@
 //! A function of an image, as a value. docs/flow-graphs.md, "Functions and places".
 ghost use Rattle.std.specs.Prelude.{◌≡◌};
+ghost use Rattle.image_memory.specs.Profiles.{profile_of};
 ghost use Rattle.frame_graph.specs.FlowGraph.{FlowGraph as Parts};
 
 use crate::cover::Cover;
@@ -9,12 +10,15 @@ use crate::unwinding::Unwinding;
 use eh_desc::{Desc, DescFault};
 use eh_index::{Entry, Index};
 use std::marker::Model;
+use thumb_isa::profile::Profile;
 
 /// A function of an image whose exception index is read, by its first address and the first one above it, in bytes. Contracts see the
 /// image and these two. It takes no memory: what is kept of an entry and of the places is lent by a `Cover`.
 #[derive(Drop)]
 pub struct FlowGraph<'s, 'i, 'a> {
     pub(crate) index: &'s Index<'i, 'a>,
+    /// That of the index's image.
+    pub(crate) profile: Profile,
     pub(crate) start: u32,
     pub(crate) end: u32,
     pub(crate) entry: Option<Entry>,
@@ -28,6 +32,8 @@ pub struct FlowGraph<'s, 'i, 'a> {
 }
 
 impl<'s, 'i, 'a> Model for FlowGraph<'s, 'i, 'a> {
+    ghost use Rattle.std.specs.Prelude.{◌≡◌};
+    ghost use Rattle.image_memory.specs.Profiles.{profile_of};
     ghost use Rattle.frame_graph.specs.FlowGraph.{FlowGraph as Parts};
     ghost use Rattle.frame_graph.specs.Cover.{IsKept, CoversTo};
     ghost use Rattle.frame_graph.specs.Stretch.{AreAtHand};
@@ -37,16 +43,24 @@ impl<'s, 'i, 'a> Model for FlowGraph<'s, 'i, 'a> {
 
     ghost view = { λ s. record { image = s.index.now; start = s.start; end = s.end } };
 
-    ghost invariant = { λ s. IsKept s.index.now s.entry s.unwinding s.items.now s.faulty × AreAtHand s.index.now s.entry s.span s.near.now × ArePlaces (record { image = s.index.now; start = s.start; end = s.end }) s.places.now × CoversTo s.index.now s.entry s.last };
+    ghost invariant = { λ s. IsKept s.index.now s.entry s.unwinding s.items.now s.faulty × AreAtHand s.index.now s.entry s.span s.near.now × ArePlaces (record { image = s.index.now; start = s.start; end = s.end }) s.places.now × CoversTo s.index.now s.entry s.last × (s.profile ≡ profile_of s.index.now) };
 }
 
 impl<'s, 'i, 'a> FlowGraph<'s, 'i, 'a> {
-    /// The function from `start` to below `end`. Each question of an entry or a place reads it anew.
-    pub fn new(index: &'s Index<'i, 'a>, start: u32, end: u32) -> FlowGraph<'s, 'i, 'a>
+    /// The function from `start` to below `end`, whose instructions are decoded by the profile of its image. Each question of an entry or
+    /// a place reads it anew.
+    pub fn new(
+        index: &'s Index<'i, 'a>,
+        profile: Profile,
+        start: u32,
+        end: u32,
+    ) -> FlowGraph<'s, 'i, 'a>
+        requires { profile ≡ profile_of index.now }
         ensures { result ≡ record { image = index.entry.now; start = start; end = end } }
     {
         FlowGraph {
             index,
+            profile,
             start,
             end,
             entry: None,
@@ -67,6 +81,7 @@ impl<'s, 'i, 'a> FlowGraph<'s, 'i, 'a> {
     {
         FlowGraph {
             index: cover.index,
+            profile: cover.profile,
             start,
             end,
             entry: cover.entry,
@@ -78,6 +93,13 @@ impl<'s, 'i, 'a> FlowGraph<'s, 'i, 'a> {
             places: cover.kept.places_of(cover.index, start, end),
             last: cover.last,
         }
+    }
+
+    /// The profile whose rows its instructions are decoded by, that of its image.
+    pub fn profile(&self) -> Profile
+        ensures { result ≡ profile_of self.now.image }
+    {
+        self.profile
     }
 
     /// The first address.

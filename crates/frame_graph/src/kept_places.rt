@@ -1,11 +1,13 @@
 //! What stands at the places of a function, each read once. docs/flow-graphs.md, "Functions and places".
 ghost use Rattle.std.specs.Prelude.{◌≡◌, ◌+◌, ◌-◌, ◌/◌, ◌==◌, ◌&&◌, [], length, IfOk, if◌then◌else◌};
+ghost use Rattle.image_memory.specs.Profiles.{profile_of};
 ghost use Rattle.frame_graph.specs.KeptPlaces.{ArePlaces};
 
 use crate::flow_graph::FlowGraph;
 use crate::places::{Standing, standing_by};
 use eh_index::Index;
 use std::alloc::{AllocError, Global};
+use thumb_isa::profile::Profile;
 
 /// What is kept of a place.
 #[derive(Clone, Copy, Debug)]
@@ -37,19 +39,21 @@ impl KeptPlaces {
         }
     }
 
-    /// All places of a function. Each is read once, in their order.
+    /// All places of a function, by the profile of its image. Each is read once, in their order.
     pub(crate) fn read(
         alloc: Global,
         index: &Index,
+        profile: Profile,
         start: u32,
         end: u32,
     ) -> Result<KeptPlaces, AllocError>
+        requires { profile ≡ profile_of index.now }
         ensures start { IfOk result (λ kept. kept.start ≡ start) }
         ensures end { IfOk result (λ kept. kept.end ≡ end) }
         ensures places { IfOk result (λ kept. ArePlaces (record { image = index.now; start = kept.start; end = kept.end }) kept.places.items) }
         ensures all { IfOk result (λ kept. length kept.places.items ≡ (end - start + 1) / 2) }
     {
-        let places = FlowGraph::new(index, start, end).read_places(alloc)?;
+        let places = FlowGraph::new(index, profile, start, end).read_places(alloc)?;
         Ok(KeptPlaces { start, end, places })
     }
 
@@ -76,12 +80,13 @@ impl<'s, 'i, 'a> FlowGraph<'s, 'i, 'a> {
     {
         let count = self.end.saturating_sub(self.start).div_ceil(2);
         let mut places = Vec::with_capacity(alloc, count as usize)?;
+        let profile = self.profile();
         let mut here = self.fetch(0);
         for place in 0..count {
             let next = self.fetch(u64::from(place) + 1);
             places.push(KeptPlace {
                 code: here.code,
-                standing: standing_by(here.halfword, next.halfword),
+                standing: standing_by(profile, here.halfword, next.halfword),
             })?;
             here = next;
         }

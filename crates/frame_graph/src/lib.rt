@@ -7,6 +7,7 @@ pub mod edges;
 pub mod flow_graph;
 pub mod kept_places;
 pub mod laws;
+pub mod lowering;
 pub mod places;
 pub mod sites;
 pub mod stretch;

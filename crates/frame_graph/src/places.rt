@@ -6,8 +6,9 @@ ghost use Rattle.frame_graph.specs.Places.{is_code_of, place_of, is_place, halfw
 use crate::flow_graph::FlowGraph;
 use elf_image::image::Image;
 use elf_image::segment::Segment;
-use thumb_isa::decode::{decode, is_wide};
+use thumb_isa::decode::{decode_for, is_wide};
 use thumb_isa::instr::{Decoded, Instr};
+use thumb_isa::profile::Profile;
 
 /// The top byte of UDF, which the manual leaves undefined for good.
 pub const UDF: u16 = 0b1101_1110;
@@ -67,9 +68,9 @@ fn of_decoded(decoded: Decoded) -> Standing
     }
 }
 
-/// What stands at a place, by its halfword and that of the next place.
-pub(crate) fn standing_by(first: Option<u16>, second: Option<u16>) -> Standing
-    ensures { result ≡ standing_by first second }
+/// What stands at a place, by the rows of a profile, its halfword and that of the next place.
+pub(crate) fn standing_by(profile: Profile, first: Option<u16>, second: Option<u16>) -> Standing
+    ensures { result ≡ standing_by profile first second }
 {
     let Some(first) = first else {
         return Standing::Nothing;
@@ -78,11 +79,11 @@ pub(crate) fn standing_by(first: Option<u16>, second: Option<u16>) -> Standing
         return Standing::Udf;
     }
     if !is_wide(first) {
-        return of_decoded(decode(first, 0));
+        return of_decoded(decode_for(profile, first, 0));
     }
     match second {
         None => Standing::Nothing,
-        Some(second) => of_decoded(decode(first, second)),
+        Some(second) => of_decoded(decode_for(profile, first, second)),
     }
 }
 
@@ -166,6 +167,10 @@ impl<'s, 'i, 'a> FlowGraph<'s, 'i, 'a> {
             return self.places[place as usize].standing;
         }
         let place = u64::from(place);
-        standing_by(self.fetch(place).halfword, self.fetch(place + 1).halfword)
+        standing_by(
+            self.profile(),
+            self.fetch(place).halfword,
+            self.fetch(place + 1).halfword,
+        )
     }
 }

@@ -5,3 +5,4 @@ pub mod Runs
 pub mod Existing
 pub mod Others
 pub mod Landing
+pub mod Lowerings

@@ -7,7 +7,7 @@ use Rattle.std.proofs.lemmas.Bool.{true≢false, cases_eq, cases_lt}
 use Rattle.std.proofs.lemmas.Option.{same_Some, none-some}
 use Rattle.std.proofs.lemmas.List.Elements.{Contains-append_left}
 use Rattle.thumb_isa.specs.declared.instr.Instr.{Instr}
-use Rattle.thumb_isa.specs.declared.instr.Instr.TheVariants.{ShiftImm, AddSubReg, AddSubImm3, Imm8, Alu, AddHigh, CmpHigh, MovHigh, Bx, Blx, LdrLit, MemReg, MemImm, MemSp, Adr, AddRdSp, AddSp, SubSp, Extend, Rev, Push, Pop, Hint, Stm, Ldm, BCond, Svc, B, Bl, Barrier}
+use Rattle.thumb_isa.specs.declared.instr.Instr.TheVariants.{ShiftImm, AddSubReg, AddSubImm3, Imm8, Alu, AddHigh, CmpHigh, MovHigh, Bx, Blx, LdrLit, MemReg, MemImm, MemSp, Adr, AddRdSp, AddSp, SubSp, Extend, Rev, Push, Pop, Hint, Stm, Ldm, BCond, Svc, B, Bl, Barrier, Cbz, BWide, MovW, MovT, Div}
 use Rattle.frame_facts.specs.declared.facts.Fact.{Fact}
 use Rattle.frame_facts.specs.declared.facts.TheConstants.{DEEPEST}
 use Rattle.frame_facts.specs.declared.saves.Prologue.{Prologue}
@@ -71,6 +71,11 @@ stands_goes (Svc imm) h = refl
 stands_goes (B off) h = absurd cc
 stands_goes (Bl off) h = refl
 stands_goes (Barrier op option) h = refl
+stands_goes (Cbz nonzero n off) h = absurd cc
+stands_goes (BWide off) h = absurd cc
+stands_goes (MovW d imm) h = refl
+stands_goes (MovT d imm) h = refl
+stands_goes (Div signed d n m) h = refl
 
 if_some : {X : Type 0} (b : Bool) (o : Option X) (x : X) → (if b then o else None) ≡ Some x → (b ≡ true) × (o ≡ Some x)
 if_some true o x e = (refl, e)
@@ -89,7 +94,7 @@ pushed_ended r next i size None e = absurd (none-some next e)
 pushed_ended r next i size (Some p) e = ended_by r next i size p e
 
 -- it may stand there, and the run ends after it
-taken_well : (r next : Straight) (i : Instr) (size : ℕ) → taken r i size ≡ Some next → (may_stand i ≡ true) × (next.prologue.end ≡ (r.prologue.end + size) % 2 ^ 32)
+pub taken_well : (r next : Straight) (i : Instr) (size : ℕ) → taken r i size ≡ Some next → (may_stand i ≡ true) × (next.prologue.end ≡ (r.prologue.end + size) % 2 ^ 32)
 taken_well r next i size e =
     let w = if_some (nat_le r.fact.depth DEEPEST && may_stand i) (option_and_then (ended r i size) (pushed_by r i)) next e in
     ((both (nat_le r.fact.depth DEEPEST) (may_stand i) w.0).1, pushed_ended r next i size (pushed_by r i) w.1)

@@ -1,5 +1,5 @@
 -- Where an instruction stands: the function has its halfwords, of which there are one or two.
-use Rattle.std.proofs.Common.{ℕ, ◌≡◌, ◌<◌, ◌≤◌, ◌+◌, ◌*◌, ◌==◌, ◌&&◌, ◌||◌, ◌⊎◌, inl, inr, cond, Bool, true, false, List, [], ◌∷◌, Option, Some, None, sym, ◌∙◌, ap, subst, refl, ⊎_elim, arith}
+use Rattle.std.proofs.Common.{ℕ, ◌≡◌, ◌<◌, ◌≤◌, ◌+◌, ◌*◌, ◌==◌, ◌&&◌, ◌||◌, ◌⊎◌, inl, inr, cond, Bool, true, false, List, [], ◌∷◌, Option, Some, None, sym, ◌∙◌, ap, subst, refl, ⊎_elim, arith, ◌++◌}
 use Rattle.std.specs.Prelude.{if◌then◌else◌, nat_le, nat_lt}
 use Rattle.std.specs.List.{list_all}
 use Rattle.std.proofs.lemmas.Bool.{eqb-true, ltb-true, true≢false, cases_lt, le-leb}
@@ -7,9 +7,12 @@ use Rattle.thumb_isa.specs.declared.instr.Instr.{Instr}
 use Rattle.thumb_isa.specs.declared.instr.Decoded.{Decoded}
 use Rattle.thumb_isa.specs.declared.instr.Decoded.TheVariants.{Is, Undefined, Unpredictable, NotInProfile}
 use Rattle.thumb_isa.specs.Range.{size_of, IsOfSize}
-use Rattle.thumb_isa.specs.Rows.{Row, fits, rows, first_fit, decoded_of}
-use Rattle.thumb_isa.proofs.Laws.{sized}
+use Rattle.thumb_isa.specs.declared.profile.Profile.{Profile}
+use Rattle.thumb_isa.specs.declared.profile.Profile.TheVariants.{One, Two}
+use Rattle.thumb_isa.specs.Rows.{Row, fits, rows, late_rows, first_fit, decoded_of, late_decoded_of, decoded_for}
+use Rattle.thumb_isa.proofs.BothProfiles.{sized_for}
 use Rattle.elf_image.specs.Image.{is_code_in}
+use Rattle.image_memory.specs.Profiles.{profile_of}
 use Rattle.frame_graph.specs.declared.places.Standing.TheVariants.{Instruction, Udf}
 use Rattle.frame_graph.specs.FlowGraph.{FlowGraph}
 use Rattle.frame_graph.specs.Places.{address_of, is_place, halfword_at, is_udf, of_decoded, wide_of, standing_by, standing_at}
@@ -40,6 +43,14 @@ fit_sized (row ∷ more) first second h =
 decoded_sized : (first second : ℕ) → is_sized (decoded_of first second) ≡ true
 unfolding decoded_of
 decoded_sized first second = fit_sized rows first second refl
+
+late_sized : (first second : ℕ) → is_sized (late_decoded_of first second) ≡ true
+unfolding late_decoded_of
+late_sized first second = fit_sized (late_rows ++ rows) first second refl
+
+all_sized : (p : Profile) (first second : ℕ) → is_sized (decoded_for p first second) ≡ true
+all_sized One first second = decoded_sized first second
+all_sized Two first second = late_sized first second
 
 two_or_four : (size : ℕ) → ((size == 2) || (size == 4)) ≡ true → (size ≡ 2) ⊎ (size ≡ 4)
 two_or_four size h = by_test (size == 2) refl h
@@ -75,34 +86,34 @@ is_low first h = elim (cases_lt first 0xe800) [
   | inr high ↦ absurd (true≢false (sym h ∙ ap (λ b. cond b 4 2 == 2) (le-leb 0xe800 first high)))
 ]
 
-narrow : (first : ℕ) (i : Instr) (size : ℕ) → (size_of first == 2) ≡ true → of_decoded (decoded_of first 0) ≡ Instruction i size → size ≡ 2
-narrow first i size h e =
+narrow : (p : Profile) (first : ℕ) (i : Instr) (size : ℕ) → (size_of first == 2) ≡ true → of_decoded (decoded_for p first 0) ≡ Instruction i size → size ≡ 2
+narrow p first i size h e =
     let low = is_low first h in
-    of_size (size_of first) (decoded_of first 0) i size (sized first 0 (omega (arith, low))) e ∙ eqb-true (size_of first) 2 h
+    of_size (size_of first) (decoded_for p first 0) i size (sized_for p first 0 (omega (arith, low))) e ∙ eqb-true (size_of first) 2 h
 
-wide : (first second : ℕ) (i : Instr) (size : ℕ) → of_decoded (decoded_of first second) ≡ Instruction i size → IsWhole size true
-wide first second i size e = ⊎_elim
+wide : (p : Profile) (first second : ℕ) (i : Instr) (size : ℕ) → of_decoded (decoded_for p first second) ≡ Instruction i size → IsWhole size true
+wide p first second i size e = ⊎_elim
     (λ (two : size ≡ 2). inl two)
     (λ (four : size ≡ 4). inr (four, refl))
-    (is_size (decoded_of first second) i size (decoded_sized first second) e)
+    (is_size (decoded_for p first second) i size (all_sized p first second) e)
 
-by_size : (udf short : Bool) (first : ℕ) (second : Bool) (h : Option ℕ) (i : Instr) (size : ℕ) → (size_of first == 2) ≡ short
-    → (if udf then Udf else (if short then of_decoded (decoded_of first 0) else wide_of first (if second then h else None))) ≡ Instruction i size → IsWhole size second
-by_size true short first second h i size is e = absurd cc
-by_size false true first second h i size is e = inl (narrow first i size is e)
-by_size false false first false h i size is e = absurd cc
-by_size false false first true None i size is e = absurd cc
-by_size false false first true (Some halfword) i size is e = wide first halfword i size e
+by_size : (p : Profile) (udf short : Bool) (first : ℕ) (second : Bool) (h : Option ℕ) (i : Instr) (size : ℕ) → (size_of first == 2) ≡ short
+    → (if udf then Udf else (if short then of_decoded (decoded_for p first 0) else wide_of p first (if second then h else None))) ≡ Instruction i size → IsWhole size second
+by_size p true short first second h i size is e = absurd cc
+by_size p false true first second h i size is e = inl (narrow p first i size is e)
+by_size p false false first false h i size is e = absurd cc
+by_size p false false first true None i size is e = absurd cc
+by_size p false false first true (Some halfword) i size is e = wide p first halfword i size e
 
-by_halfwords : (first second : Bool) (h g : Option ℕ) (i : Instr) (size : ℕ) → standing_by (if first then h else None) (if second then g else None) ≡ Instruction i size
+by_halfwords : (p : Profile) (first second : Bool) (h g : Option ℕ) (i : Instr) (size : ℕ) → standing_by p (if first then h else None) (if second then g else None) ≡ Instruction i size
     → (first ≡ true) × IsWhole size second
-by_halfwords false second h g i size e = absurd cc
-by_halfwords true second None g i size e = absurd cc
-by_halfwords true second (Some halfword) g i size e = (refl, by_size (is_udf halfword) (size_of halfword == 2) halfword second g i size refl e)
+by_halfwords p false second h g i size e = absurd cc
+by_halfwords p true second None g i size e = absurd cc
+by_halfwords p true second (Some halfword) g i size e = (refl, by_size p (is_udf halfword) (size_of halfword == 2) halfword second g i size refl e)
 
 pub stands : (s : FlowGraph) (p : ℕ) (i : Instr) (size : ℕ) → standing_at s p ≡ Instruction i size → (is_place s p ≡ true) × IsWhole size (is_place s (p + 1))
 unfolding standing_at
-stands s p i size e = by_halfwords (is_place s p) (is_place s (p + 1)) (halfword_at s.image (address_of s p)) (halfword_at s.image (address_of s (p + 1))) i size e
+stands s p i size e = by_halfwords (profile_of s.image) (is_place s p) (is_place s (p + 1)) (halfword_at s.image (address_of s p)) (halfword_at s.image (address_of s (p + 1))) i size e
 
 -- ---- inside the function
 

@@ -7,6 +7,7 @@ use Rattle.frame_graph.specs.declared.places.Standing.TheVariants.{Instruction}
 use Rattle.frame_graph.specs.FlowGraph.{FlowGraph}
 use Rattle.frame_graph.specs.Places.{standing_at}
 use Rattle.frame_graph.specs.Edges.{reaches_next}
+use Rattle.frame_graph.specs.Lowering.{is_lowering}
 use Rattle.frame_graph.specs.Reach.{IsReached}
 use Rattle.frame_reach.specs.declared.marks.TheConstants.{MOST_REACHED}
 use Rattle.frame_reach.specs.Marks.{Marks, AreMarks, AreThePlaces, IsTarget, IsTooLong}
@@ -67,3 +68,7 @@ RunsAreReached = (s : FlowGraph) (m : Marks) (p : ℕ) (run : Straight) → IsRu
 abbrev pub NoTargetInThePrologue : Type 0
 NoTargetInThePrologue =
     (s : FlowGraph) (m : Marks) → s.end < 2 ^ 32 → AreMarks s m → (q : ℕ) → IsTarget s q → s.start + 2 * q < (prologue s m).end → ⊥
+
+-- no instruction of the prologue is a lowering place
+abbrev pub NoLoweringInThePrologue : Type 0
+NoLoweringInThePrologue = (s : FlowGraph) (m : Marks) (p : ℕ) (run : Straight) → IsRun s m p run → Continues s m p run → is_lowering s m.reached p ≡ false

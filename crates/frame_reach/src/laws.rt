@@ -1,5 +1,5 @@
 //! What holds of the marks and of the prologue of every function. docs/flow-graphs.md, "Reached places"; docs/acceptance.md, "The prologue".
-ghost use Rattle.frame_reach.specs.Laws.{MarksExist, MarksAgree, PlacesAreCounted, TargetsAreReached, OthersAreAfter, PrologueIsTheLongestRun, RunsAreReached, NoTargetInThePrologue};
+ghost use Rattle.frame_reach.specs.Laws.{MarksExist, MarksAgree, PlacesAreCounted, TargetsAreReached, OthersAreAfter, PrologueIsTheLongestRun, RunsAreReached, NoTargetInThePrologue, NoLoweringInThePrologue};
 
 /// Every function has marks, however large it is.
 pub fn marks_exist()
@@ -40,4 +40,9 @@ pub fn runs_are_reached()
 /// No target of a branch that is reached and no landing pad lies in the prologue.
 pub fn no_target_in_the_prologue()
     ensures { NoTargetInThePrologue }
+{}
+
+/// No instruction of a prologue is a lowering place: the prologue ends before the first.
+pub fn no_lowering_in_the_prologue()
+    ensures { NoLoweringInThePrologue }
 {}

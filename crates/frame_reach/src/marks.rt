@@ -70,6 +70,13 @@ impl Reached {
         is_set(&self.pads, place as usize)
     }
 
+    /// For each place whether it is reached; a place past the last one isn't.
+    pub fn reached(&self) -> &[bool]
+        ensures { result.now ≡ self.now.reached }
+    {
+        &self.reached
+    }
+
     /// For each place whether it is a landing pad; a place past the last one is none.
     pub fn pads(&self) -> &[bool]
         ensures { result.now ≡ self.now.pad }

@@ -163,23 +163,23 @@ module _ (x : Accepted) (is : IsProgram x) (f : Function) (m : Marks) (start : �
   -- what a call or a gate leaves
   pub record Leaves : Type 0 where
     pub fact_after : Fact
-    pub is_after : after_of (code x f m).prologue false (address_of s p) i fact ≡ Ok fact_after
+    pub is_after : after_of (code x f m).prologue ((code x f m).lowers p) (address_of s p) i fact ≡ Ok fact_after
     pub holds_after : (a : Activation) (segments : List Segment) (regs : Regs) → Holds (code x f m).prologue (at_site (is_call i) fact) a segments regs → Holds (code x f m).prologue fact_after a segments regs
 
   leaves_by : (j : Instr) → i ≡ j → site_of (address_of s p) j ≡ Some site → Leaves
   leaves_by (Bl off) e h = record {
     fact_after = clobbered call_changes fact;
-    is_after = ap (λ (j : Instr). after_of (code x f m).prologue false (address_of s p) j fact) e;
+    is_after = ap (λ (j : Instr). after_of (code x f m).prologue ((code x f m).lowers p) (address_of s p) j fact) e;
     holds_after = λ a segments regs w. subst (λ (j : Instr). Holds (code x f m).prologue (at_site (is_call j) fact) a segments regs) e w;
   }
   leaves_by (Blx n) e h = record {
     fact_after = clobbered call_changes fact;
-    is_after = ap (λ (j : Instr). after_of (code x f m).prologue false (address_of s p) j fact) e;
+    is_after = ap (λ (j : Instr). after_of (code x f m).prologue ((code x f m).lowers p) (address_of s p) j fact) e;
     holds_after = λ a segments regs w. subst (λ (j : Instr). Holds (code x f m).prologue (at_site (is_call j) fact) a segments regs) e w;
   }
   leaves_by (Svc imm) e h = record {
     fact_after = clobbered gate_changes fact;
-    is_after = ap (λ (j : Instr). after_of (code x f m).prologue false (address_of s p) j fact) e;
+    is_after = ap (λ (j : Instr). after_of (code x f m).prologue ((code x f m).lowers p) (address_of s p) j fact) e;
     holds_after = λ a segments regs w.
         clobbered_holds (code x f m).prologue fact a segments regs gate_changes gates_keep_sp (subst (λ (j : Instr). Holds (code x f m).prologue (at_site (is_call j) fact) a segments regs) e w);
   }

@@ -1,5 +1,5 @@
 -- What becomes of the frame of an activation that stands at a site: at a gate, at a call, and at the call that the one inside it recorded.
-use Rattle.std.proofs.Common.{◌≡◌, ℕ, true, Some, List, [], ◌∷◌, refl, ◌≤◌, take, sym, subst, ◌==◌, false, arith, Bool, cond, ◌+◌, Option, None, ◌%◌, ◌<◌, inl, inr, ap, ◌∙◌, ◌-◌, ◌^◌, length}
+use Rattle.std.proofs.Common.{◌≡◌, ℕ, true, Some, List, [], ◌∷◌, ◌++◌, refl, ◌≤◌, take, sym, subst, ◌==◌, false, arith, Bool, cond, ◌+◌, Option, None, ◌%◌, ◌<◌, inl, inr, ap, ◌∙◌, ◌-◌, ◌^◌, length}
 use Rattle.std.specs.Prelude.{Ok, Contains, Result, Err, slice_index, option_and_then}
 use Rattle.std.specs.List.{list_any, list_all}
 use Rattle.std.proofs.lemmas.Bool.{and_parts, eqb-true}
@@ -28,7 +28,10 @@ use Rattle.accesses_keep.specs.thumb_isa.declared.instr.Instr.{Instr}
 use Rattle.accesses_keep.specs.thumb_isa.declared.instr.Instr.TheVariants.{Bl, Blx}
 use Rattle.accesses_keep.specs.thumb_isa.declared.instr.Decoded.{Decoded}
 use Rattle.accesses_keep.specs.thumb_isa.declared.instr.Decoded.TheVariants.{Is, Undefined, Unpredictable, NotInProfile}
-use Rattle.accesses_keep.specs.thumb_isa.Rows.{Row, fits, first_fit, rows, decoded_of}
+use Rattle.accesses_keep.specs.thumb_isa.Rows.{Row, fits, first_fit, rows, late_rows, decoded_of, late_decoded_of, decoded_for}
+use Rattle.accesses_keep.specs.thumb_isa.declared.profile.Profile.{Profile}
+use Rattle.accesses_keep.specs.thumb_isa.declared.profile.Profile.TheVariants.{One, Two}
+use Rattle.accesses_keep.specs.image_memory.Profiles.{profile_of}
 use Rattle.accesses_keep.specs.frame_graph.declared.places.Standing.TheVariants.{Instruction, Udf}
 use Rattle.accesses_keep.specs.frame_graph.Places.{of_decoded, halfword_of, is_udf, wide_of, standing_by, standing_at, address_of}
 use Rattle.accesses_keep.specs.thumb_isa.Range.{size_of}
@@ -134,9 +137,10 @@ fit_sized (row ∷ more) first second h =
     let two = and_parts (is_sized (row.means first second)) (list_all (λ row. is_sized (row.means first second)) more) h in
     either (fits row first second) (row.means first second) (first_fit more first second) two.0 (fit_sized more first second two.1)
 
-decoded_sized : (first second : ℕ) → is_sized (decoded_of first second) ≡ true
-unfolding decoded_of
-decoded_sized first second = fit_sized rows first second refl
+decoded_sized : (p : Profile) (first second : ℕ) → is_sized (decoded_for p first second) ≡ true
+unfolding decoded_of late_decoded_of
+decoded_sized One first second = fit_sized rows first second refl
+decoded_sized Two first second = fit_sized (late_rows ++ rows) first second refl
 
 of_decoded_sized : (d : Decoded) (i : Instr) (size : ℕ) → is_sized d ≡ true → of_decoded d ≡ Instruction i size → call_sized i size ≡ true
 of_decoded_sized (Is j n) i size h e = let a : j ≡ i = cc in let b : n ≡ size = cc in subst (λ (k : Instr). call_sized k size ≡ true) a (subst (λ (m : ℕ). call_sized j m ≡ true) b h)
@@ -148,16 +152,16 @@ stands_sized : (s : FlowGraph) (p : ℕ) (i : Instr) (size : ℕ) → standing_a
 unfolding standing_at
 stands_sized s p i size e = by_halves (halfword_of s p) (halfword_of s (p + 1)) e
   where
-    wide : (first : ℕ) (o : Option ℕ) → wide_of first o ≡ Instruction i size → call_sized i size ≡ true
+    wide : (first : ℕ) (o : Option ℕ) → wide_of (profile_of s.image) first o ≡ Instruction i size → call_sized i size ≡ true
     wide first None e = absurd cc
-    wide first (Some second) e = of_decoded_sized (decoded_of first second) i size (decoded_sized first second) e
+    wide first (Some second) e = of_decoded_sized (decoded_for (profile_of s.image) first second) i size (decoded_sized (profile_of s.image) first second) e
 
-    by_size : (u b : Bool) (first : ℕ) (o : Option ℕ) → cond u Udf (cond b (of_decoded (decoded_of first 0)) (wide_of first o)) ≡ Instruction i size → call_sized i size ≡ true
+    by_size : (u b : Bool) (first : ℕ) (o : Option ℕ) → cond u Udf (cond b (of_decoded (decoded_for (profile_of s.image) first 0)) (wide_of (profile_of s.image) first o)) ≡ Instruction i size → call_sized i size ≡ true
     by_size true b first o e = absurd cc
-    by_size false true first o e = of_decoded_sized (decoded_of first 0) i size (decoded_sized first 0) e
+    by_size false true first o e = of_decoded_sized (decoded_for (profile_of s.image) first 0) i size (decoded_sized (profile_of s.image) first 0) e
     by_size false false first o e = wide first o e
 
-    by_halves : (o w : Option ℕ) → standing_by o w ≡ Instruction i size → call_sized i size ≡ true
+    by_halves : (o w : Option ℕ) → standing_by (profile_of s.image) o w ≡ Instruction i size → call_sized i size ≡ true
     by_halves None w e = absurd cc
     by_halves (Some first) w e = by_size (is_udf first) (size_of first == 2) first w e
 

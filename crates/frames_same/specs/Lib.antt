@@ -21,6 +21,7 @@ pub use Rattle.accesses_keep.specs.eh_cxa
 pub use Rattle.accesses_keep.specs.thumb_core
 pub use Rattle.accesses_keep.specs.eh_bus
 pub use Rattle.accesses_keep.specs.thumb_isa
+pub use Rattle.accesses_keep.specs.accepted_code
 pub use Rattle.accesses_keep.specs.event_runs
 pub use Rattle.accesses_keep.specs.eh_word
 pub use Rattle.accesses_keep.specs.stands_for

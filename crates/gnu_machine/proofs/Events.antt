@@ -17,7 +17,7 @@ use Rattle.eh_gates.specs.declared.state.Turned.TheVariants.{Went, Ended}
 use Rattle.guest_gates.specs.Gates.{gate_event}
 use Rattle.guest_gates.specs.declared.gates.TheConstants.{INPUT_GATE}
 use Rattle.thumb_core.specs.Outcome.{Outcome as Stepping}
-use Rattle.thumb_core.specs.Step.{step_of}
+use Rattle.thumb_core.specs.Step.{step_for}
 use Rattle.thumb_core.specs.declared.ends.End.{End}
 use Rattle.thumb_core.specs.declared.regs.Regs.{Regs}
 use Rattle.thumb_core.specs.declared.regs.Stepped.{Stepped}
@@ -25,7 +25,7 @@ use Rattle.thumb_core.specs.declared.regs.Stepped.TheVariants.{Done, Call, Retur
 use Rattle.eh_machine.specs.two_machines.Activations.{Activation, Recorded, reg_in, memory_of, words_in, heads, with_lists, lists_of}
 use Rattle.eh_machine.specs.two_machines.ActivationMachine as machine
 use Rattle.eh_machine.specs.two_machines.Corresponds.{WalksNone}
-use Rattle.eh_machine.specs.two_machines.Program.{Program, program_tables}
+use Rattle.eh_machine.specs.two_machines.Program.{Program, program_tables, profile_in}
 
 pub not_went : (end : End) (s t : Recorded) → ◌≡◌ {A = machine.Outcome} (Ended end, s) (Went, t) → ⊥
 not_went end s t e = let f : ◌≡◌ {A = Turned} (Ended end) Went = ap (λ (o : machine.Outcome). o.0) e in cc
@@ -34,7 +34,7 @@ not_went end s t e = let f : ◌≡◌ {A = Turned} (Ended end) Went = ap (λ (o
 pub record ByGate (p : Program) (s t : Recorded) : Type 0 where
   pub reached : (p.look s.regs.pc).is_instr ≡ true
   pub number : ℕ
-  pub step : (step_of s.regs (memory_of s)).0 ≡ Gate number
+  pub step : (step_for (profile_in p) s.regs (memory_of s)).0 ≡ Gate number
   pub next : ℕ
   pub does : machine.gate_of (program_tables p) number next s ≡ (Went, t)
 
@@ -52,7 +52,7 @@ module _ (p : Program) (s : Recorded) (input : List ℕ) where
   left_same (a ∷ more) u = refl
 
   module _ (reached : (p.look s.regs.pc).is_instr ≡ true) where
-    gated_by : (number : ℕ) (regs : Regs) → (step_of s.regs (memory_of s)).0 ≡ Gate number → By (machine.gated p number s regs input)
+    gated_by : (number : ℕ) (regs : Regs) → (step_for (profile_in p) s.regs (memory_of s)).0 ≡ Gate number → By (machine.gated p number s regs input)
     gated_by number regs step = go (nat_lt INPUT_GATE number)
       where
         by_outcome : (q : machine.Outcome) → machine.gate_of (program_tables p) number regs.pc s ≡ q → By (machine.event_of q input)
@@ -63,7 +63,7 @@ module _ (p : Program) (s : Recorded) (input : List ℕ) where
         go true = by_outcome (machine.gate_of (program_tables p) number regs.pc s) refl
         go false = in_state_by (gate_event number s.regs regs input)
 
-    tested_by : (what : Stepped) → ((number : ℕ) → what ≡ Gate number → (step_of s.regs (memory_of s)).0 ≡ Gate number) → (regs : Regs) (m : Memory) (o : Option End)
+    tested_by : (what : Stepped) → ((number : ℕ) → what ≡ Gate number → (step_for (profile_in p) s.regs (memory_of s)).0 ≡ Gate number) → (regs : Regs) (m : Memory) (o : Option End)
         → By (machine.onward p s (machine.tested p s what regs m o) input)
     tested_by what h regs m (Some end) = tt
     tested_by Done h regs m None = inl refl
@@ -72,8 +72,8 @@ module _ (p : Program) (s : Recorded) (input : List ℕ) where
     tested_by (Gate number) h regs m None = gated_by number regs (h number refl)
     tested_by (Trap trap) h regs m None = inl refl
 
-    stepped_by : (o : Stepping) → step_of s.regs (memory_of s) ≡ o → By (machine.onward p s (machine.stepped p s o) input)
-    stepped_by (Trap trap, regs, m) e = go (machine.pops_back s)
+    stepped_by : (o : Stepping) → step_for (profile_in p) s.regs (memory_of s) ≡ o → By (machine.onward p s (machine.stepped p s o) input)
+    stepped_by (Trap trap, regs, m) e = go (machine.pops_back p s)
       where
         go : (o : Option Regs) → By (machine.onward p s (machine.trapped_by p s trap o) input)
         go None = tt
@@ -89,7 +89,7 @@ module _ (p : Program) (s : Recorded) (input : List ℕ) where
         tested_by (Gate number) (λ n f. ap (λ (o : Stepping). o.0) e ∙ f) regs m (machine.tests p s (Gate number) regs)
 
   checked_by : (b : Bool) → (p.look s.regs.pc).is_instr ≡ b → By (machine.onward p s (machine.checked p s b) input)
-  checked_by true e = stepped_by e (step_of s.regs (memory_of s)) refl
+  checked_by true e = stepped_by e (step_for (profile_in p) s.regs (memory_of s)) refl
   checked_by false e = tt
 
   pub event_by : By (machine.recorded_event p s input)

@@ -19,12 +19,16 @@ use Rattle.eh_machine.specs.thumb_isa.declared.instr.Decoded.{Decoded}
 use Rattle.eh_machine.specs.thumb_isa.declared.instr.Decoded.TheVariants.{Is, Undefined, Unpredictable, NotInProfile}
 use Rattle.eh_machine.specs.thumb_isa.declared.instr.Instr.{Instr}
 use Rattle.eh_machine.specs.thumb_isa.declared.instr.Instr.TheVariants.{Svc}
-use Rattle.eh_machine.specs.thumb_isa.Rows.{decoded_of}
+use Rattle.eh_machine.specs.thumb_isa.Rows.{decoded_of, late_decoded_of, decoded_for}
+use Rattle.eh_machine.specs.thumb_isa.declared.profile.Profile.{Profile}
+use Rattle.eh_machine.specs.thumb_isa.declared.profile.Profile.TheVariants.{One, Two}
 use Rattle.thumb_core.specs.Laws.{Leaves}
-use Rattle.thumb_core.specs.Step.{step_of, instr_at, instr_of}
+use Rattle.thumb_core.specs.Step.{step_for, instr_for, instr_of}
 use Rattle.thumb_core.specs.declared.regs.Stepped.{Stepped}
 use Rattle.thumb_core.specs.declared.regs.Stepped.TheVariants.{Gate}
 use Rattle.thumb_core.proofs.Acts.{step_acts}
+use Rattle.eh_machine.specs.two_machines.Program.{profile_in}
+use Rattle.eh_machine.specs.two_machines.Checked.{program_of}
 use Rattle.eh_machine.specs.two_machines.Activations.{Recorded, memory_of}
 use Rattle.eh_machine.proofs.accepted_code.Fetch.{code_fetch}
 use Rattle.eh_machine.specs.stands_for.Chain.{StandsAt, code}
@@ -41,22 +45,23 @@ undefined Undefined = true
 undefined Unpredictable = false
 undefined NotInProfile = false
 
-all_undefined : ℕ → Bool
-all_undefined zero = true
-all_undefined (suc n) = undefined (decoded_of (0xde00 + n) 0) && all_undefined n
+all_undefined : Profile → ℕ → Bool
+all_undefined p zero = true
+all_undefined p (suc n) = undefined (decoded_for p (0xde00 + n) 0) && all_undefined p n
 
-all : all_undefined 256 ≡ true
-unfolding decoded_of all_undefined
-all = refl
+all : (p : Profile) → all_undefined p 256 ≡ true
+unfolding decoded_of late_decoded_of all_undefined
+all One = refl
+all Two = refl
 
-among : (n k : ℕ) → all_undefined n ≡ true → k < n → undefined (decoded_of (0xde00 + k) 0) ≡ true
+among : (p : Profile) (n k : ℕ) → all_undefined p n ≡ true → k < n → undefined (decoded_for p (0xde00 + k) 0) ≡ true
 unfolding all_undefined
-among zero k e h = absurd (omega (arith, h))
-among (suc n) k e h =
-    let w = and_parts (undefined (decoded_of (0xde00 + n) 0)) (all_undefined n) e in
+among p zero k e h = absurd (omega (arith, h))
+among p (suc n) k e h =
+    let w = and_parts (undefined (decoded_for p (0xde00 + n) 0)) (all_undefined p n) e in
     elim (cases_eq k n) [
-      | inl same ↦ subst (λ j. undefined (decoded_of (0xde00 + j) 0) ≡ true) (sym same) w.0
-      | inr other ↦ among n k w.1 (omega (arith, h, other))
+      | inl same ↦ subst (λ j. undefined (decoded_for p (0xde00 + j) 0) ≡ true) (sym same) w.0
+      | inr other ↦ among p n k w.1 (omega (arith, h, other))
     ]
 
 is_none : (d : Decoded) → undefined d ≡ true → instr_of d ≡ None
@@ -65,7 +70,10 @@ is_none Undefined e = refl
 is_none Unpredictable e = absurd cc
 is_none NotInProfile e = absurd cc
 
-module _ (x : Accepted) (is : IsProgram x) (s : Recorded) (k : Keeps x s) (number size : ℕ) (gate : instr_at (memory_of s) s.regs.pc ≡ Some (Svc number, size)) (reached : (look x.roles s.regs.pc).is_instr ≡ true) where
+module _ (x : Accepted) (is : IsProgram x) (s : Recorded) (k : Keeps x s) (number size : ℕ) (gate : instr_for (profile_in (program_of x)) (memory_of s) s.regs.pc ≡ Some (Svc number, size)) (reached : (look x.roles s.regs.pc).is_instr ≡ true) where
+  abbrev profile : Profile
+  profile = profile_in (program_of x)
+
   at : StandsAt x s.first s.segments s.regs s.regs.pc
   at = k.first reached
 
@@ -85,14 +93,14 @@ module _ (x : Accepted) (is : IsProgram x) (s : Recorded) (k : Keeps x s) (numbe
   unfolding standing_at
   not_udf e = by_halves (halfword_of (flow_graph_of x.image at.function) at.place) (halfword_of (flow_graph_of x.image at.function) (at.place + 1)) refl e
     where
-      none_at : (first : ℕ) → halfword_of (flow_graph_of x.image at.function) at.place ≡ Some first → is_udf first ≡ true → instr_at (memory_of s) s.regs.pc ≡ None
+      none_at : (first : ℕ) → halfword_of (flow_graph_of x.image at.function) at.place ≡ Some first → is_udf first ≡ true → instr_for profile (memory_of s) s.regs.pc ≡ None
       none_at first h udf =
           let top : first / 256 ≡ 0xde = eqb-true (first / 256) 0xde udf in
           let same : 0xde00 + (first - 0xde00) ≡ first = omega (arith, top) in
           let fetches : fetch (memory_of s) s.regs.pc ≡ Ok first = rw at.address (code_fetch x.image at.function s.segments is.image at.of.among k.image at.place first h) in
           let narrow : nat_le 0xe800 first ≡ false = lt-leb 0xe800 first (omega (arith, top)) in
-          let none : instr_of (decoded_of first 0) ≡ None =
-          subst (λ n. instr_of (decoded_of n 0) ≡ None) same (is_none (decoded_of (0xde00 + (first - 0xde00)) 0) (among 256 (first - 0xde00) all (omega (arith, top)))) in
+          let none : instr_of (decoded_for profile first 0) ≡ None =
+          subst (λ n. instr_of (decoded_for profile n 0) ≡ None) same (is_none (decoded_for profile (0xde00 + (first - 0xde00)) 0) (among profile 256 (first - 0xde00) (all profile) (omega (arith, top)))) in
           rw (fetches, narrow) none
 
       of_decoded_not : (d : Decoded) → of_decoded d ≡ Udf → ⊥
@@ -101,17 +109,17 @@ module _ (x : Accepted) (is : IsProgram x) (s : Recorded) (k : Keeps x s) (numbe
       of_decoded_not Unpredictable h = absurd cc
       of_decoded_not NotInProfile h = absurd cc
 
-      wide_not : (first : ℕ) (w : Option ℕ) → wide_of first w ≡ Udf → ⊥
+      wide_not : (first : ℕ) (w : Option ℕ) → wide_of profile first w ≡ Udf → ⊥
       wide_not first None h = absurd cc
-      wide_not first (Some second) h = of_decoded_not (decoded_of first second) h
+      wide_not first (Some second) h = of_decoded_not (decoded_for profile first second) h
 
       by_udf : (u b : Bool) (first : ℕ) (w : Option ℕ) → halfword_of (flow_graph_of x.image at.function) at.place ≡ Some first → is_udf first ≡ u
-          → cond u Udf (cond b (of_decoded (decoded_of first 0)) (wide_of first w)) ≡ Udf → ⊥
+          → cond u Udf (cond b (of_decoded (decoded_for profile first 0)) (wide_of profile first w)) ≡ Udf → ⊥
       by_udf true b first w h u g = none_gate (sym (none_at first h u) ∙ gate)
-      by_udf false true first w h u g = of_decoded_not (decoded_of first 0) g
+      by_udf false true first w h u g = of_decoded_not (decoded_for profile first 0) g
       by_udf false false first w h u g = wide_not first w g
 
-      by_halves : (o w : Option ℕ) → halfword_of (flow_graph_of x.image at.function) at.place ≡ o → standing_by o w ≡ Udf → ⊥
+      by_halves : (o w : Option ℕ) → halfword_of (flow_graph_of x.image at.function) at.place ≡ o → standing_by profile o w ≡ Udf → ⊥
       by_halves None w h g = absurd cc
       by_halves (Some first) w h g = by_udf (is_udf first) _ first w h refl g
 
@@ -127,8 +135,8 @@ module _ (x : Accepted) (is : IsProgram x) (s : Recorded) (k : Keeps x s) (numbe
       by Nothing e = absurd (not_nothing e)
 
 -- by what was done
-pub gate_there : (x : Accepted) → IsProgram x → (s : Recorded) → Keeps x s → (number : ℕ) → (step_of s.regs (memory_of s)).0 ≡ Gate number → (look x.roles s.regs.pc).is_instr ≡ true → DoesAt x s (Svc number)
+pub gate_there : (x : Accepted) → IsProgram x → (s : Recorded) → Keeps x s → (number : ℕ) → (step_for (profile_in (program_of x)) s.regs (memory_of s)).0 ≡ Gate number → (look x.roles s.regs.pc).is_instr ≡ true → DoesAt x s (Svc number)
 gate_there x is s k number step reached =
-    let acts = step_acts s.regs (memory_of s) (record { count = k.sound.words.count; words = k.sound.words.small }) in
-    let left = subst (λ (w : Stepped). Leaves (instr_at (memory_of s) s.regs.pc) w s.regs (memory_of s) (step_of s.regs (memory_of s)).1) step acts.leaves in
+    let acts = step_acts (profile_in (program_of x)) s.regs (memory_of s) (record { count = k.sound.words.count; words = k.sound.words.small }) in
+    let left = subst (λ (w : Stepped). Leaves (instr_for (profile_in (program_of x)) (memory_of s) s.regs.pc) w s.regs (memory_of s) (step_for (profile_in (program_of x)) s.regs (memory_of s)).1) step acts.leaves in
     does x is s k number left.0 left.1 reached

@@ -11,3 +11,4 @@ pub mod Good
 pub mod Rows
 pub mod Index
 pub mod Names
+pub mod Profile

@@ -1,7 +1,10 @@
 -- An image whose unwind tables are rewritten is written, and read again as it was meant (docs/gnu-tables.md, "Laws").
-use Rattle.std.specs.Prelude.{◌≡◌, ℕ, ◌<◌, ◌==◌, false, List, ◌++◌, map, All, None, Ok}
+use Rattle.std.specs.Prelude.{◌≡◌, ℕ, ◌<◌, ◌==◌, false, List, ◌++◌, map, All, None, IfSome, Ok}
 use Rattle.std.specs.List.{list_any}
 use Rattle.elf_image.specs.Image.{Image, image_of, is_code_in, symbol_in, type_symbols_of}
+use Rattle.thumb_isa.specs.declared.profile.Profile.TheVariants.{Two}
+use Rattle.image_memory.specs.Profiles.{profile_of}
+use Rattle.image_memory.specs.declared.profile.TheConstants.{PROFILE_SYMBOL}
 use Rattle.eh_index.specs.Rows.{entries_of}
 use Rattle.eh_index.specs.Refusal.{index_refusal}
 use Rattle.elf_write.specs.Layout.{layout_of, written_of}
@@ -72,3 +75,17 @@ abbrev pub TypesStay : Type 0
 TypesStay =
     (file : List ℕ) (image : Image) (a : ℕ) → image_of file ≡ Ok image
     → list_any (λ t. t == a) (type_symbols_of (rewritten_image image).symbols) ≡ list_any (λ t. t == a) (type_symbols_of image.symbols)
+
+-- ---- the profile
+
+-- the profile's symbol, where the image has one, stands below the new segment
+abbrev pub IsProfileBelow : Image → Type 0
+IsProfileBelow image = IfSome (symbol_in image PROFILE_SYMBOL.now) (λ at. at < tables_start image)
+
+-- then the rewritten image is of the same profile
+abbrev pub ProfileStays : Type 0
+ProfileStays = (file : List ℕ) (image : Image) → image_of file ≡ Ok image → IsProfileBelow image → profile_of (rewritten_image image) ≡ profile_of image
+
+-- and an image of the second profile stays one in any case
+abbrev pub SecondProfileStays : Type 0
+SecondProfileStays = (file : List ℕ) (image : Image) → image_of file ≡ Ok image → profile_of image ≡ Two → profile_of (rewritten_image image) ≡ Two

@@ -2,7 +2,7 @@
 //! crate of the program calls. docs/gnu-tables.md states the rules.
 #![tactic(auto)]
 
-ghost use Rattle.gnu_translation_laws.specs.Laws.{PartsAreGood, PartsAreWritten, FilesAreRead, FunctionsStay, SegmentsStay, CodeStays, IndexIsRead, NamedSymbolsStay, TypesStay};
+ghost use Rattle.gnu_translation_laws.specs.Laws.{PartsAreGood, PartsAreWritten, FilesAreRead, FunctionsStay, SegmentsStay, CodeStays, IndexIsRead, NamedSymbolsStay, TypesStay, ProfileStays, SecondProfileStays};
 
 /// The parts of an image that was read are good, where the rewritten image keeps the limits: so they are written as they are laid out,
 /// and the file is read as their image.
@@ -36,4 +36,11 @@ pub fn named_symbols_stay()
 /// An address is that of a type's symbol exactly where it was.
 pub fn types_stay()
     ensures { TypesStay }
+{}
+
+/// The rewritten image is of the image's profile, where the profile's symbol doesn't stand above the image's memory: the new segment may have
+/// a word there. An image of the second profile stays one in any case.
+pub fn the_profile_stays()
+    ensures profile { ProfileStays }
+    ensures second { SecondProfileStays }
 {}

@@ -3,7 +3,7 @@ use Rattle.std.specs.Prelude.{◌≡◌, ℕ, ◌+◌, ◌-◌, ◌*◌, ◌%◌
 use Rattle.machines_agree.specs.resumes_keep.event_runs.Runs.{Ends}
 use Rattle.machines_agree.specs.resumes_keep.frame_check.Accepts.{Accepted}
 use Rattle.machines_agree.specs.resumes_keep.thumb_isa.declared.instr.Instr.TheVariants.{Push, Stm}
-use Rattle.machines_agree.specs.resumes_keep.thumb_core.Step.{instr_at}
+use Rattle.machines_agree.specs.resumes_keep.thumb_core.Step.{instr_for}
 use Rattle.machines_agree.specs.resumes_keep.thumb_core.Lists.{words_of}
 use Rattle.machines_agree.specs.resumes_keep.thumb_core.Words.{listed}
 use Rattle.machines_agree.specs.resumes_keep.thumb_core.declared.ends.TrapKind.TheVariants as kind
@@ -11,6 +11,7 @@ use Rattle.machines_agree.specs.resumes_keep.thumb_core.declared.ends.End.TheVar
 use Rattle.machines_agree.specs.resumes_keep.eh_gates.State.{reg}
 use Rattle.machines_agree.specs.resumes_keep.two_machines.Checked.{program_of}
 use Rattle.machines_agree.specs.resumes_keep.two_machines.Machine.{machine_event}
+use Rattle.machines_agree.specs.resumes_keep.two_machines.Program.{profile_in}
 use Rattle.machines_agree.specs.resumes_keep.stands_for.Stands.{IsProgram}
 use Rattle.machines_agree.specs.Turned.{AreBytes}
 use Rattle.memory_laws.specs.Runs.{word_address, CanStore}
@@ -27,12 +28,12 @@ pub record ReachesSlot (x : Accepted) (n : ℕ) (input : List ℕ) (list start k
 -- then the event is the trap SavedSlot with that slot's address, whatever input is left, and leaves the state as it was
 pub record EndsThere (x : Accepted) (n : ℕ) (input left : List ℕ) (list size k : ℕ) : Type 0 where
   pub push :
-      (start : ℕ) → instr_at (bytes_at x n input).memory (bytes_at x n input).regs.pc ≡ Some (Push list, size)
+      (start : ℕ) → instr_for (profile_in (program_of x)) (bytes_at x n input).memory (bytes_at x n input).regs.pc ≡ Some (Push list, size)
       → start ≡ (reg (bytes_at x n input) 13 + (2 ^ 32 - 4 * length (listed list))) % 2 ^ 32 → ReachesSlot x n input list start k
       → machine_event (program_of x) (bytes_at x n input) left
       ≡ Ends (the_end.Trap kind.SavedSlot (word_address start k) (bytes_at x n input).regs.pc) (bytes_at x n input)
   pub stm :
-      (base : ℕ) → instr_at (bytes_at x n input).memory (bytes_at x n input).regs.pc ≡ Some (Stm base list, size)
+      (base : ℕ) → instr_for (profile_in (program_of x)) (bytes_at x n input).memory (bytes_at x n input).regs.pc ≡ Some (Stm base list, size)
       → ReachesSlot x n input list (reg (bytes_at x n input) base) k
       → machine_event (program_of x) (bytes_at x n input) left
       ≡ Ends (the_end.Trap kind.SavedSlot (word_address (reg (bytes_at x n input) base) k) (bytes_at x n input).regs.pc) (bytes_at x n input)

@@ -4,6 +4,7 @@
 
 mod functions;
 mod memory;
+pub mod profile;
 mod start;
 
 pub use functions::begins_function;

@@ -17,7 +17,8 @@ use Rattle.machines_agree.specs.eh_gates.declared.gates.TheConstants.{THROW_GATE
 use Rattle.machines_agree.specs.eh_gates.declared.state.Turned.TheVariants.{Went}
 use Rattle.machines_agree.specs.guest_gates.declared.gates.TheConstants.{INPUT_GATE}
 use Rattle.machines_agree.specs.thumb_core.Outcome.{Outcome as Stepping}
-use Rattle.machines_agree.specs.thumb_core.Step.{step_of}
+use Rattle.machines_agree.specs.image_memory.Profiles.{profile_of}
+use Rattle.machines_agree.specs.thumb_core.Step.{step_for}
 use Rattle.machines_agree.specs.thumb_core.declared.regs.TheConstants.{SP}
 use Rattle.machines_agree.specs.thumb_core.declared.regs.Regs.{Regs}
 use Rattle.machines_agree.specs.thumb_core.declared.regs.Stepped.{Stepped}
@@ -169,15 +170,15 @@ module _ (x : Accepted) (is : IsProgram x) (s : Recorded) (k : Keeps x s) (input
       subst (λ (o : Option ℕ). GoesOn slot (left_due x.image s slot) (left_due x.image t slot) (landed_by (stands_at t) o (resumed_by s gate))) (sym f)
       (subst (λ (o : Option ℕ). GoesOn slot (left_due x.image s slot) (left_due x.image t slot) (landed_by (stands_at t) None o)) (sym g) e)
 
-  plain : (e : Event Recorded End) → machine.recorded_event (program_of x) s input ≡ e → OnEvent x e → IsNoCall (step_of s.regs (memory_of s)).0 → thrown_at s ≡ None → resumed_at s ≡ None → After e
+  plain : (e : Event Recorded End) → machine.recorded_event (program_of x) s input ≡ e → OnEvent x e → IsNoCall (step_for (profile_of x.image) s.regs (memory_of s)).0 → thrown_at (profile_of x.image) s ≡ None → resumed_at (profile_of x.image) s ≡ None → After e
   plain (Ends end t) q kt h f g = tt
-  plain (Goes t text left) q kt h f g = none_lands (gate_at s) t f g (quiet_stays x s t k kt slot (plain_quiet (program_of x) s t input text left h q))
+  plain (Goes t text left) q kt h f g = none_lands (gate_at (profile_of x.image) s) t f g (quiet_stays x s t k kt slot (plain_quiet (program_of x) s t input text left h q))
 
-  walked : (number : ℕ) (regs : Regs) (m : Memory) (step : step_of s.regs (memory_of s) ≡ (Gate number, regs, m)) (high : nat_lt INPUT_GATE number ≡ true) (e : Event Recorded End) → OnEvent x e
+  walked : (number : ℕ) (regs : Regs) (m : Memory) (step : step_for (profile_of x.image) s.regs (memory_of s) ≡ (Gate number, regs, m)) (high : nat_lt INPUT_GATE number ≡ true) (e : Event Recorded End) → OnEvent x e
       → ByGate (program_of x) s input number regs m step high e → After e
   walked number regs m step high (Ends end t) kt b = tt
   walked number regs m step high (Goes t text left) kt b =
-      let at : gate_at s ≡ Some number = ap (λ (o : Stepping). gate_in o.0) step in
+      let at : gate_at (profile_of x.image) s ≡ Some number = ap (λ (o : Stepping). gate_in o.0) step in
       subst (λ (gate : Option ℕ). GoesOn slot (left_due x.image s slot) (left_due x.image t slot) (landed_by (stands_at t) (thrown_by s gate) (resumed_by s gate))) (sym at)
       (at_gate x is s k t kt slot number regs.pc b.0 (number == THROW_GATE) (number == RETHROW_GATE) (number == END_CLEANUP_GATE) refl refl refl)
 
@@ -198,21 +199,21 @@ module _ (x : Accepted) (is : IsProgram x) (s : Recorded) (k : Keeps x s) (input
       go false false true f g e = absurd (let w = eqb-true number END_CLEANUP_GATE e in omega (arith, w, h))
       go false false false f g e = (refl, refl)
 
-  by_step : AreBytes input → (o : Stepping) → step_of s.regs (memory_of s) ≡ o → After (machine.recorded_event (program_of x) s input)
+  by_step : AreBytes input → (o : Stepping) → step_for (profile_of x.image) s.regs (memory_of s) ≡ o → After (machine.recorded_event (program_of x) s input)
   by_step bytes (what, regs, m) step = go what step
     where
-      quiet : (what : Stepped) → step_of s.regs (memory_of s) ≡ (what, regs, m) → IsNoCall what → After (machine.recorded_event (program_of x) s input)
+      quiet : (what : Stepped) → step_for (profile_of x.image) s.regs (memory_of s) ≡ (what, regs, m) → IsNoCall what → After (machine.recorded_event (program_of x) s input)
       quiet what step h =
-          let same : (step_of s.regs (memory_of s)).0 ≡ what = ap (λ (o : Stepping). o.0) step in
+          let same : (step_for (profile_of x.image) s.regs (memory_of s)).0 ≡ what = ap (λ (o : Stepping). o.0) step in
           let none = no_gate what h in
           plain (machine.recorded_event (program_of x) s input) refl (keeps bytes) (subst IsNoCall (sym same) h) (ap (λ (w : Stepped). thrown_by s (gate_in w)) same ∙ none.0) (ap (λ (w : Stepped). resumed_by s (gate_in w)) same ∙ none.1)
 
-      at_number : (number : ℕ) → step_of s.regs (memory_of s) ≡ (Gate number, regs, m) → (b : Bool) → nat_lt INPUT_GATE number ≡ b → After (machine.recorded_event (program_of x) s input)
+      at_number : (number : ℕ) → step_for (profile_of x.image) s.regs (memory_of s) ≡ (Gate number, regs, m) → (b : Bool) → nat_lt INPUT_GATE number ≡ b → After (machine.recorded_event (program_of x) s input)
       at_number number step true high =
           walked number regs m step high (machine.recorded_event (program_of x) s input) (keeps bytes) (by_gate (program_of x) s input number regs m step high)
       at_number number step false low = quiet (Gate number) step (let w : number ≤ INPUT_GATE = grind (arith, nat_tests) in w)
 
-      go : (what : Stepped) → step_of s.regs (memory_of s) ≡ (what, regs, m) → After (machine.recorded_event (program_of x) s input)
+      go : (what : Stepped) → step_for (profile_of x.image) s.regs (memory_of s) ≡ (what, regs, m) → After (machine.recorded_event (program_of x) s input)
       go Done step = quiet Done step tt
       go (Call target ret) step = quiet (Call target ret) step tt
       go (Return to) step = quiet (Return to) step tt
@@ -220,4 +221,4 @@ module _ (x : Accepted) (is : IsProgram x) (s : Recorded) (k : Keeps x s) (input
       go (Gate number) step = at_number number step (nat_lt INPUT_GATE number) refl
 
 pub due_goes_on : DueGoesOn
-due_goes_on x s input slot is k bytes = by_step x is s k input slot bytes (step_of s.regs (memory_of s)) refl
+due_goes_on x s input slot is k bytes = by_step x is s k input slot bytes (step_for (profile_of x.image) s.regs (memory_of s)) refl

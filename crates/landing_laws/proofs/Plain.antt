@@ -12,13 +12,13 @@ use Rattle.machines_agree.specs.eh_cxa.Words.{word}
 use Rattle.machines_agree.specs.eh_cxa.declared.layout.TheConstants.{SLOTS, CLOSED_WORDS}
 use Rattle.machines_agree.specs.thumb_core.Laws.{KeepsMap}
 use Rattle.machines_agree.specs.thumb_core.Outcome.{Outcome as Stepping}
-use Rattle.machines_agree.specs.thumb_core.Step.{step_of}
+use Rattle.machines_agree.specs.thumb_core.Step.{step_for}
 use Rattle.machines_agree.proofs.thumb_core.Follows.{step_follows}
 use Rattle.machines_agree.specs.thumb_core.declared.regs.Regs.{Regs}
 use Rattle.machines_agree.specs.thumb_core.declared.regs.Stepped.{Stepped}
 use Rattle.machines_agree.specs.thumb_core.declared.regs.Stepped.TheVariants.{Done, Call, Return, Gate, Trap}
 use Rattle.machines_agree.specs.thumb_core.declared.ends.End.{End}
-use Rattle.machines_agree.specs.two_machines.Program.{Program, program_tables}
+use Rattle.machines_agree.specs.two_machines.Program.{Program, program_tables, profile_in}
 use Rattle.machines_agree.specs.two_machines.Activations.{Activation, Caller, Recorded, memory_of, freed_in}
 use Rattle.machines_agree.specs.two_machines.ActivationLaws.{callers}
 use Rattle.machines_agree.specs.two_machines.ActivationMachine.{left_by, reguarded_at, recorded_after, tested, tests, stepped, checked, passed, onward, gated, in_state, event_of, gate_of, registers_after, returned, pops_back, trapped_by, recorded_event}
@@ -100,7 +100,7 @@ module _ (s : Recorded) where
     by_test (Trap trap) h regs m k None = record { cleanups = refl; same = words_kept (recorded_after p s (Trap trap) regs m) m k refl; moved = inl (0, base_moved regs m) }
 
     by_step : (o : Stepping) → IsNoCall o.0 → KeepsMap (memory_of s) o.2 → QuietBy (onward p s (stepped p s o) input)
-    by_step (Trap trap, regs, m) h k = go (pops_back s)
+    by_step (Trap trap, regs, m) h k = go (pops_back p s)
       where
         go : (o : Option Regs) → QuietBy (onward p s (trapped_by p s trap o) input)
         go None = tt
@@ -112,13 +112,13 @@ module _ (s : Recorded) where
         by_test (Return to) h (registers_after s.first.caller (Return to) regs) m k (tests p s (Return to) (registers_after s.first.caller (Return to) regs))
     by_step (Gate number, regs, m) h k = by_test (Gate number) h regs m k (tests p s (Gate number) regs)
 
-    by_check : (b : Bool) → IsNoCall (step_of s.regs (memory_of s)).0 → QuietBy (onward p s (checked p s b) input)
-    by_check true h = by_step (step_of s.regs (memory_of s)) h (step_follows s.regs (memory_of s)).memory
+    by_check : (b : Bool) → IsNoCall (step_for (profile_in p) s.regs (memory_of s)).0 → QuietBy (onward p s (checked p s b) input)
+    by_check true h = by_step (step_for (profile_in p) s.regs (memory_of s)) h (step_follows (profile_in p) s.regs (memory_of s)).memory
     by_check false h = tt
 
-    by_event : IsNoCall (step_of s.regs (memory_of s)).0 → QuietBy (recorded_event p s input)
+    by_event : IsNoCall (step_for (profile_in p) s.regs (memory_of s)).0 → QuietBy (recorded_event p s input)
     unfolding recorded_event passed
     by_event h = by_check (p.look s.regs.pc).is_instr h
 
-pub plain_quiet : (p : Program) (s t : Recorded) (input text left : List ℕ) → IsNoCall (step_of s.regs (memory_of s)).0 → recorded_event p s input ≡ Goes t text left → IsQuiet s t
+pub plain_quiet : (p : Program) (s t : Recorded) (input text left : List ℕ) → IsNoCall (step_for (profile_in p) s.regs (memory_of s)).0 → recorded_event p s input ≡ Goes t text left → IsQuiet s t
 plain_quiet p s t input text left h e = subst (QuietBy s) e (by_event s p input h)

@@ -20,7 +20,8 @@ use Rattle.machines_agree.specs.eh_phase.declared.phase1.Found.TheVariants as fo
 use Rattle.machines_agree.specs.eh_phase.declared.verdict.Thrown.{Thrown}
 use Rattle.machines_agree.specs.guest_gates.declared.gates.TheConstants.{INPUT_GATE}
 use Rattle.machines_agree.specs.thumb_core.Outcome.{Outcome as Stepping}
-use Rattle.machines_agree.specs.thumb_core.Step.{step_of}
+use Rattle.machines_agree.specs.image_memory.Profiles.{profile_of}
+use Rattle.machines_agree.specs.thumb_core.Step.{step_for}
 use Rattle.machines_agree.specs.thumb_core.declared.regs.Regs.{Regs}
 use Rattle.machines_agree.specs.thumb_core.declared.regs.Stepped.{Stepped}
 use Rattle.machines_agree.specs.thumb_core.declared.regs.Stepped.TheVariants.{Done, Call, Return, Gate, Trap}
@@ -120,8 +121,8 @@ module _ (x : Accepted) (is : IsProgram x) where
       where
         go : (d : Event Recorded End) → DueAfter x.image s slot d → Kept x d
             → ((t : Recorded) (left : List ℕ) → Keeps x t × AreBytes left → AreFirst (resumes_of slot (landings (program_of x) n t left)) (left_due x.image t slot))
-            → AreFirst (resumes_of slot (landings_from s d (landings (program_of x) n))) (left_due x.image s slot)
-        go (Goes t text left) w h further = by_landing (left_due x.image s slot) (left_due x.image t slot) (landing_by s t) (landings (program_of x) n t left) w (further t left h)
+            → AreFirst (resumes_of slot (landings_from (profile_of x.image) s d (landings (program_of x) n))) (left_due x.image s slot)
+        go (Goes t text left) w h further = by_landing (left_due x.image s slot) (left_due x.image t slot) (landing_by (profile_of x.image) s t) (landings (program_of x) n t left) w (further t left h)
         go (Ends end t) w h further = none_yet (left_due x.image s slot)
 
   -- ---- a throw
@@ -137,24 +138,24 @@ module _ (x : Accepted) (is : IsProgram x) where
   AtGate s input number (Goes t text left) = (next : ℕ) × (machine.gate_of (program_tables (program_of x)) number next s ≡ (Went, t))
   AtGate s input number (Ends end t) = ((next : ℕ) × (machine.gate_of (program_tables (program_of x)) number next s ≡ (Ended end, t))) ⊎ IsTrap end
 
-  at_gate : (s : Recorded) (input : List ℕ) (number : ℕ) → gate_at s ≡ Some number → nat_lt INPUT_GATE number ≡ true → AtGate s input number (machine.recorded_event (program_of x) s input)
-  at_gate s input number e high = by (step_of s.regs (memory_of s)) refl
+  at_gate : (s : Recorded) (input : List ℕ) (number : ℕ) → gate_at (profile_of x.image) s ≡ Some number → nat_lt INPUT_GATE number ≡ true → AtGate s input number (machine.recorded_event (program_of x) s input)
+  at_gate s input number e high = by (step_for (profile_of x.image) s.regs (memory_of s)) refl
     where
-      again : (regs : Regs) (m : Memory) (step : step_of s.regs (memory_of s) ≡ (Gate number, regs, m)) (d : Event Recorded End) → ByGate (program_of x) s input number regs m step high d → AtGate s input number d
+      again : (regs : Regs) (m : Memory) (step : step_for (profile_of x.image) s.regs (memory_of s) ≡ (Gate number, regs, m)) (d : Event Recorded End) → ByGate (program_of x) s input number regs m step high d → AtGate s input number d
       again regs m step (Goes t text left) w = (regs.pc, w.0)
       again regs m step (Ends end t) (inl w) = inl (regs.pc, w)
       again regs m step (Ends end t) (inr w) = inr w
 
-      by : (o : Stepping) → step_of s.regs (memory_of s) ≡ o → AtGate s input number (machine.recorded_event (program_of x) s input)
+      by : (o : Stepping) → step_for (profile_of x.image) s.regs (memory_of s) ≡ o → AtGate s input number (machine.recorded_event (program_of x) s input)
       by (what, regs, m) step =
           let is_gate : what ≡ Gate number = gate_is what number (sym (ap (λ (o : Stepping). gate_in o.0) step) ∙ e) in
-          let whole : step_of s.regs (memory_of s) ≡ (Gate number, regs, m) = step ∙ ap (λ (w : Stepped). let o : Stepping = (w, regs, m) in o) is_gate in
+          let whole : step_for (profile_of x.image) s.regs (memory_of s) ≡ (Gate number, regs, m) = step ∙ ap (λ (w : Stepped). let o : Stepping = (w, regs, m) in o) is_gate in
           again regs m whole (machine.recorded_event (program_of x) s input) (by_gate (program_of x) s input number regs m whole high)
 
   same_barrier : (f : Found) (a b : Barrier) → f ≡ found.Barrier a → f ≡ found.Barrier b → a ≡ b
   same_barrier f a b e g = let w : found.Barrier a ≡ found.Barrier b = sym e ∙ g in cc
 
-  module _ (s : Recorded) (k : Keeps x s) (slot : ℕ) (thrown : Thrown) (what : ThrowsWhat s slot thrown) (b : Barrier) (search : machine.searched (program_tables (program_of x)) s thrown ≡ found.Barrier b) where
+  module _ (s : Recorded) (k : Keeps x s) (slot : ℕ) (thrown : Thrown) (what : ThrowsWhat (profile_of x.image) s slot thrown) (b : Barrier) (search : machine.searched (program_tables (program_of x)) s thrown ≡ found.Barrier b) where
     threw_enters : Lands (phase2 (goal_of b) 0 (machine.frames_from (program_tables (program_of x)) s None s.regs.pc))
     threw_enters =
         reached_lands (goal_of b) 0 (frames_from x s s.regs.pc)
@@ -178,7 +179,7 @@ module _ (x : Accepted) (is : IsProgram x) where
           by_flight t small (subst (FliesTo (program_tables (program_of x)) s t slot) (sym w.2) (rethrow_flies (program_tables (program_of x)) s t slot (slot_of_block_is slot small) w.1 q.1)))
     ]
 
-    thrown_is : thrown_at s ≡ Some slot
+    thrown_is : thrown_at (profile_of x.image) s ≡ Some slot
     thrown_is = elim what [
       | inl w ↦ ap (thrown_by s) w.0 ∙ w.1
       | inr w ↦ ap (thrown_by s) w.0 ∙ w.1
@@ -190,19 +191,19 @@ module _ (x : Accepted) (is : IsProgram x) where
     flight_first (suc m) input bytes = go (machine.recorded_event (program_of x) s input) refl (kept s input k bytes)
       where
         by : (t : Recorded) (left : List ℕ) → Keeps x t × AreBytes left → AreFirst (stands_at t ∷ left_due x.image t slot) (pads (due (goal_of b) 0 (frames_from x s s.regs.pc).frames))
-            → (o : Option ℕ) → o ≡ Some slot → AreFirst (flight_of slot (cons_option (landed_by (stands_at t) o (resumed_at s)) (landings (program_of x) m t left))) (pads (due (goal_of b) 0 (frames_from x s s.regs.pc).frames))
+            → (o : Option ℕ) → o ≡ Some slot → AreFirst (flight_of slot (cons_option (landed_by (stands_at t) o (resumed_at (profile_of x.image) s)) (landings (program_of x) m t left))) (pads (due (goal_of b) 0 (frames_from x s s.regs.pc).frames))
         by t left h w None e = absurd cc
         by t left h w (Some thrown_slot) e =
             one_more slot (stands_at t) (resumes_of slot (landings (program_of x) m t left)) (left_due x.image t slot) (pads (due (goal_of b) 0 (frames_from x s s.regs.pc).frames)) w (resumes_first slot m t left h.0 h.1)
 
         go : (d : Event Recorded End) → machine.recorded_event (program_of x) s input ≡ d → Kept x d
-            → AreFirst (flight_of slot (landings_from s d (landings (program_of x) m))) (pads (due (goal_of b) 0 (frames_from x s s.regs.pc).frames))
-        go (Goes t text left) e h = by t left h (lands_so input t text left e) (thrown_at s) thrown_is
+            → AreFirst (flight_of slot (landings_from (profile_of x.image) s d (landings (program_of x) m))) (pads (due (goal_of b) 0 (frames_from x s s.regs.pc).frames))
+        go (Goes t text left) e h = by t left h (lands_so input t text left e) (thrown_at (profile_of x.image) s) thrown_is
         go (Ends end t) e h = none_yet slot (pads (due (goal_of b) 0 (frames_from x s s.regs.pc).frames))
 
   -- ---- the end of a cleanup
 
-  resume_ends : (s : Recorded) (k : Keeps x s) (input : List ℕ) (why : Cause) (t : Recorded) → gate_at s ≡ Some END_CLEANUP_GATE → machine.recorded_event (program_of x) s input ≡ Ends (the_end.Terminate why) t → why ≡ cause.Unexpected
+  resume_ends : (s : Recorded) (k : Keeps x s) (input : List ℕ) (why : Cause) (t : Recorded) → gate_at (profile_of x.image) s ≡ Some END_CLEANUP_GATE → machine.recorded_event (program_of x) s input ≡ Ends (the_end.Terminate why) t → why ≡ cause.Unexpected
   unfolding machine.gate_of
   resume_ends s k input why t e f = elim (subst (AtGate s input END_CLEANUP_GATE) f (at_gate s input END_CLEANUP_GATE e refl)) [
     | inl q ↦ by (ends_so (program_tables (program_of x)) s) q.1

@@ -18,6 +18,7 @@ use Rattle.machines_agree.specs.stands_for.Stands.{Keeps, StandsFor}
 use Rattle.machines_agree.specs.Turned.{AreBytes}
 use Rattle.machines_agree.proofs.RunsOn.{AlikeOn}
 use Rattle.machines_agree.proofs.WholeRuns.{alike}
+use Rattle.machines_agree.specs.image_memory.Profiles.{profile_of}
 use Rattle.landing_laws.specs.Landings.{Landing, gate_at, thrown_by, innermost, resumed_by, landed_by, stands_at, landing_by, landings, landings_from, top_of}
 use Rattle.landing_laws.specs.ByteLandings.{byte_thrown_by, byte_resumed_by, byte_landing_by, byte_landings, byte_landings_from}
 use Rattle.landing_laws.specs.LandingLaws.{LandingsSame}
@@ -49,9 +50,9 @@ module _ (x : Accepted) (s : Recorded) (k : Keeps x s) where
   resumed_same None = refl
   resumed_same (Some number) = ap (λ (o : Option ℕ). cond (number == END_CLEANUP_GATE) o None) cleanup_same
 
-  landing_same : (t : Recorded) → byte_landing_by (bytes_of s) (bytes_of t) ≡ landing_by s t
+  landing_same : (t : Recorded) → byte_landing_by (profile_of x.image) (bytes_of s) (bytes_of t) ≡ landing_by (profile_of x.image) s t
   landing_same t =
-      ap (λ (o : Option ℕ). landed_by (stands_at t) o (byte_resumed_by (bytes_of s) (gate_at s))) (thrown_same (gate_at s)) ∙ ap (landed_by (stands_at t) (thrown_by s (gate_at s))) (resumed_same (gate_at s))
+      ap (λ (o : Option ℕ). landed_by (stands_at t) o (byte_resumed_by (bytes_of s) (gate_at (profile_of x.image) s))) (thrown_same (gate_at (profile_of x.image) s)) ∙ ap (landed_by (stands_at t) (thrown_by s (gate_at (profile_of x.image) s))) (resumed_same (gate_at (profile_of x.image) s))
 
 pub landings_same : LandingsSame
 unfolding landings byte_landings
@@ -60,14 +61,14 @@ landings_same x s (suc n) input is k bytes =
     go (machine_event (program_of x) (bytes_of s) input) (recorded_event (program_of x) s input) (alike x is (bytes_of s) s input bytes (record { same = refl; keeps = k })) (λ t left h f. landings_same x t n left is h f)
   where
     by : (b : State) (t : Recorded) (left rest : List ℕ) → b ≡ bytes_of t → left ≡ rest → byte_landings (program_of x) n (bytes_of t) rest ≡ landings (program_of x) n t rest
-        → cons_option (byte_landing_by (bytes_of s) b) (byte_landings (program_of x) n b left) ≡ cons_option (landing_by s t) (landings (program_of x) n t rest)
+        → cons_option (byte_landing_by (profile_of x.image) (bytes_of s) b) (byte_landings (program_of x) n b left) ≡ cons_option (landing_by (profile_of x.image) s t) (landings (program_of x) n t rest)
     by b t left rest e f w =
-        ap (λ (c : State). cons_option (byte_landing_by (bytes_of s) c) (byte_landings (program_of x) n c left)) e ∙ ap (λ (l : List ℕ). cons_option (byte_landing_by (bytes_of s) (bytes_of t)) (byte_landings (program_of x) n (bytes_of t) l)) f
-        ∙ ap (λ (o : Option Landing). cons_option o (byte_landings (program_of x) n (bytes_of t) rest)) (landing_same x s k t) ∙ ap (cons_option (landing_by s t)) w
+        ap (λ (c : State). cons_option (byte_landing_by (profile_of x.image) (bytes_of s) c) (byte_landings (program_of x) n c left)) e ∙ ap (λ (l : List ℕ). cons_option (byte_landing_by (profile_of x.image) (bytes_of s) (bytes_of t)) (byte_landings (program_of x) n (bytes_of t) l)) f
+        ∙ ap (λ (o : Option Landing). cons_option o (byte_landings (program_of x) n (bytes_of t) rest)) (landing_same x s k t) ∙ ap (cons_option (landing_by (profile_of x.image) s t)) w
 
     go : (e : Event State End) (d : Event Recorded End) → AlikeOn State Recorded End AreBytes (StandsFor x) e d
         → ((t : Recorded) (left : List ℕ) → Keeps x t → AreBytes left → byte_landings (program_of x) n (bytes_of t) left ≡ landings (program_of x) n t left)
-        → byte_landings_from (bytes_of s) e (byte_landings (program_of x) n) ≡ landings_from s d (landings (program_of x) n)
+        → byte_landings_from (profile_of x.image) (bytes_of s) e (byte_landings (program_of x) n) ≡ landings_from (profile_of x.image) s d (landings (program_of x) n)
     go (Goes b text left) (Goes t said rest) a further = by b t left rest a.0.same a.2 (further t rest a.0.keeps (subst AreBytes a.2 a.3))
     go (Goes b text left) (Ends why t) a further = absurd a
     go (Ends end b) (Goes t said rest) a further = absurd a

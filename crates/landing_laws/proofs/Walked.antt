@@ -9,7 +9,7 @@ use Rattle.machines_agree.specs.eh_gates.declared.state.Turned.TheVariants.{Went
 use Rattle.machines_agree.specs.guest_gates.declared.gates.TheConstants.{INPUT_GATE}
 use Rattle.machines_agree.specs.guest_gates.Gates.{gate_event}
 use Rattle.machines_agree.specs.thumb_core.Outcome.{Outcome as Stepping}
-use Rattle.machines_agree.specs.thumb_core.Step.{step_of}
+use Rattle.machines_agree.specs.thumb_core.Step.{step_for}
 use Rattle.machines_agree.specs.thumb_core.declared.regs.TheConstants.{SP}
 use Rattle.machines_agree.specs.thumb_core.declared.regs.Regs.{Regs}
 use Rattle.machines_agree.specs.thumb_core.declared.regs.Stepped.TheVariants.{Gate}
@@ -18,8 +18,8 @@ use Rattle.machines_agree.specs.thumb_core.declared.ends.TrapKind.{TrapKind}
 use Rattle.machines_agree.specs.thumb_core.declared.ends.TrapKind.TheVariants as kind
 use Rattle.machines_agree.specs.thumb_core.declared.ends.End.{End}
 use Rattle.machines_agree.specs.thumb_core.declared.ends.End.TheVariants as the_end
-use Rattle.machines_agree.specs.two_machines.Machine.{leaves_cleanup, goes_after}
-use Rattle.machines_agree.specs.two_machines.Program.{Program, program_tables}
+use Rattle.machines_agree.specs.two_machines.Machine.{raises, leaves_cleanup, goes_after}
+use Rattle.machines_agree.specs.two_machines.Program.{Program, program_tables, profile_in}
 use Rattle.machines_agree.specs.two_machines.Activations.{Recorded, reg_in, memory_of, cleanups_in}
 use Rattle.machines_agree.specs.two_machines.ActivationMachine as machine
 
@@ -30,7 +30,7 @@ IsTrap end = (why : Cause) → end ≡ the_end.Terminate why → ⊥
 trap_is : (what : TrapKind) (value pc : ℕ) → IsTrap (the_end.Trap what value pc)
 trap_is what value pc why e = absurd cc
 
-module _ (p : Program) (s : Recorded) (input : List ℕ) (number : ℕ) (regs : Regs) (m : Memory) (step : step_of s.regs (memory_of s) ≡ (Gate number, regs, m)) (high : nat_lt INPUT_GATE number ≡ true) where
+module _ (p : Program) (s : Recorded) (input : List ℕ) (number : ℕ) (regs : Regs) (m : Memory) (step : step_for (profile_in p) s.regs (memory_of s) ≡ (Gate number, regs, m)) (high : nat_lt INPUT_GATE number ≡ true) where
   abbrev pub ByGate : Event Recorded End → Type 0
   ByGate (Goes t text left) = (machine.gate_of (program_tables p) number regs.pc s ≡ (Went, t)) × (left ≡ input)
   ByGate (Ends end t) = (machine.gate_of (program_tables p) number regs.pc s ≡ (Ended end, t)) ⊎ IsTrap end
@@ -51,16 +51,17 @@ module _ (p : Program) (s : Recorded) (input : List ℕ) (number : ℕ) (regs : 
 
   by_tests : ByGate (machine.onward p s (machine.with_tests p s (Gate number) regs m) input)
   by_tests =
-      go (leaves_cleanup (innermost_in (cleanups_in s.cleanups)) (reg_in s SP) (slice_index regs.r SP)) (nat_lt (slice_index regs.r SP) s.home.0) (goes_after number) (p.look regs.pc).is_function
+      go (raises (p.look s.regs.pc).lowers (reg_in s SP) (slice_index regs.r SP)) (leaves_cleanup (innermost_in (cleanups_in s.cleanups)) (reg_in s SP) (slice_index regs.r SP)) (nat_lt (slice_index regs.r SP) s.home.0) (goes_after number) (p.look regs.pc).is_function
     where
-      go : (a b c d : Bool)
-          → ByGate (Out (option_or (cond a (Some (the_end.Trap kind.SpInCleanup (slice_index regs.r SP) s.regs.pc)) (cond b (Some (the_end.Trap kind.StackLimit (slice_index regs.r SP) s.regs.pc)) None))
+      go : (r a b c d : Bool)
+          → ByGate (Out (option_or (cond r (Some (the_end.Trap kind.SpRaised (slice_index regs.r SP) s.regs.pc)) (cond a (Some (the_end.Trap kind.SpInCleanup (slice_index regs.r SP) s.regs.pc)) (cond b (Some (the_end.Trap kind.StackLimit (slice_index regs.r SP) s.regs.pc)) None)))
           (cond c (cond d (Some (the_end.Trap kind.FellOff regs.pc s.regs.pc)) None) None)))
-      go true b c d = inr (trap_is kind.SpInCleanup (slice_index regs.r SP) s.regs.pc)
-      go false true c d = inr (trap_is kind.StackLimit (slice_index regs.r SP) s.regs.pc)
-      go false false true true = inr (trap_is kind.FellOff regs.pc s.regs.pc)
-      go false false true false = by_number
-      go false false false d = by_number
+      go true a b c d = inr (trap_is kind.SpRaised (slice_index regs.r SP) s.regs.pc)
+      go false true b c d = inr (trap_is kind.SpInCleanup (slice_index regs.r SP) s.regs.pc)
+      go false false true c d = inr (trap_is kind.StackLimit (slice_index regs.r SP) s.regs.pc)
+      go false false false true true = inr (trap_is kind.FellOff regs.pc s.regs.pc)
+      go false false false true false = by_number
+      go false false false false d = by_number
 
   by_check : (b : Bool) → ByGate (machine.onward p s (machine.checked p s b) input)
   by_check true = subst (λ (o : Stepping). ByGate (machine.onward p s (machine.stepped p s o) input)) (sym step) by_tests

@@ -5,15 +5,16 @@ use Rattle.machines_agree.specs.event_runs.Runs.{Event, Goes, Ends}
 use Rattle.machines_agree.specs.eh_cxa.Words.{block_slot, object_slot}
 use Rattle.machines_agree.specs.eh_gates.State.{State, reg}
 use Rattle.machines_agree.specs.eh_gates.declared.gates.TheConstants.{THROW_GATE, RETHROW_GATE, END_CLEANUP_GATE}
-use Rattle.machines_agree.specs.thumb_core.Step.{step_of}
+use Rattle.machines_agree.specs.thumb_isa.declared.profile.Profile.{Profile}
+use Rattle.machines_agree.specs.thumb_core.Step.{step_for}
 use Rattle.machines_agree.specs.thumb_core.declared.regs.TheConstants.{SP}
 use Rattle.machines_agree.specs.thumb_core.declared.ends.End.{End}
 use Rattle.machines_agree.specs.two_machines.Machine.{machine_event}
-use Rattle.machines_agree.specs.two_machines.Program.{Program}
+use Rattle.machines_agree.specs.two_machines.Program.{Program, profile_in}
 use Rattle.landing_laws.specs.Landings.{Landing, gate_in, landed_by}
 
-abbrev pub byte_gate_at : State → Option ℕ
-byte_gate_at b = gate_in (step_of b.regs b.memory).0
+abbrev pub byte_gate_at : Profile → State → Option ℕ
+byte_gate_at p b = gate_in (step_for p b.regs b.memory).0
 
 -- the exception that a gate throws: that of the object in r0, or the one at the head of the caught chain
 abbrev pub byte_thrown_by : State → Option ℕ → Option ℕ
@@ -26,14 +27,14 @@ abbrev pub byte_resumed_by : State → Option ℕ → Option ℕ
 byte_resumed_by b None = None
 byte_resumed_by b (Some number) = if number == END_CLEANUP_GATE then block_slot b.globals.cleanup else None
 
-abbrev pub byte_landing_by : State → State → Option Landing
-byte_landing_by b c = landed_by (c.regs.pc, reg c SP) (byte_thrown_by b (byte_gate_at b)) (byte_resumed_by b (byte_gate_at b))
+abbrev pub byte_landing_by : Profile → State → State → Option Landing
+byte_landing_by p b c = landed_by (c.regs.pc, reg c SP) (byte_thrown_by b (byte_gate_at p b)) (byte_resumed_by b (byte_gate_at p b))
 
-abbrev pub byte_landings_from : State → Event State End → (State → List ℕ → List Landing) → List Landing
-byte_landings_from b (Goes c text left) further = cons_option (byte_landing_by b c) (further c left)
-byte_landings_from b (Ends end c) further = []
+abbrev pub byte_landings_from : Profile → State → Event State End → (State → List ℕ → List Landing) → List Landing
+byte_landings_from p b (Goes c text left) further = cons_option (byte_landing_by p b c) (further c left)
+byte_landings_from p b (Ends end c) further = []
 
 -- of at most so many events, in order
 unfoldable pub byte_landings : Program → ℕ → State → List ℕ → List Landing
 byte_landings p zero b input = []
-byte_landings p (suc n) b input = byte_landings_from b (machine_event p b input) (byte_landings p n)
+byte_landings p (suc n) b input = byte_landings_from (profile_in p) b (machine_event p b input) (byte_landings p n)

@@ -2,6 +2,7 @@
 use Rattle.std.specs.Prelude.{ℕ, ◌==◌, Bool, true, false, if◌then◌else◌, List, [], ◌∷◌, ◌≡◌, length, Option, Some, None}
 use Rattle.machines_agree.specs.event_runs.Runs.{Event, Goes, Ends}
 use Rattle.machines_agree.specs.elf_image.Image.{Image}
+use Rattle.machines_agree.specs.image_memory.Profiles.{profile_of}
 use Rattle.machines_agree.specs.eh_cxa.Lists.{Cleanup}
 use Rattle.machines_agree.specs.eh_phase.Cleanups.{due}
 use Rattle.machines_agree.specs.eh_phase.Phases.{Frame}
@@ -41,5 +42,5 @@ GoesOn slot old new None = new ≡ old
 GoesOn slot old new (Some l) = GoesOnBy (l.exception == slot) l.resumes l.pad old new
 
 abbrev pub DueAfter : Image → Recorded → ℕ → Event Recorded End → Type 0
-DueAfter image s slot (Goes t text left) = GoesOn slot (left_due image s slot) (left_due image t slot) (landing_by s t)
+DueAfter image s slot (Goes t text left) = GoesOn slot (left_due image s slot) (left_due image t slot) (landing_by (profile_of image) s t)
 DueAfter image s slot (Ends end t) = Unit {0}

@@ -14,6 +14,7 @@ use Rattle.machines_agree.specs.thumb_core.declared.ends.Cause.{Cause}
 use Rattle.machines_agree.specs.thumb_core.declared.ends.Cause.TheVariants as cause
 use Rattle.machines_agree.specs.thumb_core.declared.ends.End.TheVariants as the_end
 use Rattle.machines_agree.specs.frame_check.Accepts.{Accepted}
+use Rattle.machines_agree.specs.image_memory.Profiles.{profile_of}
 use Rattle.machines_agree.specs.two_machines.Activations.{Recorded, recorded_start, bytes_of}
 use Rattle.machines_agree.specs.two_machines.ActivationMachine.{recorded_event, searched, frames_from}
 use Rattle.machines_agree.specs.two_machines.Checked.{program_of}
@@ -45,12 +46,12 @@ pub record LandsInOrder (x : Accepted) (s : Recorded) (input : List ℕ) (slot m
   pub order : AreFirst (flight_of slot (landings (program_of x) m s input)) (pads (due (goal_of b) 0 (live_frames x s).frames))
 
 abbrev pub ThrowsLandInOrder : Type 0
-ThrowsLandInOrder = (x : Accepted) (s : Recorded) (input : List ℕ) (slot m : ℕ) (thrown : Thrown) (b : Barrier) → IsProgram x → Keeps x s → AreBytes input → ThrowsWhat s slot thrown
+ThrowsLandInOrder = (x : Accepted) (s : Recorded) (input : List ℕ) (slot m : ℕ) (thrown : Thrown) (b : Barrier) → IsProgram x → Keeps x s → AreBytes input → ThrowsWhat (profile_of x.image) s slot thrown
     → searched (program_tables (program_of x)) s thrown ≡ found.Barrier b → LandsInOrder x s input slot m b
 
 -- Nor does the end of a cleanup terminate a run, but by a specification without a pad.
 abbrev pub ResumesLand : Type 0
-ResumesLand = (x : Accepted) (s : Recorded) (input : List ℕ) (why : Cause) (t : Recorded) → IsProgram x → Keeps x s → AreBytes input → gate_at s ≡ Some END_CLEANUP_GATE
+ResumesLand = (x : Accepted) (s : Recorded) (input : List ℕ) (why : Cause) (t : Recorded) → IsProgram x → Keeps x s → AreBytes input → gate_at (profile_of x.image) s ≡ Some END_CLEANUP_GATE
     → recorded_event (program_of x) s input ≡ Ends (the_end.Terminate why) t → why ≡ cause.Unexpected
 
 -- ---- flights
@@ -69,8 +70,8 @@ abbrev pub Stood : Accepted → ℕ → List ℕ → Reached Recorded → Type 0
 Stood x n input r = reached (recorded_event (program_of x)) n (recorded_start (program_of x)) input ≡ Some r
 
 pub record LandsAt (x : Accepted) (s : Recorded) (input : List ℕ) : Type 0 where
-  pub throws : (slot m : ℕ) (thrown : Thrown) (b : Barrier) → ThrowsWhat s slot thrown → searched (program_tables (program_of x)) s thrown ≡ found.Barrier b → LandsInOrder x s input slot m b
-  pub resumes : (why : Cause) (t : Recorded) → gate_at s ≡ Some END_CLEANUP_GATE → recorded_event (program_of x) s input ≡ Ends (the_end.Terminate why) t → why ≡ cause.Unexpected
+  pub throws : (slot m : ℕ) (thrown : Thrown) (b : Barrier) → ThrowsWhat (profile_of x.image) s slot thrown → searched (program_tables (program_of x)) s thrown ≡ found.Barrier b → LandsInOrder x s input slot m b
+  pub resumes : (why : Cause) (t : Recorded) → gate_at (profile_of x.image) s ≡ Some END_CLEANUP_GATE → recorded_event (program_of x) s input ≡ Ends (the_end.Terminate why) t → why ≡ cause.Unexpected
 
 abbrev pub RunsLandInOrder : Type 0
 RunsLandInOrder = (x : Accepted) (n : ℕ) (input : List ℕ) (r : Reached Recorded) → IsProgram x → AreBytes input → Stood x n input r → LandsAt x r.state r.left

@@ -9,19 +9,20 @@ use Rattle.machines_agree.specs.eh_phase.declared.phase2.Entered.TheVariants as 
 use Rattle.machines_agree.specs.eh_phase.declared.verdict.Thrown.{Thrown}
 use Rattle.std.specs.Prelude.{slice_index}
 use Rattle.machines_agree.specs.thumb_core.Registers.{even}
-use Rattle.machines_agree.specs.thumb_core.Step.{step_of}
+use Rattle.machines_agree.specs.thumb_isa.declared.profile.Profile.{Profile}
+use Rattle.machines_agree.specs.thumb_core.Step.{step_for}
 use Rattle.machines_agree.specs.thumb_core.declared.regs.TheConstants.{SP}
 use Rattle.machines_agree.specs.thumb_core.declared.regs.Stepped.{Stepped}
 use Rattle.machines_agree.specs.thumb_core.declared.regs.Stepped.TheVariants.{Done, Call, Return, Gate, Trap}
 use Rattle.machines_agree.specs.thumb_core.declared.ends.End.{End}
 use Rattle.machines_agree.specs.eh_gates.declared.gates.TheConstants.{THROW_GATE, RETHROW_GATE, END_CLEANUP_GATE}
-use Rattle.machines_agree.specs.two_machines.Program.{Program}
+use Rattle.machines_agree.specs.two_machines.Program.{Program, profile_in}
 use Rattle.machines_agree.specs.two_machines.Activations.{Recorded, reg_in, memory_of, lists_of, InProgress}
 use Rattle.machines_agree.specs.two_machines.ActivationMachine.{recorded_event, thrown_first, thrown_of_slot}
 
 -- ---- what an event throws, and what it resumes
 
--- the gate that an instruction is
+-- the gate that an instruction is, by the rows of a profile
 abbrev pub gate_in : Stepped → Option ℕ
 gate_in (Gate number) = Some number
 gate_in Done = None
@@ -29,8 +30,8 @@ gate_in (Call target ret) = None
 gate_in (Return to) = None
 gate_in (Trap trap) = None
 
-abbrev pub gate_at : Recorded → Option ℕ
-gate_at s = gate_in (step_of s.regs (memory_of s)).0
+abbrev pub gate_at : Profile → Recorded → Option ℕ
+gate_at p s = gate_in (step_for p s.regs (memory_of s)).0
 
 abbrev pub top_of : List ℕ → Option ℕ
 top_of [] = None
@@ -42,14 +43,14 @@ thrown_by s None = None
 thrown_by s (Some number) =
     if number == THROW_GATE then object_slot (reg_in s 0) else (if number == RETHROW_GATE then top_of s.caught else None)
 
-abbrev pub thrown_at : Recorded → Option ℕ
-thrown_at s = thrown_by s (gate_at s)
+abbrev pub thrown_at : Profile → Recorded → Option ℕ
+thrown_at p s = thrown_by s (gate_at p s)
 
 -- .. and with it the object and the type
-abbrev pub ThrowsWhat : Recorded → ℕ → Thrown → Type 0
-ThrowsWhat s slot thrown =
-    ((gate_at s ≡ Some THROW_GATE) × (object_slot (reg_in s 0) ≡ Some slot) × (thrown ≡ thrown_first s))
-    ⊎ ((gate_at s ≡ Some RETHROW_GATE) × (top_of s.caught ≡ Some slot) × (thrown ≡ thrown_of_slot (lists_of s) (Some slot)))
+abbrev pub ThrowsWhat : Profile → Recorded → ℕ → Thrown → Type 0
+ThrowsWhat p s slot thrown =
+    ((gate_at p s ≡ Some THROW_GATE) × (object_slot (reg_in s 0) ≡ Some slot) × (thrown ≡ thrown_first s))
+    ⊎ ((gate_at p s ≡ Some RETHROW_GATE) × (top_of s.caught ≡ Some slot) × (thrown ≡ thrown_of_slot (lists_of s) (Some slot)))
 
 -- the exception of the innermost cleanup in progress
 abbrev pub innermost : List InProgress → Option ℕ
@@ -61,8 +62,8 @@ abbrev pub resumed_by : Recorded → Option ℕ → Option ℕ
 resumed_by s None = None
 resumed_by s (Some number) = if number == END_CLEANUP_GATE then innermost s.cleanups else None
 
-abbrev pub resumed_at : Recorded → Option ℕ
-resumed_at s = resumed_by s (gate_at s)
+abbrev pub resumed_at : Profile → Recorded → Option ℕ
+resumed_at p s = resumed_by s (gate_at p s)
 
 -- ---- landings
 
@@ -86,17 +87,17 @@ abbrev pub stands_at : Recorded → Pad
 stands_at t = (t.regs.pc, reg_in t SP)
 
 -- an event that goes on from one state to another landed where it threw or resumed
-abbrev pub landing_by : Recorded → Recorded → Option Landing
-landing_by s t = landed_by (stands_at t) (thrown_at s) (resumed_at s)
+abbrev pub landing_by : Profile → Recorded → Recorded → Option Landing
+landing_by p s t = landed_by (stands_at t) (thrown_at p s) (resumed_at p s)
 
-abbrev pub landings_from : Recorded → Event Recorded End → (Recorded → List ℕ → List Landing) → List Landing
-landings_from s (Goes t text left) further = cons_option (landing_by s t) (further t left)
-landings_from s (Ends end t) further = []
+abbrev pub landings_from : Profile → Recorded → Event Recorded End → (Recorded → List ℕ → List Landing) → List Landing
+landings_from p s (Goes t text left) further = cons_option (landing_by p s t) (further t left)
+landings_from p s (Ends end t) further = []
 
 -- of at most so many events, in order
 unfoldable pub landings : Program → ℕ → Recorded → List ℕ → List Landing
 landings p zero s input = []
-landings p (suc n) s input = landings_from s (recorded_event p s input) (landings p n)
+landings p (suc n) s input = landings_from (profile_in p) s (recorded_event p s input) (landings p n)
 
 -- ---- the landings of one throw
 

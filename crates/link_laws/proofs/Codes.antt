@@ -1,6 +1,7 @@
--- The codes of literal instructions decode to them, and codes stand where their bytes do.
-use Rattle.std.proofs.Common.{◌≡◌, ℕ, ◌+◌, ◌-◌, ◌*◌, ◌/◌, ◌%◌, ◌^◌, ◌≤◌, ◌<◌, ◌==◌, not, nat_lt, nat_le, Bool, true, false, cond, List, ◌++◌, length, drop, ℤ, pos, negsuc, Some, None, Ok, Err, refl, sym, ap, ◌∙◌, arith, append_assoc, length-append, length-drop}
+-- The codes of literal instructions, of `b.w`, `cbz` and `cbnz` decode to them, and codes stand where their bytes do.
+use Rattle.std.proofs.Common.{◌≡◌, ℕ, ◌+◌, ◌-◌, ◌*◌, ◌/◌, ◌%◌, ◌^◌, ◌≤◌, ◌<◌, ◌==◌, not, nat_lt, nat_le, Bool, true, false, ◌||◌, cond, List, ◌++◌, length, drop, ℤ, pos, negsuc, Some, None, Ok, Err, refl, sym, ap, ◌∙◌, arith, append_assoc, length-append, length-drop}
 use Rattle.std.proofs.lemmas.Bool.Decides.{nat_tests}
+use Rattle.std.specs.Int.{from_bool}
 use Rattle.std.proofs.Math.Seq.{drop-append_seam}
 use Rattle.std.proofs.lemmas.List.{drop-drop}
 use Rattle.byteorder.specs.Endian.{little_number}
@@ -8,15 +9,18 @@ use Rattle.byteorder.specs.Numbers.{little_number-reads_back}
 use Rattle.eh_word.specs.Words.{number_at}
 use Rattle.thumb_isa.specs.Fields.{field}
 use Rattle.thumb_isa.specs.declared.instr.Instr.{Instr}
-use Rattle.thumb_isa.specs.declared.instr.Instr.TheVariants.{LdrLit, Adr}
+use Rattle.thumb_isa.specs.declared.instr.Instr.TheVariants.{LdrLit, Adr, BWide, Cbz}
+use Rattle.thumb_isa.specs.declared.profile.Profile.TheVariants.{Two}
 use Rattle.thumb_isa.proofs.Table.{ldr_lit, adr}
-use Rattle.thumb_encode.specs.Codes.{IsCodeOf, encoded_of, refused_if, with_field}
+use Rattle.thumb_encode.specs.Codes.{IsCodeIn, encoded_of, refused_if, with_field, target_field, cbz_field, b_wide_code}
+use Rattle.thumb_encode.proofs.Long.{b_wide_code as wide_decodes}
+use Rattle.thumb_encode.proofs.LateForms.{cbz_code}
 use Rattle.thumb_encode.specs.declared.code.Code.{Code}
 use Rattle.thumb_encode.specs.declared.code.Code.TheVariants as code
-use Rattle.thumb_isa.specs.declared.encode_fault.EncodeFault.TheVariants.{RegisterRange, ImmediateRange, ImmediateAlign}
+use Rattle.thumb_isa.specs.declared.encode_fault.EncodeFault.TheVariants.{RegisterRange, ImmediateRange, ImmediateAlign, TargetRange}
 use Rattle.asm_object.specs.Bytes.{half_bytes, code_bytes}
-use Rattle.eh_link.specs.EquationLaw.{CodeAt}
-use Rattle.eh_link.proofs.Branches.{IsSmall}
+use Rattle.eh_link.specs.EquationLaw.{IsCodeInEach, CodeAt}
+use Rattle.eh_link.proofs.Branches.{IsSmall, kept_in_each, late_in_each, field_there, target_back, named}
 
 -- ---- `adr` and `ldr` of a literal
 
@@ -42,12 +46,12 @@ literal_is opcode register n c e = by (nat_lt 7 register) (nat_lt 1020 n) (n % 4
     by false false true h f w e = record { low = grind (arith, nat_tests); near = grind (arith, nat_tests); fourth = grind (arith, nat_tests); is = cc }
 
 pub record Means (c : Code) (i : Instr) : Type 0 where
-  pub means : IsCodeOf c i
+  pub means : IsCodeInEach c i
   pub small : IsSmall c
 
 adr_half : (d n : ℕ) → d < 8 → n ≤ 1020 → n % 4 ≡ 0 → Means (code.Half (0xa000 + d * 2 ^ 8 + n / 4)) (Adr d (pos n))
 adr_half d n low near fourth = record {
-  means = λ second. adr (0xa000 + d * 2 ^ 8 + n / 4) second (omega arith) (omega (arith, low, near)) ∙ rw (register, number) refl;
+  means = kept_in_each (code.Half (0xa000 + d * 2 ^ 8 + n / 4)) (Adr d (pos n)) (λ second. adr (0xa000 + d * 2 ^ 8 + n / 4) second (omega arith) (omega (arith, low, near)) ∙ rw (register, number) refl);
   small = omega (arith, low, near);
 }
   where
@@ -59,7 +63,7 @@ adr_half d n low near fourth = record {
 
 load_half : (t n : ℕ) → t < 8 → n ≤ 1020 → n % 4 ≡ 0 → Means (code.Half (0x4800 + t * 2 ^ 8 + n / 4)) (LdrLit t (pos n))
 load_half t n low near fourth = record {
-  means = λ second. ldr_lit (0x4800 + t * 2 ^ 8 + n / 4) second (omega arith) (omega (arith, low, near)) ∙ rw (register, number) refl;
+  means = kept_in_each (code.Half (0x4800 + t * 2 ^ 8 + n / 4)) (LdrLit t (pos n)) (λ second. ldr_lit (0x4800 + t * 2 ^ 8 + n / 4) second (omega arith) (omega (arith, low, near)) ∙ rw (register, number) refl);
   small = omega (arith, low, near);
 }
   where
@@ -84,6 +88,73 @@ load_means t (pos n) c e =
     let is = literal_is 0x4800 t n c e in
     rw is.is (load_half t n is.low is.near is.fourth)
 load_means t (negsuc n) c e = absurd (no_literal (nat_lt 7 t) (λ words. code.Half (0x4800 + t * 2 ^ 8 + words)) c e)
+
+-- ---- `b.w`
+
+wide_code : (off : ℤ) (c : Code) → encoded_of (BWide off) ≡ Ok c → IsCodeIn Two c (BWide off)
+wide_code off c e =
+    let there = field_there (target_field (2 ^ 24) off) b_wide_code c e in
+    let target = target_back (2 ^ 24) off there.0 there.1 in
+    rw (← there.2) (wide_decodes there.0 _ _ _ _ off target.below refl refl refl refl target.back)
+
+bit_below : (b : Bool) → from_bool b < 2
+bit_below true = omega arith
+bit_below false = omega arith
+
+wide_small : (t : ℕ) → t < 2 ^ 24 → IsSmall (b_wide_code t)
+wide_small t h =
+    let one = bit_below (t / 2 ^ 22 % 2 == t / 2 ^ 23) in
+    let two = bit_below (t / 2 ^ 21 % 2 == t / 2 ^ 23) in
+    (omega arith, omega arith)
+
+wide_is_small : (off : ℤ) (c : Code) → encoded_of (BWide off) ≡ Ok c → IsSmall c
+wide_is_small off c e =
+    let there = field_there (target_field (2 ^ 24) off) b_wide_code c e in
+    let target = target_back (2 ^ 24) off there.0 there.1 in
+    rw (← there.2) (wide_small there.0 target.below)
+
+pub wide_means : (off : ℤ) (c : Code) → encoded_of (BWide off) ≡ Ok c → Means c (BWide off)
+wide_means off c e = record { means = late_in_each c (BWide off) refl (wide_code off c e); small = wide_is_small off c e }
+
+-- ---- `cbz` and `cbnz`
+
+zero_half : (nonzero : Bool) (n t h : ℕ) (off : ℤ) → n < 8 → t < 64 → pos (t * 2) ≡ off → h ≡ 0xb100 + from_bool nonzero * 2 ^ 11 + t / 2 ^ 5 * 2 ^ 9 + t % 2 ^ 5 * 2 ^ 3 + n
+    → Means (code.Half h) (Cbz nonzero n off)
+zero_half nonzero n t h off low few back is = record {
+  means = late_in_each (code.Half h) (Cbz nonzero n off) refl (λ second. cbz_code nonzero n t h second (from_bool nonzero) off low few back refl (is ∙ shifted nonzero));
+  small = omega (arith, is, low, few, bit_below nonzero);
+}
+  where
+    shifted : (b : Bool) → 0xb100 + from_bool b * 2 ^ 11 + t / 2 ^ 5 * 2 ^ 9 + t % 2 ^ 5 * 2 ^ 3 + n ≡ 0xb100 + from_bool b * 2048 % 2 ^ 16 + t / 32 * 512 + t % 32 * 8 + n
+    shifted true = refl
+    shifted false = refl
+
+-- an even number below 128 as the field of an offset
+record IsNear (off : ℤ) (t : ℕ) : Type 0 where
+  below : t < 64
+  back : pos (t * 2) ≡ off
+
+near : (off : ℤ) (t : ℕ) → cbz_field off ≡ Ok t → IsNear off t
+near (pos n) t e = by (nat_lt 126 n) (n % 2 == 0) refl refl e
+  where
+    by : (far even : Bool) → nat_lt 126 n ≡ far → (n % 2 == 0) ≡ even → refused_if (far || not even) TargetRange (Ok (n / 2)) ≡ Ok t → IsNear (pos n) t
+    by true even f w e = absurd (cc)
+    by false false f w e = absurd (cc)
+    by false true f w e =
+        let is : n / 2 ≡ t = cc in
+        let low : n ≤ 126 = grind (arith, nat_tests) in
+        let whole : n % 2 ≡ 0 = grind (arith, nat_tests) in
+        record { below = omega (arith, is, low); back = ap pos (let same : t * 2 ≡ n = omega (arith, is, whole) in same) }
+near (negsuc n) t e = absurd (cc)
+
+pub zero_means : (nonzero : Bool) (n : ℕ) (off : ℤ) (c : Code) → encoded_of (Cbz nonzero n off) ≡ Ok c → Means c (Cbz nonzero n off)
+zero_means nonzero n off c e =
+    let half : ℕ → Code = λ t. code.Half (0xb100 + from_bool nonzero * 2 ^ 11 + t / 2 ^ 5 * 2 ^ 9 + t % 2 ^ 5 * 2 ^ 3 + n) in
+    let known = named (nat_lt 7 n) (with_field (cbz_field off) half) c e in
+    let low : n < 8 = grind (arith, nat_tests, known.0) in
+    let there = field_there (cbz_field off) half c known.1 in
+    let close = near off there.0 there.1 in
+    rw (← there.2) (zero_half nonzero n there.0 (0xb100 + from_bool nonzero * 2 ^ 11 + there.0 / 2 ^ 5 * 2 ^ 9 + there.0 % 2 ^ 5 * 2 ^ 3 + n) off low close.below close.back refl)
 
 -- ---- codes in bytes
 

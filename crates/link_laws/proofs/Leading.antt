@@ -38,8 +38,8 @@ use Rattle.asm_object.proofs.LabelLaws.{small_after}
 use Rattle.source_laws.specs.RowLaw.{walk_over}
 use Rattle.source_laws.specs.MarkLaw.{text_after}
 use Rattle.eh_link.proofs.Branches.{bl_means, b_means, b_cond_means, bl_is_small, b_is_small, b_cond_is_small}
-use Rattle.link_laws.specs.BranchLaw.{GoesTo, ReachesFromItsBase, Leads, BranchesLead, CondBranchesLead, CallsLead, AddressesLead, LoadsLead}
-use Rattle.link_laws.proofs.Codes.{Means, adr_means, load_means, code_there}
+use Rattle.link_laws.specs.BranchLaw.{GoesTo, ReachesFromItsBase, Leads, BranchesLead, CondBranchesLead, CallsLead, WideBranchesLead, ZeroBranchesLead, AddressesLead, LoadsLead}
+use Rattle.link_laws.proofs.Codes.{Means, adr_means, load_means, wide_means, zero_means, code_there}
 use Rattle.asm_object.proofs.Statements.{walk_sets, walk_pieces}
 use Rattle.asm_layout.specs.Placing.{word_place, placed_from}
 use Rattle.asm_object.specs.After.{pieces_from, refusals_from}
@@ -332,6 +332,28 @@ law_of_calls before more line name object to few e symbol =
     let off = branch (labels_of (entries_of stmts) stmts) name place in
     moved_to GoesTo instr.Bl object.text place (text_after stmts before) to own.place_is
     (leads GoesTo instr.Bl off object.text place to own.after own.unfaulted own.bytes (λ c is. record { means = bl_means off c is; small = bl_is_small off c is })
+    (branch_goes stmts name place to own.small (named_there stmts name object to few t symbol)))
+
+pub law_of_wide_branches : WideBranchesLead
+law_of_wide_branches before more line name object to few e symbol =
+    let stmts = before ++ record { line = line; kind = statement.BWide name } ∷ more in
+    let t = taken stmts object e in
+    let own = stood stmts before more line (statement.BWide name) object refl few t refl refl in
+    let place = (here (walk_over stmts before).at).offset in
+    let off = branch (labels_of (entries_of stmts) stmts) name place in
+    moved_to GoesTo instr.BWide object.text place (text_after stmts before) to own.place_is
+    (leads GoesTo instr.BWide off object.text place to own.after own.unfaulted own.bytes (λ c is. wide_means off c is)
+    (branch_goes stmts name place to own.small (named_there stmts name object to few t symbol)))
+
+pub law_of_zero_branches : ZeroBranchesLead
+law_of_zero_branches nonzero n before more line name object to few e symbol =
+    let stmts = before ++ record { line = line; kind = statement.Cbz nonzero n name } ∷ more in
+    let t = taken stmts object e in
+    let own = stood stmts before more line (statement.Cbz nonzero n name) object refl few t refl refl in
+    let place = (here (walk_over stmts before).at).offset in
+    let off = branch (labels_of (entries_of stmts) stmts) name place in
+    moved_to GoesTo (instr.Cbz nonzero n) object.text place (text_after stmts before) to own.place_is
+    (leads GoesTo (instr.Cbz nonzero n) off object.text place to own.after own.unfaulted own.bytes (λ c is. zero_means nonzero n off c is)
     (branch_goes stmts name place to own.small (named_there stmts name object to few t symbol)))
 
 pub law_of_addresses : AddressesLead

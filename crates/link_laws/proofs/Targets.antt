@@ -62,8 +62,8 @@ use Rattle.link_laws.specs.MeaningLaw.{IsOneOf}
 use Rattle.link_laws.specs.LabelLaw.{Has}
 use Rattle.link_laws.specs.JoinedLaw.{NumberAt}
 use Rattle.link_laws.specs.FilledLaw.{StandsIn, DecodesAt, FieldSays}
-use Rattle.link_laws.specs.TargetLaw.{branch_to, literal_at, LeadsTo, NameLeads, JumpsLeadTo, CondJumpsLeadTo, CallsLeadTo, AddressesLeadTo, LoadsLeadTo}
-use Rattle.link_laws.proofs.Codes.{Means, adr_means, load_means, code_there}
+use Rattle.link_laws.specs.TargetLaw.{branch_to, literal_at, LeadsTo, NameLeads, JumpsLeadTo, CondJumpsLeadTo, CallsLeadTo, WideJumpsLeadTo, ZeroJumpsLeadTo, AddressesLeadTo, LoadsLeadTo}
+use Rattle.link_laws.proofs.Codes.{Means, adr_means, load_means, wide_means, zero_means, code_there}
 use Rattle.link_laws.proofs.Filled.{FilledAt, filled_at}
 use Rattle.link_laws.proofs.Given.{Given, given}
 use Rattle.link_laws.proofs.Labels.{begins_at, law_of_labels}
@@ -440,6 +440,39 @@ law_of_cond_jumps cond objects entry image placed one before more line name few 
     branch_leads (statement.BCond cond name) name objects entry image placed one stmts before (instr.BCond cond) R_ARM_THM_JUMP8 CondJump n refl refl n.own.unfaulted
     (λ off c e. record { means = b_cond_means cond off c e; small = b_cond_is_small cond off c e }) refl
     (λ none means at says. let D : ℕ → Type 0 = λ x. DecodesAt (instr.BCond x (displacement_of means (negsuc 3) at)) image at in subst D half.condition (says half.first there))
+
+-- a branch to a label of the own text that the linker has no part in
+local_leads : (kind : StmtKind) (name : List ℕ) (objects : List Object) (entry : List ℕ) (image : ImageParts) (placed : Placed) (one : IsOneOf objects placed) (stmts before : List Stmt) (instruction : ℤ → Instr)
+    → (n : Naming kind name objects entry image placed one stmts before)
+    → is_some (text_place (labels_of (entries_of stmts) stmts) name) ≡ true
+    → (own_piece (labels_of (entries_of stmts) stmts) kind (here (walk_over stmts before).at) n.own.word).relocs ≡ []
+    → (own_piece (labels_of (entries_of stmts) stmts) kind (here (walk_over stmts before).at) n.own.word).bytes
+    ≡ bytes_of_code (encoded_of (instruction (branch (labels_of (entries_of stmts) stmts) name (place_in stmts before))))
+    → result_err (encoded_of (instruction (branch (labels_of (entries_of stmts) stmts) name (place_in stmts before)))) ≡ None
+    → ((off : ℤ) (c : Code) → encoded_of (instruction off) ≡ Ok c → Means c (instruction off))
+    → NameLeads objects image placed one stmts before name instruction branch_to
+local_leads kind name objects entry image placed one stmts before instruction n known relocs bytes unfaulted means =
+    let place = place_in stmts before in
+    let to = known_some (text_place (labels_of (entries_of stmts) stmts) name) known in
+    let offset_is : branch (labels_of (entries_of stmts) stmts) name place ≡ between to.value (pc place) = ap (λ o. branch_offset o place) to.is in
+    own_leads kind name objects entry image placed one stmts before instruction branch_to (between to.value (pc place)) to.value n relocs
+    (bytes ∙ ap (λ off. bytes_of_code (encoded_of (instruction off))) offset_is)
+    (sym (ap (λ off. result_err (encoded_of (instruction off))) offset_is) ∙ unfaulted)
+    (means (between to.value (pc place))) to.is
+    (λ regs small fits at. goes place to.value (omega (arith, n.own.small)) small regs placed.at.text fits at)
+
+pub law_of_wide_jumps : WideJumpsLeadTo
+law_of_wide_jumps objects entry image placed one before more line name few accepted made =
+    let stmts = before ++ record { line = line; kind = statement.BWide name } ∷ more in
+    let n = given_in_text stmts before more line (statement.BWide name) name objects entry image placed one refl few accepted made refl (λ s. refl) in
+    local_leads (statement.BWide name) name objects entry image placed one stmts before instr.BWide n n.own.known refl refl n.own.unfaulted (λ off c e. wide_means off c e)
+
+pub law_of_zero_jumps : ZeroJumpsLeadTo
+law_of_zero_jumps nonzero register objects entry image placed one before more line name few accepted made =
+    let stmts = before ++ record { line = line; kind = statement.Cbz nonzero register name } ∷ more in
+    let n = given_in_text stmts before more line (statement.Cbz nonzero register name) name objects entry image placed one refl few accepted made refl (λ s. refl) in
+    local_leads (statement.Cbz nonzero register name) name objects entry image placed one stmts before (instr.Cbz nonzero register) n n.own.known refl refl n.own.unfaulted
+    (λ off c e. zero_means nonzero register off c e)
 
 -- a literal of a label of the own text
 literal_leads : (kind : StmtKind) (name : List ℕ) (objects : List Object) (entry : List ℕ) (image : ImageParts) (placed : Placed) (one : IsOneOf objects placed) (stmts before : List Stmt) (instruction : ℤ → Instr)

@@ -1,7 +1,7 @@
 -- Where a branch, an `adr` and a `ldr rt, name` of a source lead whose label stands in the source's own text (docs/objects.md, "Names"): as
 -- the decoder reads them, and as the core counts from the instruction's own address. pc reads as that address plus 4, and `adr` and `ldr`
--- count from it rounded down to a multiple of 4 (Armv6-M Architecture Reference Manual, DDI 0419).
-use Rattle.std.specs.Prelude.{◌≡◌, ℕ, ◌+◌, ◌%◌, ◌^◌, ◌<◌, ℤ, List, ◌∷◌, ◌++◌, length, Some, Ok}
+-- count from it rounded down to a multiple of 4 (Armv6-M Architecture Reference Manual, DDI 0419; Armv8-M, DDI 0553).
+use Rattle.std.specs.Prelude.{◌≡◌, ℕ, ◌+◌, ◌%◌, ◌^◌, ◌<◌, ℤ, Bool, List, ◌∷◌, ◌++◌, length, Some, Ok}
 use Rattle.thumb_isa.specs.declared.instr.Instr.{Instr}
 use Rattle.thumb_isa.specs.declared.instr.Instr.TheVariants as instr
 use Rattle.thumb_core.specs.declared.regs.Regs.{Regs}
@@ -50,6 +50,13 @@ CondBranchesLead = (cond : ℕ) → NamesLead (statement.BCond cond) (instr.BCon
 
 abbrev pub CallsLead : Type 0
 CallsLead = NamesLead statement.Bl instr.Bl GoesTo
+
+-- `b.w`, and `cbz` and `cbnz`, which lead to no other labels
+abbrev pub WideBranchesLead : Type 0
+WideBranchesLead = NamesLead statement.BWide instr.BWide GoesTo
+
+abbrev pub ZeroBranchesLead : Type 0
+ZeroBranchesLead = (nonzero : Bool) (n : ℕ) → NamesLead (statement.Cbz nonzero n) (instr.Cbz nonzero n) GoesTo
 
 abbrev pub AddressesLead : Type 0
 AddressesLead = (d : ℕ) → NamesLead (statement.Adr d) (instr.Adr d) ReachesFromItsBase

@@ -5,7 +5,6 @@ use Rattle.eh_word.specs.Words.{number_at, prel31_of}
 use Rattle.thumb_isa.specs.Fields.{field}
 use Rattle.thumb_isa.specs.declared.instr.Instr.{Instr}
 use Rattle.thumb_isa.specs.declared.instr.Instr.TheVariants.{BCond, B, Bl}
-use Rattle.thumb_encode.specs.Codes.{IsCodeOf}
 use Rattle.thumb_encode.specs.declared.code.Code.{Code}
 use Rattle.thumb_encode.specs.declared.code.Code.TheVariants as code
 use Rattle.asm_statements.specs.declared.statement.Stmt.{Stmt}
@@ -21,7 +20,7 @@ use Rattle.eh_link.specs.declared.names.Meaning.{Meaning}
 use Rattle.eh_link.specs.Placed.{Placed}
 use Rattle.eh_link.specs.Layout.{placed_of}
 use Rattle.eh_link.specs.Symbols.{meaning_of}
-use Rattle.eh_link.specs.EquationLaw.{target_of, displacement_of}
+use Rattle.eh_link.specs.EquationLaw.{IsCodeInEach, target_of, displacement_of}
 use Rattle.eh_link.specs.Linked.{linked}
 use Rattle.link_laws.specs.MeaningLaw.{IsOneOf}
 use Rattle.link_laws.specs.LabelLaw.{PartBegins}
@@ -34,11 +33,11 @@ abbrev pub StandsIn : Code → ImageParts → ℕ → Type 0
 StandsIn (code.Half first) image address = NumberAt 2 image address first
 StandsIn (code.Pair first second) image address = NumberAt 2 image address first × NumberAt 2 image (address + 2) second
 
--- halfwords that decode to an instruction
+-- halfwords that decode to an instruction, in each profile that has it
 pub record DecodesAt (instruction : Instr) (image : ImageParts) (address : ℕ) : Type 0 where
   pub encoding : Code
   pub there : StandsIn encoding image address
-  pub means : IsCodeOf encoding instruction
+  pub means : IsCodeInEach encoding instruction
 
 -- a word that makes a target with its own address, modulo 2 ^ 32
 pub record RelativeAt (target : ℕ) (image : ImageParts) (address : ℕ) : Type 0 where

@@ -1,7 +1,7 @@
 -- Where the branches, `adr` and `ldr rt, name` of sources lead in the image that these link to: to what their names mean there, as the
 -- decoder reads the image's halfwords and as the core counts from the instruction's own address (docs/objects.md, "Names";
 -- docs/linking.md, "Relocations").
-use Rattle.std.specs.Prelude.{◌≡◌, ℕ, ℤ, ◌+◌, ◌^◌, ◌<◌, List, ◌∷◌, ◌++◌, length, Some, Ok}
+use Rattle.std.specs.Prelude.{◌≡◌, ℕ, ℤ, ◌+◌, ◌^◌, ◌<◌, Bool, List, ◌∷◌, ◌++◌, length, Some, Ok}
 use Rattle.thumb_isa.specs.declared.instr.Instr.{Instr}
 use Rattle.thumb_isa.specs.declared.instr.Instr.TheVariants as instr
 use Rattle.thumb_core.specs.declared.regs.Regs.{Regs}
@@ -61,6 +61,12 @@ CondJumpsLeadTo = (cond : ℕ) → NamesLeadTo (statement.BCond cond) (instr.BCo
 
 abbrev pub CallsLeadTo : Type 0
 CallsLeadTo = NamesLeadTo statement.Bl instr.Bl branch_to
+
+abbrev pub WideJumpsLeadTo : Type 0
+WideJumpsLeadTo = NamesLeadTo statement.BWide instr.BWide branch_to
+
+abbrev pub ZeroJumpsLeadTo : Type 0
+ZeroJumpsLeadTo = (nonzero : Bool) (n : ℕ) → NamesLeadTo (statement.Cbz nonzero n) (instr.Cbz nonzero n) branch_to
 
 abbrev pub AddressesLeadTo : Type 0
 AddressesLeadTo = (d : ℕ) → NamesLeadTo (statement.Adr d) (instr.Adr d) literal_at

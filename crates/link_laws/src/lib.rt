@@ -3,7 +3,7 @@
 #![tactic(auto)]
 
 ghost use Rattle.link_laws.specs.AssembledLaw.{AssembledFieldsStandAlone};
-ghost use Rattle.link_laws.specs.BranchLaw.{BranchesLead, CondBranchesLead, CallsLead, AddressesLead, LoadsLead};
+ghost use Rattle.link_laws.specs.BranchLaw.{BranchesLead, CondBranchesLead, CallsLead, WideBranchesLead, ZeroBranchesLead, AddressesLead, LoadsLead};
 ghost use Rattle.link_laws.specs.MeaningLaw.{NamesHaveMeanings};
 ghost use Rattle.link_laws.specs.LabelLaw.{LabelsAreSymbols, MeaningsAreOfLabels};
 ghost use Rattle.link_laws.specs.JoinedLaw.{WordsAreSums};
@@ -13,7 +13,7 @@ ghost use Rattle.link_laws.specs.EntryLaw.{MarksAreMapped, EntriesAreFunctions};
 ghost use Rattle.link_laws.specs.SymbolsLaw.{DataIsMarked, IndexesAreMarked, NoOtherSymbols};
 ghost use Rattle.link_laws.specs.RightsLaw.{SegmentsHaveRights};
 ghost use Rattle.link_laws.specs.PoolLaw.{LoadsReadValues};
-ghost use Rattle.link_laws.specs.TargetLaw.{JumpsLeadTo, CondJumpsLeadTo, CallsLeadTo, AddressesLeadTo, LoadsLeadTo};
+ghost use Rattle.link_laws.specs.TargetLaw.{JumpsLeadTo, CondJumpsLeadTo, CallsLeadTo, WideJumpsLeadTo, ZeroJumpsLeadTo, AddressesLeadTo, LoadsLeadTo};
 
 /// A branch to a label in the text of its own source, an `adr` and a `ldr rt, name` lead to the label: the halfwords at the statement's
 /// place decode to the instruction, and the core, which counts from that place, comes to the label's.
@@ -21,6 +21,8 @@ pub fn own_names_lead_to_their_labels()
     ensures branches { BranchesLead }
     ensures conditions { CondBranchesLead }
     ensures calls { CallsLead }
+    ensures wide { WideBranchesLead }
+    ensures zero { ZeroBranchesLead }
     ensures addresses { AddressesLead }
     ensures loads { LoadsLead }
 {}
@@ -76,6 +78,8 @@ pub fn names_lead_to_what_they_mean()
     ensures calls { CallsLeadTo }
     ensures jumps { JumpsLeadTo }
     ensures conditions { CondJumpsLeadTo }
+    ensures wide { WideJumpsLeadTo }
+    ensures zero { ZeroJumpsLeadTo }
     ensures addresses { AddressesLeadTo }
     ensures loads { LoadsLeadTo }
 {}

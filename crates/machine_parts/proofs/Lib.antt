@@ -11,4 +11,5 @@ pub use Rattle.two_machines.proofs.eh_bytecode
 pub use Rattle.two_machines.proofs.unwind_codes
 pub use Rattle.two_machines.proofs.eh_cxa
 pub use Rattle.two_machines.proofs.thumb_core
+pub use Rattle.two_machines.proofs.thumb_isa
 pub use Rattle.two_machines.proofs.eh_bus

@@ -1,7 +1,7 @@
 -- One event, by the instruction.
-use Rattle.std.proofs.Common.{ℕ, List, refl, ◌≡◌, Some, inl, inr, pos, negsuc, subst}
+use Rattle.std.proofs.Common.{ℕ, List, refl, ◌≡◌, ◌<◌, Some, inl, inr, pos, negsuc, subst, arith}
 use Rattle.std.proofs.lemmas.Bool.{cases_eq}
-use Rattle.resumes_keep.specs.thumb_isa.declared.instr.Instr.TheVariants.{Svc, ShiftImm, AddSubReg, AddSubImm3, Imm8, Alu, AddHigh, CmpHigh, MovHigh, Bx, Blx, LdrLit, MemReg, MemImm, MemSp, Adr, AddRdSp, AddSp, SubSp, Extend, Rev, Push, Pop, Hint, Stm, Ldm, BCond, B, Bl, Barrier}
+use Rattle.resumes_keep.specs.thumb_isa.declared.instr.Instr.TheVariants.{Svc, ShiftImm, AddSubReg, AddSubImm3, Imm8, Alu, AddHigh, CmpHigh, MovHigh, Bx, Blx, LdrLit, MemReg, MemImm, MemSp, Adr, AddRdSp, AddSp, SubSp, Extend, Rev, Push, Pop, Hint, Stm, Ldm, BCond, B, Bl, Barrier, Cbz, BWide, MovW, MovT, Div}
 use Rattle.resumes_keep.specs.eh_gates.declared.gates.TheConstants.{THROW_GATE, RETHROW_GATE, END_CLEANUP_GATE}
 use Rattle.resumes_keep.specs.frame_check.Accepts.{Accepted}
 use Rattle.resumes_keep.specs.two_machines.Activations.{Recorded}
@@ -19,11 +19,12 @@ use Rattle.machines_agree.proofs.WalkingGates.{walking_turns}
 use Rattle.machines_agree.specs.Turned.{AreBytes, TurnsSame}
 use Rattle.resumes_keep.proofs.steps_keep.DataTurns.{data_turns}
 use Rattle.resumes_keep.proofs.accesses_keep.BxTurns.{bx_turns}
-use Rattle.resumes_keep.proofs.steps_keep.Jumps.{b_turns, bcond_turns, cmp_high_turns, hint_turns, barrier_turns}
+use Rattle.resumes_keep.proofs.steps_keep.Jumps.{b_turns, b_wide_turns, bcond_turns, cbz_turns, cmp_high_turns, hint_turns, barrier_turns}
 use Rattle.resumes_keep.proofs.steps_keep.High.{add_high_turns, mov_high_turns}
 use Rattle.resumes_keep.proofs.steps_keep.Calls.{bl_turns, blx_turns}
 use Rattle.resumes_keep.proofs.steps_keep.Gates.{gate_turns}
-use Rattle.resumes_keep.proofs.accepted_code.Bounded.{standing_bounds, works_low}
+use Rattle.resumes_keep.specs.accepted_code.Bounds.{Bounds}
+use Rattle.resumes_keep.proofs.accepted_code.Bounded.{standing_bounds}
 use Rattle.resumes_keep.proofs.accesses_keep.Events.{accesses, stacks}
 use Rattle.resumes_keep.proofs.accesses_keep.PopTurns.{pops}
 use Rattle.resumes_keep.proofs.accesses_keep.PushTurns.{pushes}
@@ -57,20 +58,25 @@ module _ (x : Accepted) (s : Recorded) (input : List ℕ) (is : IsProgram x) (k 
     ]
   ]
 
-  low : (i : Instr) (d : ℕ) → works_on i ≡ Some d → DoesAt x s i → Turns x s input
-  low i d works does = data_turns x s i d input is k does works (works_low i d works (standing_bounds (flow_graph_of x.image does.at.function) does.at.place i does.size does.stands))
+  -- what the checker decoded has its fields in range
+  in_range : (i : Instr) → DoesAt x s i → Bounds i
+  in_range i does = standing_bounds (flow_graph_of x.image does.at.function) does.at.place i does.size does.stands
+
+  -- one that works on a low register
+  low : (i : Instr) (d : ℕ) → works_on i ≡ Some d → d < 8 → DoesAt x s i → Turns x s input
+  low i d works l does = data_turns x s i d input is k does works (λ e. absurd (omega (arith, l, e)))
 
   each : (i : Instr) → DoesAt x s i → Turns x s input
-  each (ShiftImm op d m n) does = low (ShiftImm op d m n) d refl does
-  each (AddSubReg sub d n m) does = low (AddSubReg sub d n m) d refl does
-  each (AddSubImm3 sub d n imm) does = low (AddSubImm3 sub d n imm) d refl does
-  each (Imm8 op d imm) does = low (Imm8 op d imm) d refl does
-  each (Alu op d m) does = low (Alu op d m) d refl does
-  each (Adr d off) does = low (Adr d off) d refl does
-  each (Extend op d m) does = low (Extend op d m) d refl does
-  each (Rev op d m) does = low (Rev op d m) d refl does
-  each (AddRdSp d (pos off)) does = low (AddRdSp d (pos off)) d refl does
-  each (AddRdSp d (negsuc off)) does = absurd (standing_bounds (flow_graph_of x.image does.at.function) does.at.place (AddRdSp d (negsuc off)) does.size does.stands).1
+  each (ShiftImm op d m n) does = low (ShiftImm op d m n) d refl (in_range (ShiftImm op d m n) does) does
+  each (AddSubReg sub d n m) does = low (AddSubReg sub d n m) d refl (in_range (AddSubReg sub d n m) does) does
+  each (AddSubImm3 sub d n imm) does = low (AddSubImm3 sub d n imm) d refl (in_range (AddSubImm3 sub d n imm) does) does
+  each (Imm8 op d imm) does = low (Imm8 op d imm) d refl (in_range (Imm8 op d imm) does) does
+  each (Alu op d m) does = low (Alu op d m) d refl (in_range (Alu op d m) does) does
+  each (Adr d off) does = low (Adr d off) d refl (in_range (Adr d off) does) does
+  each (Extend op d m) does = low (Extend op d m) d refl (in_range (Extend op d m) does) does
+  each (Rev op d m) does = low (Rev op d m) d refl (in_range (Rev op d m) does) does
+  each (AddRdSp d (pos off)) does = low (AddRdSp d (pos off)) d refl (in_range (AddRdSp d (pos off)) does).0 does
+  each (AddRdSp d (negsuc off)) does = absurd (in_range (AddRdSp d (negsuc off)) does).1
   each (LdrLit t off) does = accesses x s (LdrLit t off) input is k does tt
   each (MemReg op t n m) does = accesses x s (MemReg op t n m) input is k does tt
   each (MemImm op t n off) does = accesses x s (MemImm op t n off) input is k does tt
@@ -95,6 +101,11 @@ module _ (x : Accepted) (s : Recorded) (input : List ℕ) (is : IsProgram x) (k 
   each (B off) does = b_turns x s off input is k does
   each (Bl off) does = bl_turns x s off input is k does
   each (Barrier op option) does = barrier_turns x s op option input is k does
+  each (Cbz nonzero n off) does = cbz_turns x s nonzero n off input is k does
+  each (BWide off) does = b_wide_turns x s off input is k does
+  each (MovW d imm) does = data_turns x s (MovW d imm) d input is k does refl (in_range (MovW d imm) does).0.1
+  each (MovT d imm) does = data_turns x s (MovT d imm) d input is k does refl (in_range (MovT d imm) does).0.1
+  each (Div signed d n m) does = data_turns x s (Div signed d n m) d input is k does refl (in_range (Div signed d n m) does).0.1
 
 pub turns : TurnsSame
 turns x s input is k bytes = turns_by_instruction x s input is k (each x s input is k bytes)

@@ -5,7 +5,8 @@ use Rattle.resumes_keep.specs.guest_gates.Gates.{gate_event}
 use Rattle.resumes_keep.specs.thumb_isa.declared.instr.Instr.TheVariants.{Svc}
 use Rattle.resumes_keep.specs.thumb_core.Outcome.{Outcome as Stepping}
 use Rattle.resumes_keep.specs.thumb_core.Registers.{with_next}
-use Rattle.resumes_keep.specs.thumb_core.Step.{step_of}
+use Rattle.resumes_keep.specs.image_memory.Profiles.{profile_of}
+use Rattle.resumes_keep.specs.thumb_core.Step.{step_for}
 use Rattle.resumes_keep.specs.thumb_core.declared.regs.Regs.{Regs}
 use Rattle.resumes_keep.specs.thumb_core.declared.regs.Stepped.TheVariants.{Gate}
 use Rattle.resumes_keep.specs.thumb_core.declared.ends.End.{End}
@@ -37,7 +38,7 @@ module _ (x : Accepted) (is : IsProgram x) (s : Recorded) (k : Keeps x s) (at : 
   abbrev regs : Regs
   regs = with_next size s.regs
 
-  stepped : step_of s.regs (memory_of s) ≡ (Gate number, regs, memory_of s)
+  stepped : step_for (profile_of x.image) s.regs (memory_of s) ≡ (Gate number, regs, memory_of s)
   stepped = (fetch x is s k at (Svc number) size stands).step
 
   left : (q : acts.Outcome) → Keeps x q.1 → OnEvent x (acts.event_of q input)
@@ -55,7 +56,7 @@ module _ (x : Accepted) (is : IsProgram x) (s : Recorded) (k : Keeps x s) (at : 
   tested (Some end) = k
   tested None = gated
 
-  checked : OnEvent x (acts.onward (program_of x) s (acts.stepped (program_of x) s (step_of s.regs (memory_of s))) input)
+  checked : OnEvent x (acts.onward (program_of x) s (acts.stepped (program_of x) s (step_for (profile_of x.image) s.regs (memory_of s))) input)
   checked = subst (λ (o : Stepping). OnEvent x (acts.onward (program_of x) s (acts.stepped (program_of x) s o) input)) (sym stepped) (tested (acts.tests (program_of x) s (Gate number) regs))
 
   event : (look x.roles s.regs.pc).is_instr ≡ true → OnEvent x (acts.recorded_event (program_of x) s input)

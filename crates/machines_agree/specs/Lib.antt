@@ -5,6 +5,8 @@ pub use Rattle.resumes_keep.specs.eh_bus
 pub use Rattle.resumes_keep.specs.elf_image
 pub use Rattle.resumes_keep.specs.eh_cxa
 pub use Rattle.resumes_keep.specs.thumb_core
+pub use Rattle.resumes_keep.specs.thumb_isa
+pub use Rattle.resumes_keep.specs.image_memory
 pub use Rattle.resumes_keep.specs.eh_trace
 pub use Rattle.resumes_keep.specs.eh_bytecode
 pub use Rattle.resumes_keep.specs.guest_gates

@@ -1,7 +1,8 @@
--- The memory map, images in memory and control blocks (docs/memory-map.md, docs/exceptions.md).
-use Rattle.std.specs.Prelude.{◌≡◌}
+-- The memory map, images in memory and their profiles, and control blocks (docs/memory-map.md, docs/instruction-set.md, docs/exceptions.md).
+use Rattle.std.specs.Prelude.{◌≡◌, codes}
 use Rattle.eh_bus.specs.declared.map.TheConstants as eh_bus-map
 use Rattle.image_memory.specs.declared.memory.TheConstants as image_memory-memory
+use Rattle.image_memory.specs.declared.profile.TheConstants as image_memory-profile
 use Rattle.eh_cxa.specs.declared.layout.TheConstants as eh_cxa-layout
 use Rattle.eh_cxa.specs.declared.state.TheConstants as eh_cxa-state
 
@@ -24,6 +25,8 @@ pub record BusNumbers : Type 0 where
 -- the numbers that the definitions of image_memory cite
 pub record StartNumbers : Type 0 where
   pub code_start : image_memory-memory.CODE_START ≡ 0x8000
+  pub profile_symbol : image_memory-profile.PROFILE_SYMBOL.now ≡ codes "__ehabi_profile"
+  pub second_profile : image_memory-profile.SECOND_PROFILE ≡ 2
 
 -- the numbers that the definitions of eh_cxa cite
 pub record BlockNumbers : Type 0 where

@@ -19,7 +19,7 @@ pub fn bus_numbers()
     ensures { BusNumbers }
 {}
 
-/// Where raw code begins.
+/// Where raw code begins, and by what an image says that it is of the second profile.
 pub fn start_numbers()
     ensures { StartNumbers }
 {}

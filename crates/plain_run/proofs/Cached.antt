@@ -4,6 +4,7 @@ use Rattle.std.proofs.lemmas.Bool.{cases_eq}
 use Rattle.std.proofs.lemmas.List.{get_or-set_same, get_or-set_other}
 use Rattle.eh_bus.specs.Memory.{Memory}
 use Rattle.thumb_isa.specs.declared.instr.Instr.{Instr}
+use Rattle.thumb_isa.specs.declared.profile.Profile.TheVariants.{One}
 use Rattle.thumb_core.specs.Outcome.{Outcome}
 use Rattle.thumb_core.specs.Step.{effect, step_of}
 use Rattle.thumb_core.specs.declared.regs.Regs.{Regs}
@@ -16,13 +17,13 @@ use Rattle.plain_run.specs.declared.decode_cache.CacheLine.{CacheLine}
 use Rattle.plain_run.specs.Cached.{IsInstrAt, IsLine, IsOfLine}
 
 pub is_there : (m : Memory) (a : ℕ) (line : CacheLine) → IsOfLine line → HasHalfwords m a line.halfwords → IsInstrAt m a line.instr line.size
-is_there m a line of stand = record { there = by_halfwords m a line.halfwords stand ∙ of.decoded; range = of.range }
+is_there m a line of stand = record { there = by_halfwords One m a line.halfwords stand ∙ of.decoded; range = of.range }
 
 pub is_of_line : (m : Memory) (a : ℕ) (h : Halfwords) (i : Instr) (size : ℕ) → IsInstrAt m a i size → HasHalfwords m a h
     → IsOfLine (record { halfwords = h; instr = i; size = size })
 is_of_line m a h i size is stand = record {
   pair = is_pair m a h stand;
-  decoded = sym (by_halfwords m a h stand) ∙ is.there;
+  decoded = sym (by_halfwords One m a h stand) ∙ is.there;
   range = is.range;
 }
 
@@ -36,4 +37,4 @@ set_line lines n line within old of k below = elim (cases_eq k n) [
 
 -- its effect is a step
 pub is_step : (regs : Regs) (m : Memory) (i : Instr) (size : ℕ) (o : Outcome) → IsInstrAt m regs.pc i size → o ≡ effect i size regs m → o ≡ step_of regs m
-is_step regs m i size o at e = e ∙ sym (step_is regs m i size at.there)
+is_step regs m i size o at e = e ∙ sym (step_is One regs m i size at.there)

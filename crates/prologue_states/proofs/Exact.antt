@@ -9,7 +9,7 @@ use Rattle.accepted_code.specs.frame_facts.declared.facts.Fact.{Fact}
 use Rattle.accepted_code.specs.frame_facts.declared.saves.Prologue.{Prologue}
 use Rattle.accepted_code.specs.frame_facts.Saves.{saves_within, moved_to, stack_word, saves_of}
 use Rattle.accepted_code.specs.thumb_isa.declared.instr.Instr.{Instr}
-use Rattle.accepted_code.specs.thumb_isa.declared.instr.Instr.TheVariants.{Push, ShiftImm, AddSubReg, AddSubImm3, Imm8, Alu, AddHigh, CmpHigh, MovHigh, Bx, Blx, LdrLit, MemReg, MemImm, MemSp, Adr, AddRdSp, AddSp, SubSp, Extend, Rev, Pop, Hint, Stm, Ldm, BCond, Svc, B, Bl, Barrier}
+use Rattle.accepted_code.specs.thumb_isa.declared.instr.Instr.TheVariants.{Push, ShiftImm, AddSubReg, AddSubImm3, Imm8, Alu, AddHigh, CmpHigh, MovHigh, Bx, Blx, LdrLit, MemReg, MemImm, MemSp, Adr, AddRdSp, AddSp, SubSp, Extend, Rev, Pop, Hint, Stm, Ldm, BCond, Svc, B, Bl, Barrier, Cbz, BWide, MovW, MovT, Div}
 use Rattle.accepted_code.specs.frame_facts.Facts.{lost, clobbered, source, bounded_depth, with_source}
 use Rattle.accepted_code.specs.thumb_core.Words.{listed}
 use Rattle.accepted_code.specs.frame_facts.After.{effect}
@@ -103,6 +103,11 @@ other_frame q at (Svc imm) f g may down e = absurd cc
 other_frame q at (B off) f g may down e = absurd cc
 other_frame q at (Bl off) f g may down e = absurd cc
 other_frame q at (Barrier op option) f g may down e = give q f f g (refl, inl refl) e
+other_frame q at (Cbz nonzero n off) f g may down e = absurd cc
+other_frame q at (BWide off) f g may down e = absurd cc
+other_frame q at (MovW d imm) f g may down e = give q f (lost d f) g (refl, inl refl) e
+other_frame q at (MovT d imm) f g may down e = give q f (lost d f) g (refl, inl refl) e
+other_frame q at (Div signed d n m) f g may down e = give q f (lost d f) g (refl, inl refl) e
 
 -- ---- all saves that a run has lie within its depth
 

@@ -13,7 +13,7 @@ use Rattle.accepted_code.specs.frame_facts.declared.saves.Prologue.{Prologue}
 use Rattle.accepted_code.specs.frame_facts.Saves.{saves_of, saves_within, lies_at, word, moved_to}
 use Rattle.accepted_code.specs.frame_facts.declared.facts.Source.TheVariants.{Entry, Other, SpAt}
 use Rattle.accepted_code.specs.thumb_isa.declared.instr.Instr.{Instr}
-use Rattle.accepted_code.specs.thumb_isa.declared.instr.Instr.TheVariants.{ShiftImm, AddSubReg, AddSubImm3, Imm8, Alu, AddHigh, CmpHigh, MovHigh, Bx, Blx, LdrLit, MemReg, MemImm, MemSp, Adr, AddRdSp, AddSp, SubSp, Extend, Rev, Push, Pop, Hint, Stm, Ldm, BCond, Svc, B, Bl, Barrier}
+use Rattle.accepted_code.specs.thumb_isa.declared.instr.Instr.TheVariants.{ShiftImm, AddSubReg, AddSubImm3, Imm8, Alu, AddHigh, CmpHigh, MovHigh, Bx, Blx, LdrLit, MemReg, MemImm, MemSp, Adr, AddRdSp, AddSp, SubSp, Extend, Rev, Push, Pop, Hint, Stm, Ldm, BCond, Svc, B, Bl, Barrier, Cbz, BWide, MovW, MovT, Div}
 use Rattle.accepted_code.specs.thumb_core.Words.{listed}
 use Rattle.accepted_code.specs.frame_facts.declared.facts.Fact.{Fact}
 use Rattle.accepted_code.specs.frame_facts.declared.facts.Source.{Source}
@@ -135,47 +135,61 @@ effect_same q P at (Svc imm) f g may k a b e h = absurd cc
 effect_same q P at (B off) f g may k a b e h = absurd cc
 effect_same q P at (Bl off) f g may k a b e h = absurd cc
 effect_same q P at (Barrier op option) f g may k a b e h = e
+effect_same q P at (Cbz nonzero n off) f g may k a b e h = absurd cc
+effect_same q P at (BWide off) f g may k a b e h = absurd cc
+effect_same q P at (MovW d imm) f g may k a b e h = e
+effect_same q P at (MovT d imm) f g may k a b e h = e
+effect_same q P at (Div signed d n m) f g may k a b e h = e
 
--- an instruction that may stand there shows no cause but by its effect
-pub plain_after : (p : Prologue) (at : ℕ) (i : Instr) (f : Fact) → may_stand i ≡ true → after_of p false at i f ≡ gone_on None (effect p false at i f)
-plain_after p at (AddHigh d m) f may = go (d == 15) may
+-- an instruction that may stand there shows no cause but by its effect, and lowers sp by no unknown amount: none writes sp by a MOV
+pub plain_after : (p : Prologue) (lowers : Bool) (at : ℕ) (i : Instr) (f : Fact) → may_stand i ≡ true
+    → after_of p lowers at i f ≡ gone_on None (effect p false at i f)
+plain_after p lowers at (AddHigh d m) f may = go (d == 15) may
   where
     go : (b : Bool) → (not (is_callers d) && not (d == 13) && not b) ≡ true → cond b (Err IndirectBranch) (gone_on None (effect p false at (AddHigh d m) f)) ≡ gone_on None (effect p false at (AddHigh d m) f)
     go true x = absurd (let two = and_parts (not (is_callers d) && not (d == 13)) false x in cc)
     go false x = refl
-plain_after p at (MovHigh d m) f may = go (d == 15) may
+plain_after p lowers at (MovHigh d m) f may = go (d == 13) (d == 15) may
   where
-    go : (b : Bool) → (not (d == 13) && not b) ≡ true → cond b (Err IndirectBranch) (gone_on None (effect p false at (MovHigh d m) f)) ≡ gone_on None (effect p false at (MovHigh d m) f)
-    go true x = absurd (let two = and_parts (not (d == 13)) false x in cc)
-    go false x = refl
-plain_after p at (Bx m) f may = absurd cc
-plain_after p at (Pop list) f may = absurd cc
-plain_after p at (ShiftImm op d m n) f may = refl
-plain_after p at (AddSubReg sub d n m) f may = refl
-plain_after p at (AddSubImm3 sub d n imm) f may = refl
-plain_after p at (Imm8 op d imm) f may = refl
-plain_after p at (Alu op d m) f may = refl
-plain_after p at (CmpHigh n m) f may = refl
-plain_after p at (Blx m) f may = refl
-plain_after p at (LdrLit t off) f may = refl
-plain_after p at (MemReg op t n m) f may = refl
-plain_after p at (MemImm op t n off) f may = refl
-plain_after p at (MemSp load t off) f may = refl
-plain_after p at (Adr d off) f may = refl
-plain_after p at (AddRdSp d off) f may = refl
-plain_after p at (AddSp off) f may = refl
-plain_after p at (SubSp off) f may = refl
-plain_after p at (Extend op d m) f may = refl
-plain_after p at (Rev op d m) f may = refl
-plain_after p at (Push list) f may = refl
-plain_after p at (Hint n) f may = refl
-plain_after p at (Stm n list) f may = refl
-plain_after p at (Ldm n list) f may = refl
-plain_after p at (BCond c off) f may = refl
-plain_after p at (Svc imm) f may = refl
-plain_after p at (B off) f may = refl
-plain_after p at (Bl off) f may = refl
-plain_after p at (Barrier op option) f may = refl
+    go : (b c : Bool) → (not b && not c) ≡ true
+        → cond c (Err IndirectBranch) (gone_on None (cond b (cond lowers (Some (let y : Fact = record f { below = true } in y)) (sp_set p (copied m f) f)) (Some (with_source f d (copied m f)))))
+        ≡ gone_on None (cond b (sp_set p (copied m f) f) (Some (with_source f d (copied m f))))
+    go true c x = absurd cc
+    go false true x = absurd cc
+    go false false x = refl
+plain_after p lowers at (Bx m) f may = absurd cc
+plain_after p lowers at (Pop list) f may = absurd cc
+plain_after p lowers at (ShiftImm op d m n) f may = refl
+plain_after p lowers at (AddSubReg sub d n m) f may = refl
+plain_after p lowers at (AddSubImm3 sub d n imm) f may = refl
+plain_after p lowers at (Imm8 op d imm) f may = refl
+plain_after p lowers at (Alu op d m) f may = refl
+plain_after p lowers at (CmpHigh n m) f may = refl
+plain_after p lowers at (Blx m) f may = refl
+plain_after p lowers at (LdrLit t off) f may = refl
+plain_after p lowers at (MemReg op t n m) f may = refl
+plain_after p lowers at (MemImm op t n off) f may = refl
+plain_after p lowers at (MemSp load t off) f may = refl
+plain_after p lowers at (Adr d off) f may = refl
+plain_after p lowers at (AddRdSp d off) f may = refl
+plain_after p lowers at (AddSp off) f may = refl
+plain_after p lowers at (SubSp off) f may = refl
+plain_after p lowers at (Extend op d m) f may = refl
+plain_after p lowers at (Rev op d m) f may = refl
+plain_after p lowers at (Push list) f may = refl
+plain_after p lowers at (Hint n) f may = refl
+plain_after p lowers at (Stm n list) f may = refl
+plain_after p lowers at (Ldm n list) f may = refl
+plain_after p lowers at (BCond c off) f may = refl
+plain_after p lowers at (Svc imm) f may = refl
+plain_after p lowers at (B off) f may = refl
+plain_after p lowers at (Bl off) f may = refl
+plain_after p lowers at (Barrier op option) f may = refl
+plain_after p lowers at (Cbz nonzero n off) f may = absurd cc
+plain_after p lowers at (BWide off) f may = absurd cc
+plain_after p lowers at (MovW d imm) f may = refl
+plain_after p lowers at (MovT d imm) f may = refl
+plain_after p lowers at (Div signed d n m) f may = refl
 
 -- ---- a run, instruction by instruction
 

@@ -7,7 +7,7 @@ use Rattle.std.specs.Option.{option_map_or}
 use Rattle.std.proofs.lemmas.Bool.{lt-ltb}
 use Rattle.std.proofs.lemmas.List.{append_assoc}
 use Rattle.accepted_code.specs.thumb_isa.declared.instr.Instr.{Instr}
-use Rattle.accepted_code.specs.thumb_isa.declared.instr.Instr.TheVariants.{SubSp, ShiftImm, AddSubReg, AddSubImm3, Imm8, Alu, AddHigh, CmpHigh, MovHigh, Bx, Blx, LdrLit, MemReg, MemImm, MemSp, Adr, AddRdSp, AddSp, Extend, Rev, Push, Pop, Hint, Stm, Ldm, BCond, Svc, B, Bl, Barrier}
+use Rattle.accepted_code.specs.thumb_isa.declared.instr.Instr.TheVariants.{SubSp, ShiftImm, AddSubReg, AddSubImm3, Imm8, Alu, AddHigh, CmpHigh, MovHigh, Bx, Blx, LdrLit, MemReg, MemImm, MemSp, Adr, AddRdSp, AddSp, Extend, Rev, Push, Pop, Hint, Stm, Ldm, BCond, Svc, B, Bl, Barrier, Cbz, BWide, MovW, MovT, Div}
 use Rattle.accepted_code.specs.frame_facts.declared.facts.Fact.{Fact}
 use Rattle.accepted_code.specs.frame_facts.Facts.{lost, clobbered, bounded_depth, source, with_source, IsFit}
 use Rattle.accepted_code.specs.frame_facts.declared.facts.TheConstants.{DEEPEST}
@@ -32,6 +32,7 @@ use Rattle.accepted_code.specs.frame_reach.Prologue.{places, is_led_to, line_by,
 use Rattle.accepted_code.specs.frame_reach.Laws.{IsRun, begins, takes}
 use Rattle.accepted_code.proofs.frame_reach.Runs.{line_stands}
 use Rattle.accepted_code.proofs.frame_reach.Stands.{stands_inside, stands_size, stands_below}
+use Rattle.accepted_code.specs.frame_check.Accepts.{framed}
 use Rattle.prologue_states.proofs.Widths.{sub_sp_falls}
 use Rattle.prologue_states.proofs.Extends.{Above, above_less, above_both, Deeper, length_saves, effect_same, plain_after, IsGood, Step, step_of_run}
 use Rattle.prologue_states.proofs.Straight.{EffectsAgree}
@@ -121,6 +122,11 @@ effect_deeper q at (Svc imm) f g may down e = absurd cc
 effect_deeper q at (B off) f g may down e = absurd cc
 effect_deeper q at (Bl off) f g may down e = absurd cc
 effect_deeper q at (Barrier op option) f g may down e = deeper f f g (omega arith) e
+effect_deeper q at (Cbz nonzero n off) f g may down e = absurd cc
+effect_deeper q at (BWide off) f g may down e = absurd cc
+effect_deeper q at (MovW d imm) f g may down e = deeper f (lost d f) g (omega arith) e
+effect_deeper q at (MovT d imm) f g may down e = deeper f (lost d f) g (omega arith) e
+effect_deeper q at (Div signed d n m) f g may down e = deeper f (lost d f) g (omega arith) e
 
 never_up : (s : FlowGraph) (p : ℕ) (i : Instr) (size : ℕ) → standing_at s p ≡ Instruction i size → IsDown i
 never_up s p (SubSp (pos n)) size e = tt
@@ -148,7 +154,7 @@ module _ (s : FlowGraph) (m : Marks) (even : s.start % 2 ≡ 0) (low : s.end + 4
     long = t.long;
     few = t.few;
     fits = after_fits next.prologue false run.prologue.end i run.fact next.fact (record { depth = k.fits.depth; kept = omega (arith, k.fits.kept, t.more); long = k.fits.long })
-        (plain_after next.prologue run.prologue.end i run.fact t.may ∙ ap (gone_on None) t.does);
+        (plain_after next.prologue false run.prologue.end i run.fact t.may ∙ ap (gone_on None) t.does);
     ends = let inside = stands_inside s p i size e in elim (stands_size s p i size e) [
       | inl two ↦ omega (arith, t.end, k.ends, inside, low, two)
       | inr four ↦ omega (arith, t.end, k.ends, inside, low, four)
@@ -247,8 +253,9 @@ module _ (s : FlowGraph) (m : Marks) (even : s.start % 2 ≡ 0) (low : s.end + 4
       let count : run.fact.kept ≤ length (saves_of next.prologue) = omega (arith, known.fits.kept, step.more, length_saves next.prologue step.long step.few) in
       let by_P : effect P false run.prologue.end i run.fact ≡ Some next.fact =
       effect_same next.prologue P run.prologue.end i run.fact next.fact step.may count (lt-ltb run.prologue.end next.prologue.end past) (lt-ltb run.prologue.end P.end (omega (arith, past, end_is))) step.does further in
-      let whole : after_of P false (address_of s p) i run.fact ≡ Ok next.fact =
-      ap (λ a. after_of P false a i run.fact) at ∙ plain_after P run.prologue.end i run.fact step.may ∙ ap (gone_on None) by_P in
+      let lowers : Bool = (framed s m).lowers p in
+      let whole : after_of P lowers (address_of s p) i run.fact ≡ Ok next.fact =
+      ap (λ a. after_of P lowers a i run.fact) at ∙ plain_after P lowers run.prologue.end i run.fact step.may ∙ ap (gone_on None) by_P in
       same_ok k next.fact (sym h ∙ whole)
     where
       same_ok : (a b : Fact) → ◌≡◌ {A = Result Fact FrameCause} (Ok a) (Ok b) → a ≡ b

@@ -153,7 +153,7 @@ module _ (s : FlowGraph) (m : Marks) (are : AreMarks s m) where
   -- what the effect of a run's instruction gives is the fact of the run after it
   abbrev pub EffectsAgree : Type 0
   EffectsAgree = (p : ℕ) (run next : Straight) (i : Instr) (size : ℕ) (k : Fact) → IsRun s m p run → standing_at s p ≡ Instruction i size → is_led_to m.target p size ≡ false → taken run i size ≡ Some next
-      → after_of (framed s m).prologue false (address_of s p) i run.fact ≡ Ok k → k ≡ next.fact
+      → after_of (framed s m).prologue ((framed s m).lowers p) (address_of s p) i run.fact ≡ Ok k → k ≡ next.fact
 
   met_all_self : (xs : List Source) → met_sources xs xs ≡ xs
   unfolding met_sources
@@ -245,9 +245,9 @@ module _ (s : FlowGraph) (m : Marks) (are : AreMarks s m) where
                 let free : is_led_to m.target p took.size ≡ false = subst (λ z. is_led_to m.target z took.size ≡ false) (sym here) took.free in
                 let before : f ≡ took.before.fact = each took.before from (took.instr, took.size, run, stands, free, took.takes) in
                 let same_instr : i ≡ took.instr = same_Some i took.instr (sym at ∙ ap instruction_of stands) in
-                let left : after_of (framed s m).prologue false (address_of s p) took.instr took.before.fact ≡ Ok k =
-                subst (λ (j : Instr). after_of (framed s m).prologue false (address_of s p) j took.before.fact ≡ Ok k) same_instr
-                (subst (λ (h : Fact). after_of (framed s m).prologue false (address_of s p) i h ≡ Ok k) before e) in
+                let left : after_of (framed s m).prologue ((framed s m).lowers p) (address_of s p) took.instr took.before.fact ≡ Ok k =
+                subst (λ (j : Instr). after_of (framed s m).prologue ((framed s m).lowers p) (address_of s p) j took.before.fact ≡ Ok k) same_instr
+                (subst (λ (h : Fact). after_of (framed s m).prologue ((framed s m).lowers p) (address_of s p) i h ≡ Ok k) before e) in
                 let plain : g ≡ k = is ∙ ap (λ (n : ℕ). clobbered (listed n) k) v.clobbers ∙ ap (λ (rs : List ℕ). clobbered rs k) listed_nothing in
                 plain ∙ agree p took.before run took.instr took.size k from stands free took.takes left
     states _ _ (meeting {p} {f} {g} {h} a b j) run r on =

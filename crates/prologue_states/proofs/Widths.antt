@@ -1,8 +1,11 @@
 -- What every row of the instruction table gives, and so what stands at a place: BL is two halfwords wide, BLX one, and SUB sp lowers it.
-use Rattle.std.proofs.Common.{ℕ, ◌&&◌, Bool, true, List, [], ◌∷◌, ◌≡◌, cond, false, ◌==◌, pos, negsuc, refl, subst, Option, Some, None, ◌+◌, ℤ}
+use Rattle.std.proofs.Common.{ℕ, ◌&&◌, Bool, true, List, [], ◌∷◌, ◌++◌, ◌≡◌, cond, false, ◌==◌, pos, negsuc, refl, subst, Option, Some, None, ◌+◌, ℤ}
 use Rattle.std.proofs.lemmas.Bool.{and_parts, eqb-true}
 use Rattle.accepted_code.specs.thumb_isa.declared.instr.Decoded.{Decoded}
-use Rattle.accepted_code.specs.thumb_isa.Rows.{Row, fits, first_fit, rows, decoded_of}
+use Rattle.accepted_code.specs.thumb_isa.declared.profile.Profile.{Profile}
+use Rattle.accepted_code.specs.thumb_isa.declared.profile.Profile.TheVariants.{One, Two}
+use Rattle.accepted_code.specs.thumb_isa.Rows.{Row, fits, first_fit, rows, late_rows, decoded_of, late_decoded_of, decoded_for}
+use Rattle.accepted_code.specs.image_memory.Profiles.{profile_of}
 use Rattle.accepted_code.specs.thumb_isa.declared.instr.Decoded.TheVariants.{Undefined, Is, Unpredictable, NotInProfile}
 use Rattle.accepted_code.specs.thumb_isa.declared.instr.Instr.TheVariants.{Bl, Blx, SubSp}
 use Rattle.accepted_code.specs.thumb_isa.declared.instr.Instr.{Instr}
@@ -36,9 +39,10 @@ fine Undefined = true
 fine Unpredictable = true
 fine NotInProfile = true
 
-all_fine : (f s : ℕ) → fine (decoded_of f s) ≡ true
-unfolding decoded_of
-all_fine f s = passes fine refl rows f s refl
+all_fine : (p : Profile) (f s : ℕ) → fine (decoded_for p f s) ≡ true
+unfolding decoded_of late_decoded_of
+all_fine One f s = passes fine refl rows f s refl
+all_fine Two f s = passes fine refl (late_rows ++ rows) f s refl
 
 fine_there : (d : Decoded) (i : Instr) (n : ℕ) → of_decoded d ≡ Instruction i n → fine d ≡ true → fine (Is i n) ≡ true
 fine_there (Is j m) i n e h = subst (λ (t : Decoded). fine t ≡ true) (let same : ◌≡◌ {A = Decoded} (Is j m) (Is i n) = cc in same) h
@@ -46,19 +50,19 @@ fine_there Undefined i n e h = absurd cc
 fine_there Unpredictable i n e h = absurd cc
 fine_there NotInProfile i n e h = absurd cc
 
-fine_by : (o w : Option ℕ) (i : Instr) (n : ℕ) → standing_by o w ≡ Instruction i n → fine (Is i n) ≡ true
-fine_by None w i n e = absurd cc
-fine_by (Some first) w i n e = go (is_udf first) (size_of first == 2) w e
+fine_by : (p : Profile) (o w : Option ℕ) (i : Instr) (n : ℕ) → standing_by p o w ≡ Instruction i n → fine (Is i n) ≡ true
+fine_by p None w i n e = absurd cc
+fine_by p (Some first) w i n e = go (is_udf first) (size_of first == 2) w e
   where
-    go : (u b : Bool) (w : Option ℕ) → cond u Udf (cond b (of_decoded (decoded_of first 0)) (wide_of first w)) ≡ Instruction i n → fine (Is i n) ≡ true
+    go : (u b : Bool) (w : Option ℕ) → cond u Udf (cond b (of_decoded (decoded_for p first 0)) (wide_of p first w)) ≡ Instruction i n → fine (Is i n) ≡ true
     go true b w e = absurd cc
-    go false true w e = fine_there (decoded_of first 0) i n e (all_fine first 0)
+    go false true w e = fine_there (decoded_for p first 0) i n e (all_fine p first 0)
     go false false None e = absurd cc
-    go false false (Some second) e = fine_there (decoded_of first second) i n e (all_fine first second)
+    go false false (Some second) e = fine_there (decoded_for p first second) i n e (all_fine p first second)
 
 pub fine_at : (s : FlowGraph) (p : ℕ) (i : Instr) (n : ℕ) → standing_at s p ≡ Instruction i n → fine (Is i n) ≡ true
 unfolding standing_at
-fine_at s p i n e = fine_by (halfword_of s p) (halfword_of s (p + 1)) i n e
+fine_at s p i n e = fine_by (profile_of s.image) (halfword_of s p) (halfword_of s (p + 1)) i n e
 
 pub bl_width : (s : FlowGraph) (p : ℕ) (off : ℤ) (n : ℕ) → standing_at s p ≡ Instruction (Bl off) n → n ≡ 4
 bl_width s p off n e = eqb-true n 4 (fine_at s p (Bl off) n e)

@@ -131,13 +131,13 @@ module _ (x : Accepted) (is : IsProgram x) (f : Function) (m : Marks) (start : �
 
   forgot_by : (j : Instr) → i ≡ j → flow_graph_site.site_of (address_of (flow_graph_of x.image f) p) j ≡ Some site → Forgot
   forgot_by (Bl off) e h =
-      let w = subst (λ (j : Instr). after_of (code x f m).prologue false (address_of (flow_graph_of x.image f) p) j fact ≡ Ok left) e (pads.leaves x is f m start of p fact state i at site site_is).is_after in
+      let w = subst (λ (j : Instr). after_of (code x f m).prologue ((code x f m).lowers p) (address_of (flow_graph_of x.image f) p) j fact ≡ Ok left) e (pads.leaves x is f m start of p fact state i at site site_is).is_after in
       record { names = []; same = sym (same_ok (clobbered call_changes fact) left w) ∙ sym (ap (λ (j : Instr). at_site (is_call j) fact) e) }
   forgot_by (Blx n) e h =
-      let w = subst (λ (j : Instr). after_of (code x f m).prologue false (address_of (flow_graph_of x.image f) p) j fact ≡ Ok left) e (pads.leaves x is f m start of p fact state i at site site_is).is_after in
+      let w = subst (λ (j : Instr). after_of (code x f m).prologue ((code x f m).lowers p) (address_of (flow_graph_of x.image f) p) j fact ≡ Ok left) e (pads.leaves x is f m start of p fact state i at site site_is).is_after in
       record { names = []; same = sym (same_ok (clobbered call_changes fact) left w) ∙ sym (ap (λ (j : Instr). at_site (is_call j) fact) e) }
   forgot_by (Svc imm) e h =
-      let w = subst (λ (j : Instr). after_of (code x f m).prologue false (address_of (flow_graph_of x.image f) p) j fact ≡ Ok left) e (pads.leaves x is f m start of p fact state i at site site_is).is_after in
+      let w = subst (λ (j : Instr). after_of (code x f m).prologue ((code x f m).lowers p) (address_of (flow_graph_of x.image f) p) j fact ≡ Ok left) e (pads.leaves x is f m start of p fact state i at site site_is).is_after in
       record { names = gate_changes; same = sym (same_ok (clobbered gate_changes fact) left w) ∙ sym (ap (λ (j : Instr). clobbered gate_changes (at_site (is_call j) fact)) e) }
   forgot_by j e h = absurd (none-some site h)
 

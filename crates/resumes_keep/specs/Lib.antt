@@ -18,6 +18,8 @@ pub use Rattle.throws_keep.specs.guest_gates
 pub use Rattle.throws_keep.specs.thumb_core
 pub use Rattle.throws_keep.specs.eh_bus
 pub use Rattle.throws_keep.specs.thumb_isa
+pub use Rattle.throws_keep.specs.accepted_code
+pub use Rattle.throws_keep.specs.image_memory
 pub use Rattle.throws_keep.specs.event_runs
 pub use Rattle.throws_keep.specs.stands_for
 pub mod Outside

@@ -10,7 +10,8 @@ use Rattle.prologue_states.specs.two_machines.Activations.{Recorded, reg_in, mem
 use Rattle.prologue_states.specs.eh_cxa.ListCalls.{innermost_in}
 use Rattle.prologue_states.specs.thumb_isa.declared.instr.Instr.{Instr}
 use Rattle.prologue_states.specs.thumb_core.Outcome.{Outcome as Stepping}
-use Rattle.prologue_states.specs.thumb_core.Step.{step_of, instr_at}
+use Rattle.prologue_states.specs.image_memory.Profiles.{profile_of}
+use Rattle.prologue_states.specs.thumb_core.Step.{step_for, instr_for}
 use Rattle.prologue_states.proofs.thumb_core.Follows.{step_follows}
 use Rattle.prologue_states.specs.thumb_core.declared.regs.Stepped.TheVariants.{Done}
 use Rattle.prologue_states.specs.thumb_core.declared.ends.End.{End}
@@ -58,25 +59,25 @@ module _ (x : Accepted) (is : IsProgram x) (s : Recorded) (k : Keeps x s) (at : 
   pub fetch : IsFetched x.image at.function s.segments is.image at.of.among k.image i size s.regs (memory_of s)
   fetch = fetched x.image at.function s.segments is.image at.of.among k.image at.place i size s.regs (memory_of s) refl at.address stands
 
-  module _ (regs : Regs) (stepped : step_of s.regs (memory_of s) ≡ (Done, regs, memory_of s)) where
+  module _ (regs : Regs) (stepped : step_for (profile_of x.image) s.regs (memory_of s) ≡ (Done, regs, memory_of s)) where
     pub simple_sound : AreSound regs.r regs.pc
-    simple_sound = subst (λ (o : Stepping). AreSound o.1.r o.1.pc) stepped ((step_follows s.regs (memory_of s)).sound k.sound)
+    simple_sound = subst (λ (o : Stepping). AreSound o.1.r o.1.pc) stepped ((step_follows (profile_of x.image) s.regs (memory_of s)).sound k.sound)
 
     module _ (sp : slice_index regs.r SP ≡ reg_in s SP) (pushes : pushed i ≡ [])
         (first : control_flow_trap (program_of x) (branches i s.regs) s.regs.pc Done regs ≡ None → StandsFirst x (record s { regs = regs })) (input : List ℕ) where
       tested : (o : Option End) → acts.tests (program_of x) s Done regs ≡ o → OnEvent x (acts.onward (program_of x) s (acts.tested (program_of x) s Done regs (memory_of s) o) input)
       tested (Some end) e = k
       tested None e =
-          let none : pushes_some (instr_at (memory_of s) s.regs.pc) ≡ 0 = ap pushes_some fetch.stands ∙ ap length pushes in
+          let none : pushes_some (instr_for (profile_of x.image) (memory_of s) s.regs.pc) ≡ 0 = ap pushes_some fetch.stands ∙ ap length pushes in
           let t : Recorded = record s { regs = regs } in
-          let edge : control_flow_trap (program_of x) (branches_some (instr_at (memory_of s) s.regs.pc) s.regs) s.regs.pc Done regs ≡ None =
-          none_or (sp_end (innermost_in (cleanups_in s.cleanups)) s.home.0 s.regs.pc (reg_in s SP) (slice_index regs.r SP)) _ e in
+          let edge : control_flow_trap (program_of x) (branches_some (instr_for (profile_of x.image) (memory_of s) s.regs.pc) s.regs) s.regs.pc Done regs ≡ None =
+          none_or (sp_end (look x.roles s.regs.pc).lowers (innermost_in (cleanups_in s.cleanups)) s.home.0 s.regs.pc (reg_in s SP) (slice_index regs.r SP)) _ e in
           let edge_i : control_flow_trap (program_of x) (branches i s.regs) s.regs.pc Done regs ≡ None =
           subst (λ (o : Option (Instr × ℕ)). control_flow_trap (program_of x) (branches_some o s.regs) s.regs.pc Done regs ≡ None) fetch.stands edge in
-          subst (Keeps x) (sym (reguarded_at_one_sp (look x.roles s.regs.pc).saves (pushes_some (instr_at (memory_of s) s.regs.pc)) (reg_in s SP) (slice_index regs.r SP) t none sp))
+          subst (Keeps x) (sym (reguarded_at_one_sp (look x.roles s.regs.pc).saves (pushes_some (instr_for (profile_of x.image) (memory_of s) s.regs.pc)) (reg_in s SP) (slice_index regs.r SP) t none sp))
           (with_regs x s k regs simple_sound sp (first edge_i))
 
-      checked : OnEvent x (acts.onward (program_of x) s (acts.stepped (program_of x) s (step_of s.regs (memory_of s))) input)
+      checked : OnEvent x (acts.onward (program_of x) s (acts.stepped (program_of x) s (step_for (profile_of x.image) s.regs (memory_of s))) input)
       checked = subst (λ (o : Stepping). OnEvent x (acts.onward (program_of x) s (acts.stepped (program_of x) s o) input)) (sym stepped) (tested (acts.tests (program_of x) s Done regs) refl)
 
       event : (look x.roles s.regs.pc).is_instr ≡ true → OnEvent x (acts.recorded_event (program_of x) s input)
@@ -86,6 +87,6 @@ module _ (x : Accepted) (is : IsProgram x) (s : Recorded) (k : Keeps x s) (at : 
       -- it does the same in both machines, and keeps
       pub simple_turns : (look x.roles s.regs.pc).is_instr ≡ true → Turns x s input
       simple_turns reached = record {
-        same = plain_match (program_of x) s input (knows s k.corresponds) (subst (λ (o : Stepping). IsPlain s o.0) (sym stepped) tt);
+        same = plain_match (program_of x) s input (knows s k.corresponds) (subst (λ (o : Stepping). IsPlain (program_of x) s o.0) (sym stepped) tt);
         keeps = event reached;
       }

@@ -1,7 +1,8 @@
 -- An event that traps leaves the state.
 use Rattle.std.proofs.Common.{◌≡◌, ℕ, Bool, true, false, List, Option, None, sym, subst}
 use Rattle.prologue_states.specs.thumb_core.Outcome.{Outcome as Stepping}
-use Rattle.prologue_states.specs.thumb_core.Step.{step_of}
+use Rattle.prologue_states.specs.image_memory.Profiles.{profile_of}
+use Rattle.prologue_states.specs.thumb_core.Step.{step_for}
 use Rattle.prologue_states.specs.thumb_core.declared.regs.Regs.{Regs}
 use Rattle.prologue_states.specs.thumb_core.declared.regs.Stepped.TheVariants.{Trap}
 use Rattle.prologue_states.specs.eh_bus.Memory.{Memory}
@@ -17,11 +18,11 @@ use Rattle.prologue_states.specs.two_machines.ActivationMachine as acts
 use Rattle.stands_for.specs.Stands.{Keeps, OnEvent, Turns}
 
 -- a trap leaves the state
-pub trap_turns : (x : Accepted) (s : Recorded) (input : List ℕ) (what : CoreTrap) (regs : Regs) (m : Memory) → Keeps x s → step_of s.regs (memory_of s) ≡ (Trap what, regs, m)
-    → acts.pops_back s ≡ None → Turns x s input
+pub trap_turns : (x : Accepted) (s : Recorded) (input : List ℕ) (what : CoreTrap) (regs : Regs) (m : Memory) → Keeps x s → step_for (profile_of x.image) s.regs (memory_of s) ≡ (Trap what, regs, m)
+    → acts.pops_back (program_of x) s ≡ None → Turns x s input
 unfolding acts.recorded_event acts.passed
 trap_turns x s input what after m k stepped none = record {
-  same = plain_match (program_of x) s input (knows s k.corresponds) (subst (λ (o : Stepping). IsPlain s o.0) (sym stepped) none);
+  same = plain_match (program_of x) s input (knows s k.corresponds) (subst (λ (o : Stepping). IsPlain (program_of x) s o.0) (sym stepped) none);
   keeps = by_look (look x.roles s.regs.pc).is_instr;
 }
   where

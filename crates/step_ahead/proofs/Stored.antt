@@ -9,7 +9,8 @@ use Rattle.thumb_isa.specs.declared.instr.Instr.{Instr}
 use Rattle.thumb_isa.specs.declared.instr.Instr.TheVariants.{LdrLit, MemReg, MemImm, MemSp, Push, Pop, Stm, Ldm}
 use Rattle.thumb_isa.specs.declared.instr.Decoded.{Decoded}
 use Rattle.thumb_isa.specs.declared.instr.Decoded.TheVariants.{Is, Undefined, Unpredictable, NotInProfile}
-use Rattle.thumb_isa.specs.Rows.{decoded_of}
+use Rattle.thumb_isa.specs.declared.profile.Profile.{Profile}
+use Rattle.thumb_isa.specs.Rows.{decoded_for}
 use Rattle.thumb_core.specs.declared.regs.TheConstants.{SP, PC}
 use Rattle.thumb_core.specs.declared.regs.Regs.{Regs}
 use Rattle.thumb_core.specs.declared.regs.CoreTrap.{CoreTrap}
@@ -27,7 +28,7 @@ use Rattle.thumb_core.specs.Outcome.{Outcome, with_memory}
 use Rattle.thumb_core.specs.Access.{store_end, loaded, store_reg, mem_reg, mem_imm, mem_sp}
 use Rattle.thumb_core.specs.Branch.{register_effect}
 use Rattle.thumb_core.specs.Lists.{words_of, bytes_of, load_list, ldm_end, pop_to, pop_end}
-use Rattle.thumb_core.specs.Step.{effect, outcome_of, with_second, with_first, step_of, instr_of, instr_of_second, instr_of_first, instr_at}
+use Rattle.thumb_core.specs.Step.{effect, outcome_of, with_second, with_first, step_for, instr_of, instr_of_second, instr_of_first, instr_for}
 use Rattle.thumb_core.specs.Stores.{Span, span, stores_of, stores_of_some}
 use Rattle.step_ahead.specs.declared.undo_record.UndoRecord.{UndoRecord}
 use Rattle.step_ahead.specs.declared.undo_record.UndoRecord.TheVariants.{Nothing, Byte, Half}
@@ -209,7 +210,7 @@ effect_did i size regs m small = same_did (register_effect i size regs) m
 -- ---- at the instruction that stands at pc
 
 -- what holds of every effect of an instruction and of every trap holds of a step
-module _ (P : Option (Instr × ℕ) → Outcome → Type 0) (regs : Regs) (m : Memory)
+module _ (P : Option (Instr × ℕ) → Outcome → Type 0) (p : Profile) (regs : Regs) (m : Memory)
     (acts : (i : Instr) (size : ℕ) → P (Some (i, size)) (effect i size regs m)) (traps : (trap : CoreTrap) → P None (Trap trap, regs, m)) where
   outcome_at : (d : Decoded) (first : ℕ) → P (instr_of d) (outcome_of d first regs m)
   outcome_at (Is i size) first = acts i size
@@ -217,26 +218,26 @@ module _ (P : Option (Instr × ℕ) → Outcome → Type 0) (regs : Regs) (m : M
   outcome_at Unpredictable first = traps _
   outcome_at NotInProfile first = traps _
 
-  second_at : (half : Result ℕ BusFault) (first : ℕ) → P (instr_of_second half first) (with_second half first regs m)
-  second_at (Ok second) first = outcome_at (decoded_of first second) first
+  second_at : (half : Result ℕ BusFault) (first : ℕ) → P (instr_of_second p half first) (with_second p half first regs m)
+  second_at (Ok second) first = outcome_at (decoded_for p first second) first
   second_at (Err fault) first = traps _
 
-  first_at : (half : Result ℕ BusFault) → P (instr_of_first half m regs.pc) (with_first half regs m)
+  first_at : (half : Result ℕ BusFault) → P (instr_of_first p half m regs.pc) (with_first p half regs m)
   first_at (Ok first) =
-      both P (nat_le 0xe800 first) _ _ _ _ (second_at (fetch m ((regs.pc + 2) % 2 ^ 32)) first) (outcome_at (decoded_of first 0) first)
+      both P (nat_le 0xe800 first) _ _ _ _ (second_at (fetch m ((regs.pc + 2) % 2 ^ 32)) first) (outcome_at (decoded_for p first 0) first)
   first_at (Err fault) = traps _
 
-  pub step_at : P (instr_at m regs.pc) (step_of regs m)
+  pub step_at : P (instr_for p m regs.pc) (step_for p regs m)
   step_at = first_at (fetch m regs.pc)
 
 -- the step of the instruction that stands at pc is its effect
-pub step_is : (regs : Regs) (m : Memory) (i : Instr) (size : ℕ) → instr_at m regs.pc ≡ Some (i, size) → step_of regs m ≡ effect i size regs m
-step_is regs m i size e =
-    step_at (λ (at : Option (Instr × ℕ)) (o : Outcome). at ≡ Some (i, size) → o ≡ effect i size regs m) regs m
+pub step_is : (p : Profile) (regs : Regs) (m : Memory) (i : Instr) (size : ℕ) → instr_for p m regs.pc ≡ Some (i, size) → step_for p regs m ≡ effect i size regs m
+step_is p regs m i size e =
+    step_at (λ (at : Option (Instr × ℕ)) (o : Outcome). at ≡ Some (i, size) → o ≡ effect i size regs m) p regs m
     (λ j n f. ap (λ (at : Option (Instr × ℕ)). effect (unwrap_or at (i, size)).0 (unwrap_or at (i, size)).1 regs m) f) (λ trap f. absurd (cc)) e
 
-pub step_did : (regs : Regs) (m : Memory) → AreWords regs → Did (stores_of_some (instr_at m regs.pc) regs) m (step_of regs m)
-step_did regs m small = step_at (λ at o. Did (stores_of_some at regs) m o) regs m (λ i size. effect_did i size regs m small) (λ trap. tt)
+pub step_did : (p : Profile) (regs : Regs) (m : Memory) → AreWords regs → Did (stores_of_some (instr_for p m regs.pc) regs) m (step_for p regs m)
+step_did p regs m small = step_at (λ at o. Did (stores_of_some at regs) m o) p regs m (λ i size. effect_did i size regs m small) (λ trap. tt)
 
 -- a step that is done
 pub done_stored : (stores : Option Span) (m new : Memory) (after : Regs) (o : Outcome) → o ≡ (Done, after, new) → Did stores m o → Stored stores m new
@@ -279,15 +280,15 @@ wrote_back s m new undo_record x (wrote_half v size e) k = half_back m new s.sta
 wrote_back s m new undo_record x (wrote_words ws size few low e) k = words_back m new s.start ws undo_record x low few e (subst (λ n. Records m s.start n undo_record) size k)
 
 -- of an instruction that stores to these bytes, if there are any
-pub restored : (undo_record : UndoRecord) (regs : Regs) (m : Memory) (start size : ℕ) → IsMap m → AreWords regs
-    → stores_of_some (instr_at m regs.pc) regs ≡ Some (record { start = start; size = size }) → Records m start size undo_record → Restores undo_record regs m
-restored undo_record regs m start size x small e k after new done =
-    let d = done_stored (stores_of_some (instr_at m regs.pc) regs) m new after (step_of regs m) done (step_did regs m small) in
+pub restored : (p : Profile) (undo_record : UndoRecord) (regs : Regs) (m : Memory) (start size : ℕ) → IsMap m → AreWords regs
+    → stores_of_some (instr_for p m regs.pc) regs ≡ Some (record { start = start; size = size }) → Records m start size undo_record → Restores p undo_record regs m
+restored p undo_record regs m start size x small e k after new done =
+    let d = done_stored (stores_of_some (instr_for p m regs.pc) regs) m new after (step_for p regs m) done (step_did p regs m small) in
     wrote_back (record { start = start; size = size }) m new undo_record x (subst (λ (o : Option Span). Stored o m new) e d) k
 
-pub nothing_back : (regs : Regs) (m : Memory) → AreWords regs → stores_of_some (instr_at m regs.pc) regs ≡ None → Restores Nothing regs m
-nothing_back regs m small e after new done =
-    let d = done_stored (stores_of_some (instr_at m regs.pc) regs) m new after (step_of regs m) done (step_did regs m small) in
+pub nothing_back : (p : Profile) (regs : Regs) (m : Memory) → AreWords regs → stores_of_some (instr_for p m regs.pc) regs ≡ None → Restores p Nothing regs m
+nothing_back p regs m small e after new done =
+    let d = done_stored (stores_of_some (instr_for p m regs.pc) regs) m new after (step_for p regs m) done (step_did p regs m small) in
     subst (λ (o : Option Span). Stored o m new) e d
 
 -- ---- a push
@@ -336,10 +337,10 @@ push_done (Ok u, new) size n regs after f = f refl
 push_done (Err fault, new) size n regs after f = tt
 
 -- an outcome pushed words of the stack, unless it is a trap, if it pushes any
-abbrev Pushed : Option (Instr × ℕ) → Outcome → Type 0
+abbrev pub Pushed : Option (Instr × ℕ) → Outcome → Type 0
 Pushed at o = 0 < pushes_some at → OnGo o.0 (InStack (pushes_some at) o.1)
 
-effect_pushed : (i : Instr) (size : ℕ) (regs : Regs) (m : Memory) → IsMap m → length regs.r ≡ 15 → Pushed (Some (i, size)) (effect i size regs m)
+pub effect_pushed : (i : Instr) (size : ℕ) (regs : Regs) (m : Memory) → IsMap m → length regs.r ≡ 15 → Pushed (Some (i, size)) (effect i size regs m)
 effect_pushed (Push list) size regs m x count some =
     let a = (reg regs SP + (2 ^ 32 - bytes_of list)) % 2 ^ 32 in
     let answer = store_run m a (words_of list regs) in
@@ -347,11 +348,11 @@ effect_pushed (Push list) size regs m x count some =
     (λ done. pushed_words m answer.1 a size (length (listed list)) (words_of list regs) regs x count (low_sum (reg regs SP) (2 ^ 32 - bytes_of list)) (words_count regs.r (listed list)) some (whole answer done))
 effect_pushed i size regs m x count some = none_pushed _ some
 
-pub step_pushed : (regs : Regs) (m : Memory) → IsMap m → length regs.r ≡ 15 → PushesInStack (pushes_some (instr_at m regs.pc)) regs m
-step_pushed regs m x count what after new done h some =
-    let n = pushes_some (instr_at m regs.pc) in
-    let p = step_at (λ at o. Pushed at o) regs m (λ i size. effect_pushed i size regs m x count) (λ trap h. tt) in
-    on_go what (InStack n after) h (subst (λ (o : Outcome). OnGo o.0 (InStack n o.1)) done (p some))
+pub step_pushed : (p : Profile) (regs : Regs) (m : Memory) → IsMap m → length regs.r ≡ 15 → PushesInStack p (pushes_some (instr_for p m regs.pc)) regs m
+step_pushed p regs m x count what after new done h some =
+    let n = pushes_some (instr_for p m regs.pc) in
+    let pushed = step_at (λ at o. Pushed at o) p regs m (λ i size. effect_pushed i size regs m x count) (λ trap h. tt) in
+    on_go what (InStack n after) h (subst (λ (o : Outcome). OnGo o.0 (InStack n o.1)) done (pushed some))
 
 -- ---- the words of a loop
 
@@ -425,10 +426,11 @@ records_none m at size one two many = record {
 
 -- ---- of the instruction that was found at pc
 
-pub back_from : (undo_record : UndoRecord) (regs : Regs) (m : Memory) (i : Instr) (n start size : ℕ) → IsMap m → AreWords regs → Some (i, n) ≡ instr_at m regs.pc
-    → spanned (Some (start, size)) ≡ stores_of i regs → Records m start size undo_record → Restores undo_record regs m
-back_from undo_record regs m i n start size x small at e k =
-    restored undo_record regs m start size x small (ap (λ (o : Option (Instr × ℕ)). stores_of_some o regs) (sym at) ∙ sym e) k
+pub back_from : (p : Profile) (undo_record : UndoRecord) (regs : Regs) (m : Memory) (i : Instr) (n start size : ℕ) → IsMap m → AreWords regs → Some (i, n) ≡ instr_for p m regs.pc
+    → spanned (Some (start, size)) ≡ stores_of i regs → Records m start size undo_record → Restores p undo_record regs m
+back_from p undo_record regs m i n start size x small at e k =
+    restored p undo_record regs m start size x small (ap (λ (o : Option (Instr × ℕ)). stores_of_some o regs) (sym at) ∙ sym e) k
 
-pub back_of_none : (regs : Regs) (m : Memory) (i : Instr) (n : ℕ) → AreWords regs → Some (i, n) ≡ instr_at m regs.pc → spanned None ≡ stores_of i regs → Restores Nothing regs m
-back_of_none regs m i n small at e = nothing_back regs m small (ap (λ (o : Option (Instr × ℕ)). stores_of_some o regs) (sym at) ∙ sym e)
+pub back_of_none : (p : Profile) (regs : Regs) (m : Memory) (i : Instr) (n : ℕ) → AreWords regs → Some (i, n) ≡ instr_for p m regs.pc → spanned None ≡ stores_of i regs
+    → Restores p Nothing regs m
+back_of_none p regs m i n small at e = nothing_back p regs m small (ap (λ (o : Option (Instr × ℕ)). stores_of_some o regs) (sym at) ∙ sym e)

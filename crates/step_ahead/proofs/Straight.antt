@@ -6,7 +6,7 @@ use Rattle.eh_bus.specs.Memory.{Memory, load, store, store_run}
 use Rattle.eh_bus.specs.declared.fault.BusFault.{BusFault}
 use Rattle.thumb_isa.specs.Range.{InRange}
 use Rattle.thumb_isa.specs.declared.instr.Instr.{Instr}
-use Rattle.thumb_isa.specs.declared.instr.Instr.TheVariants.{ShiftImm, AddSubReg, AddSubImm3, Imm8, Alu, AddHigh, CmpHigh, MovHigh, LdrLit, MemReg, MemImm, MemSp, Adr, AddRdSp, Extend, Rev, Push, Hint, Stm, BCond, Barrier}
+use Rattle.thumb_isa.specs.declared.instr.Instr.TheVariants.{ShiftImm, AddSubReg, AddSubImm3, Imm8, Alu, AddHigh, CmpHigh, MovHigh, LdrLit, MemReg, MemImm, MemSp, Adr, AddRdSp, Extend, Rev, Push, Hint, Stm, BCond, Barrier, Cbz, MovW, MovT, Div}
 use Rattle.thumb_core.specs.declared.alu.Answer.{Answer}
 use Rattle.thumb_core.specs.declared.regs.TheConstants.{SP, PC}
 use Rattle.thumb_core.specs.declared.regs.Regs.{Regs}
@@ -16,8 +16,8 @@ use Rattle.thumb_core.specs.Registers.{reg, even, put, with_reg, with_pc, with_n
 use Rattle.thumb_core.specs.Arith.{sum_of, difference_of, sum_or_difference}
 use Rattle.thumb_core.specs.Shift.{shift_of}
 use Rattle.thumb_core.specs.Alu.{alu_of, alu, with_answer}
-use Rattle.thumb_core.specs.Branch.{passes, branch, write_high}
-use Rattle.thumb_core.specs.Data.{forward, with_value, with_sum, shift_imm, add_sub_reg, add_sub_imm, imm8, cmp_high, adr, add_rd_sp, extension_of, extend, reversal_of, rev}
+use Rattle.thumb_core.specs.Branch.{passes, takes, branch, write_high}
+use Rattle.thumb_core.specs.Data.{forward, with_value, with_sum, shift_imm, add_sub_reg, add_sub_imm, imm8, cmp_high, adr, add_rd_sp, extension_of, extend, reversal_of, rev, mov_wide, mov_top, quotient, divide}
 use Rattle.thumb_core.specs.Words.{listed}
 use Rattle.thumb_core.specs.Outcome.{Outcome, with_memory}
 use Rattle.thumb_core.specs.Access.{store_end, loaded, store_reg, mem_reg, mem_imm, mem_sp}
@@ -179,4 +179,10 @@ effect_goes (Rev op d k) size regs m fall_through taken range count small room =
 effect_goes (Hint n) size regs m fall_through taken range count small room = next_goes size regs regs m refl refl
 effect_goes (Barrier op option) size regs m fall_through taken range count small room = next_goes size regs regs m refl refl
 effect_goes (BCond c off) size regs m fall_through taken range count small room = branch_goes (passes c regs) off size regs m taken
+effect_goes (Cbz nonzero n off) size regs m fall_through taken range count small room = branch_goes (takes nonzero (reg regs n)) off size regs m taken
+effect_goes (MovW d imm) size regs m fall_through taken range count small room = put_goes d imm size regs (mov_wide d imm regs) m (range.0.1) refl refl
+effect_goes (MovT d imm) size regs m fall_through taken range count small room =
+    put_goes d (imm * 2 ^ 16 + reg regs d % 2 ^ 16) size regs (mov_top d imm regs) m (range.0.1) refl refl
+effect_goes (Div signed d n k) size regs m fall_through taken range count small room =
+    put_goes d (quotient signed (reg regs n) (reg regs k)) size regs (divide signed d n k regs) m (range.0.1) refl refl
 effect_goes i size regs m fall_through taken range count small room = absurd (cc)

@@ -3,8 +3,9 @@
 use Rattle.std.specs.Prelude.{◌≡◌, ◌≤◌, ℕ, ◌==◌, Bool, true, false, not, List, [], length, Option, Some, None}
 use Rattle.eh_bus.specs.Memory.{Memory}
 use Rattle.thumb_isa.specs.declared.instr.Instr.{Instr}
-use Rattle.thumb_isa.specs.declared.instr.Instr.TheVariants.{ShiftImm, AddSubReg, AddSubImm3, Imm8, Alu, AddHigh, CmpHigh, MovHigh, Bx, Blx, LdrLit, MemReg, MemImm, MemSp, Adr, AddRdSp, AddSp, SubSp, Extend, Rev, Push, Pop, Hint, Stm, Ldm, BCond, Svc, B, Bl, Barrier}
-use Rattle.thumb_core.specs.Branch.{passes}
+use Rattle.thumb_isa.specs.declared.instr.Instr.TheVariants.{ShiftImm, AddSubReg, AddSubImm3, Imm8, Alu, AddHigh, CmpHigh, MovHigh, Bx, Blx, LdrLit, MemReg, MemImm, MemSp, Adr, AddRdSp, AddSp, SubSp, Extend, Rev, Push, Pop, Hint, Stm, Ldm, BCond, Svc, B, Bl, Barrier, Cbz, BWide, MovW, MovT, Div}
+use Rattle.thumb_core.specs.Registers.{reg}
+use Rattle.thumb_core.specs.Branch.{passes, takes}
 use Rattle.thumb_core.specs.Words.{listed}
 use Rattle.thumb_core.specs.declared.regs.TheConstants.{SP, PC}
 use Rattle.thumb_core.specs.declared.regs.Regs.{Regs}
@@ -14,10 +15,12 @@ use Rattle.thumb_core.specs.Stores.{stores_of}
 use Rattle.step_ahead.specs.declared.instruction.Ahead.{Ahead as Told}
 use Rattle.step_ahead.specs.declared.instruction.Ahead.TheVariants.{FallThrough, Pushes, Jumps, Other}
 
--- a branch that is taken: B, a B whose condition passes, and an ADD or a MOV into pc. Calls and returns are told by what a step answers
+-- a branch that is taken: B, a B whose condition passes, CBZ and CBNZ where they take it, and an ADD or a MOV into pc. Calls and returns are told by what a step answers
 abbrev pub branches : Instr → Regs → Bool
 branches (B off) regs = true
 branches (BCond cond off) regs = passes cond regs
+branches (Cbz nonzero n off) regs = takes nonzero (reg regs n)
+branches (BWide off) regs = true
 branches (AddHigh d m) regs = d == PC
 branches (MovHigh d m) regs = d == PC
 branches (ShiftImm op d m n) regs = false
@@ -46,6 +49,9 @@ branches (Ldm n list) regs = false
 branches (Svc imm) regs = false
 branches (Bl off) regs = false
 branches (Barrier op option) regs = false
+branches (MovW d imm) regs = false
+branches (MovT d imm) regs = false
+branches (Div signed d n m) regs = false
 
 -- the registers that a push stores, of any other instruction none
 abbrev pub pushed : Instr → List ℕ
@@ -79,6 +85,11 @@ pushed (Ldm n list) = []
 pushed (Svc imm) = []
 pushed (Bl off) = []
 pushed (Barrier op option) = []
+pushed (Cbz nonzero n off) = []
+pushed (BWide off) = []
+pushed (MovW d imm) = []
+pushed (MovT d imm) = []
+pushed (Div signed d n m) = []
 
 -- the same of the instruction that stands somewhere; nothing of none
 abbrev pub branches_some : Option (Instr × ℕ) → Regs → Bool
@@ -113,7 +124,12 @@ is_fall_through (Hint n) = true
 is_fall_through (Stm n list) = true
 is_fall_through (BCond cond off) = true
 is_fall_through (Barrier op option) = true
+is_fall_through (Cbz nonzero n off) = true
+is_fall_through (MovW d imm) = true
+is_fall_through (MovT d imm) = true
+is_fall_through (Div signed d n m) = true
 is_fall_through (B off) = false
+is_fall_through (BWide off) = false
 is_fall_through (Bx m) = false
 is_fall_through (Blx m) = false
 is_fall_through (AddSp off) = false

@@ -3,7 +3,8 @@ use Rattle.std.specs.Prelude.{◌≡◌, ℕ, ◌+◌, ◌-◌, ◌*◌, ◌%◌
 use Rattle.eh_bus.specs.Memory.{Memory, load, store, store_run}
 use Rattle.eh_bus.specs.declared.map.TheConstants.{STACK_END}
 use Rattle.thumb_core.specs.Registers.{reg}
-use Rattle.thumb_core.specs.Step.{step_of}
+use Rattle.thumb_isa.specs.declared.profile.Profile.{Profile}
+use Rattle.thumb_core.specs.Step.{step_for}
 use Rattle.thumb_core.specs.Stores.{Span}
 use Rattle.thumb_core.specs.declared.regs.TheConstants.{SP}
 use Rattle.thumb_core.specs.declared.regs.Regs.{Regs}
@@ -22,17 +23,17 @@ restore (Half at value) m = (store 2 m at value).1
 restore (Words at words count) m = (store_run m at (take (min count MOST) words)).1
 
 -- wherever the instruction at pc is done, putting back gives the memory before it
-abbrev pub Restores : UndoRecord → Regs → Memory → Type 0
-Restores undo_record regs m = (after : Regs) (new : Memory) → step_of regs m ≡ (Done, after, new) → restore undo_record new ≡ m
+abbrev pub Restores : Profile → UndoRecord → Regs → Memory → Type 0
+Restores p undo_record regs m = (after : Regs) (new : Memory) → step_for p regs m ≡ (Done, after, new) → restore undo_record new ≡ m
 
 -- the words that it pushes, unless it traps, are words of the stack from the new sp on
 pub record InStack (count : ℕ) (after : Regs) : Type 0 where
   pub aligned : reg after SP % 4 ≡ 0
   pub high : reg after SP + 4 * count ≤ STACK_END
 
-abbrev pub PushesInStack : ℕ → Regs → Memory → Type 0
-PushesInStack count regs m =
-    (what : Stepped) (after : Regs) (new : Memory) → step_of regs m ≡ (what, after, new) → ((trap : CoreTrap) → what ≡ Trap trap → ⊥) → 0 < count → InStack count after
+abbrev pub PushesInStack : Profile → ℕ → Regs → Memory → Type 0
+PushesInStack p count regs m =
+    (what : Stepped) (after : Regs) (new : Memory) → step_for p regs m ≡ (what, after, new) → ((trap : CoreTrap) → what ≡ Trap trap → ⊥) → 0 < count → InStack count after
 
 -- below sp by n words, rounded down to a word: no push of n words leaves sp lower, where there is room for them
 abbrev pub lowest : ℕ → ℕ → ℕ

@@ -4,8 +4,8 @@ ghost use Rattle.thumb_core.specs.Branch.{target_of};
 ghost use Rattle.thumb_core.specs.Registers.{even};
 ghost use Rattle.step_ahead.specs.Ahead.{IsAhead};
 
-use crate::span::count_of;
-use thumb_core::branch::passes;
+use crate::span::{count_of, reg};
+use thumb_core::branch::{passes, takes};
 use thumb_core::regs::{PC, Regs, SP};
 use thumb_isa::instr::Instr;
 
@@ -52,8 +52,20 @@ pub fn look_ahead(i: Instr, regs: &Regs) -> Ahead
         Instr::B { off } => Ahead::Jumps {
             to: target_of(off, regs),
         },
+        Instr::BWide { off } => Ahead::Jumps {
+            to: target_of(off, regs),
+        },
         Instr::BCond { cond, off } => {
             if passes(cond, regs) {
+                Ahead::Jumps {
+                    to: target_of(off, regs),
+                }
+            } else {
+                Ahead::FallThrough
+            }
+        }
+        Instr::Cbz { nonzero, n, off } => {
+            if takes(nonzero, reg(regs, n)) {
                 Ahead::Jumps {
                     to: target_of(off, regs),
                 }
@@ -91,6 +103,9 @@ pub fn look_ahead(i: Instr, regs: &Regs) -> Ahead
         | Instr::Extend { .. }
         | Instr::Rev { .. }
         | Instr::Hint { .. }
-        | Instr::Barrier { .. } => Ahead::FallThrough,
+        | Instr::Barrier { .. }
+        | Instr::MovW { .. }
+        | Instr::MovT { .. }
+        | Instr::Div { .. } => Ahead::FallThrough,
     }
 }

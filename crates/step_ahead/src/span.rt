@@ -19,7 +19,7 @@ pub(crate) fn count_of(list: u16) -> u32
 }
 
 /// One of the registers r0 to r14.
-fn reg(regs: &Regs, k: u8) -> u32
+pub(crate) fn reg(regs: &Regs, k: u8) -> u32
     ensures { result ≡ reg regs.now k }
 {
     match regs.r.get(k as usize) {

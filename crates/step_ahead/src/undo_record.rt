@@ -1,6 +1,7 @@
 //! What stands where an instruction may store, kept before it and put back (docs/machine.md, "An event").
 ghost use Rattle.std.specs.Prelude.{◌≡◌, ◌+◌, ◌*◌, ◌^◌, ◌<◌, ◌≤◌, Some};
-ghost use Rattle.thumb_core.specs.Step.{instr_at};
+ghost use Rattle.thumb_core.specs.Step.{instr_for};
+ghost use Rattle.thumb_isa.specs.declared.profile.Profile.{Profile};
 ghost use Rattle.step_ahead.specs.UndoRecord.{restore, Restores, CanLoad, HoldsWords, Records};
 
 use crate::span::span_of;
@@ -68,11 +69,10 @@ fn record_at<B: Bus>(bus: &B, at: u32, size: u32) -> UndoRecord
     }
 }
 
-/// Keeps what stands where the instruction at pc may store. Wherever it is then done, putting that back gives the memory before it. Takes no
-/// memory, and a constant time.
+/// Keeps what stands where an instruction may store. Where it is the one at pc by the rows of some profile, and is then done, putting that back
+/// gives the memory before it. Takes no memory, and a constant time.
 pub fn undo_record_of<B: Bus>(i: Instr, size: u32, regs: &Regs, bus: &B) -> UndoRecord
-    requires { instr_at (B.memory bus.now) regs.now.pc ≡ Some (i, size) }
-    ensures { Restores result regs.now (B.memory bus.now) }
+    ensures { (p : Profile) → instr_for p (B.memory bus.now) regs.now.pc ≡ Some (i, size) → Restores p result regs.now (B.memory bus.now) }
 {
     are_words(&regs.r);
     match span_of(i, regs) {

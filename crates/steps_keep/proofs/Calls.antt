@@ -17,7 +17,8 @@ use Rattle.stands_for.specs.thumb_core.Branch.{link_of, target_of, call_to}
 use Rattle.stands_for.specs.thumb_core.Laws.{AreSound}
 use Rattle.stands_for.specs.thumb_core.Outcome.{Outcome as Stepping, with_memory}
 use Rattle.stands_for.specs.thumb_core.Registers.{reg, with_pc, with_reg, even, operand}
-use Rattle.stands_for.specs.thumb_core.Step.{step_of, instr_at}
+use Rattle.stands_for.specs.image_memory.Profiles.{profile_of}
+use Rattle.stands_for.specs.thumb_core.Step.{step_for, instr_for}
 use Rattle.stands_for.proofs.thumb_core.Follows.{step_follows}
 use Rattle.stands_for.specs.thumb_core.declared.regs.TheConstants.{SP, LR}
 use Rattle.stands_for.specs.thumb_core.declared.regs.Regs.{Regs}
@@ -88,7 +89,7 @@ module _ (x : Accepted) (is : IsProgram x) (s : Recorded) (k : Keeps x s) (at : 
   abbrev regs : Regs
   regs = with_pc (with_reg s.regs LR (link_of size s.regs)) v
 
-  module _ (stepped : step_of s.regs (memory_of s) ≡ (Call target (link_of size s.regs), regs, memory_of s)) where
+  module _ (stepped : step_for (profile_of x.image) s.regs (memory_of s) ≡ (Call target (link_of size s.regs), regs, memory_of s)) where
     abbrev base : Recorded
     base = record s { regs = regs }
 
@@ -99,7 +100,7 @@ module _ (x : Accepted) (is : IsProgram x) (s : Recorded) (k : Keeps x s) (at : 
     c = t.first.caller
 
     sound : AreSound regs.r regs.pc
-    sound = subst (λ (o : Stepping). AreSound o.1.r o.1.pc) stepped ((step_follows s.regs (memory_of s)).sound k.sound)
+    sound = subst (λ (o : Stepping). AreSound o.1.r o.1.pc) stepped ((step_follows (profile_of x.image) s.regs (memory_of s)).sound k.sound)
 
     placed : IsPlaced at.function
     placed = subst IsPlaced at.of.among.2 (placed_at x.image at.of.among.0 at.function is.image at.of.among.1)
@@ -231,17 +232,17 @@ module _ (x : Accepted) (is : IsProgram x) (s : Recorded) (k : Keeps x s) (at : 
           → OnEvent x (acts.onward (program_of x) s (acts.tested (program_of x) s (Call target (link_of size s.regs)) regs (memory_of s) o) input)
       tested (Some end) e = k
       tested None e =
-          let none_pushed : pushes_some (instr_at (memory_of s) s.regs.pc) ≡ 0 = ap pushes_some (fetch x is s k at i size stands).stands ∙ ap length pushes in
+          let none_pushed : pushes_some (instr_for (profile_of x.image) (memory_of s) s.regs.pc) ≡ 0 = ap pushes_some (fetch x is s k at i size stands).stands ∙ ap length pushes in
           let same_sp : acts.reguarded_at (program_of x) s regs base ≡ base =
-          reguarded_at_one_sp (look x.roles s.regs.pc).saves (pushes_some (instr_at (memory_of s) s.regs.pc)) (reg_in s SP) (slice_index regs.r SP) base none_pushed sp in
-          let edge = none_or (sp_end (innermost_in (cleanups_in s.cleanups)) s.home.0 s.regs.pc (reg_in s SP) (slice_index regs.r SP)) _ e in
+          reguarded_at_one_sp (look x.roles s.regs.pc).saves (pushes_some (instr_for (profile_of x.image) (memory_of s) s.regs.pc)) (reg_in s SP) (slice_index regs.r SP) base none_pushed sp in
+          let edge = none_or (sp_end (look x.roles s.regs.pc).lowers (innermost_in (cleanups_in s.cleanups)) s.home.0 s.regs.pc (reg_in s SP) (slice_index regs.r SP)) _ e in
           subst (Keeps x) (sym (ap (acts.called target (link_of size s.regs)) same_sp)) (called_keeps (go (begins_function x.image.functions target) edge))
         where
           go : (b : Bool) → cond b None (Some (the_end.Trap kind.BadCallTarget target s.regs.pc)) ≡ None → b ≡ true
           go true h = refl
           go false h = absurd cc
 
-      checked : OnEvent x (acts.onward (program_of x) s (acts.stepped (program_of x) s (step_of s.regs (memory_of s))) input)
+      checked : OnEvent x (acts.onward (program_of x) s (acts.stepped (program_of x) s (step_for (profile_of x.image) s.regs (memory_of s))) input)
       checked = subst (λ (o : Stepping). OnEvent x (acts.onward (program_of x) s (acts.stepped (program_of x) s o) input)) (sym stepped)
           (tested (acts.tests (program_of x) s (Call target (link_of size s.regs)) regs) refl)
 
@@ -251,7 +252,7 @@ module _ (x : Accepted) (is : IsProgram x) (s : Recorded) (k : Keeps x s) (at : 
 
       pub call_turns : (look x.roles s.regs.pc).is_instr ≡ true → Turns x s input
       call_turns reached = record {
-        same = plain_match (program_of x) s input (knows s k.corresponds) (subst (λ (o : Stepping). IsPlain s o.0) (sym stepped) tt);
+        same = plain_match (program_of x) s input (knows s k.corresponds) (subst (λ (o : Stepping). IsPlain (program_of x) s o.0) (sym stepped) tt);
         keeps = event reached;
       }
 
@@ -264,10 +265,10 @@ bl_turns x s off input is k does =
 pub blx_turns : (x : Accepted) (s : Recorded) (m : ℕ) (input : List ℕ) → IsProgram x → Keeps x s → DoesAt x s (Blx m) → Turns x s input
 blx_turns x s m input is k does = go (operand s.regs m % 2 == 0) refl
   where
-    step : step_of s.regs (memory_of s) ≡ with_memory (cond (operand s.regs m % 2 == 0) (Trap (EvenTarget (operand s.regs m)), s.regs) (call_to (operand s.regs m) does.size s.regs)) (memory_of s)
+    step : step_for (profile_of x.image) s.regs (memory_of s) ≡ with_memory (cond (operand s.regs m % 2 == 0) (Trap (EvenTarget (operand s.regs m)), s.regs) (call_to (operand s.regs m) does.size s.regs)) (memory_of s)
     step = (fetch x is s k does.at (Blx m) does.size does.stands).step
 
-    by_test : (b : Bool) → (operand s.regs m % 2 == 0) ≡ b → step_of s.regs (memory_of s) ≡ with_memory (cond b (Trap (EvenTarget (operand s.regs m)), s.regs) (call_to (operand s.regs m) does.size s.regs)) (memory_of s)
+    by_test : (b : Bool) → (operand s.regs m % 2 == 0) ≡ b → step_for (profile_of x.image) s.regs (memory_of s) ≡ with_memory (cond b (Trap (EvenTarget (operand s.regs m)), s.regs) (call_to (operand s.regs m) does.size s.regs)) (memory_of s)
     by_test b e = step ∙ ap (λ (u : Bool). with_memory (cond u (Trap (EvenTarget (operand s.regs m)), s.regs) (call_to (operand s.regs m) does.size s.regs)) (memory_of s)) e
 
     go : (b : Bool) → (operand s.regs m % 2 == 0) ≡ b → Turns x s input

@@ -10,12 +10,15 @@ use Rattle.stands_for.specs.two_machines.ActivationLaws.{Matches}
 use Rattle.stands_for.specs.two_machines.Checked.{program_of}
 use Rattle.stands_for.specs.thumb_isa.declared.instr.Decoded.{Decoded}
 use Rattle.stands_for.specs.thumb_isa.declared.instr.Decoded.TheVariants.{Is, Undefined, Unpredictable, NotInProfile}
-use Rattle.stands_for.specs.thumb_isa.Rows.{decoded_of}
+use Rattle.stands_for.specs.thumb_isa.Rows.{decoded_of, late_decoded_of, decoded_for}
+use Rattle.stands_for.specs.thumb_isa.declared.profile.Profile.{Profile}
+use Rattle.stands_for.specs.thumb_isa.declared.profile.Profile.TheVariants.{One, Two}
 use Rattle.stands_for.specs.frame_graph.Places.{is_udf, standing_at, standing_by, halfword_of, of_decoded, wide_of}
 use Rattle.stands_for.specs.eh_bus.Memory.{fetch}
 use Rattle.stands_for.proofs.flow.Work.{contains_head}
 use Rattle.stands_for.specs.thumb_isa.declared.instr.Instr.{Instr}
-use Rattle.stands_for.specs.thumb_core.Step.{step_of, outcome_of, instr_at, instr_of}
+use Rattle.stands_for.specs.image_memory.Profiles.{profile_of}
+use Rattle.stands_for.specs.thumb_core.Step.{step_for, outcome_of, instr_for, instr_of}
 use Rattle.stands_for.specs.thumb_core.declared.regs.Stepped.TheVariants.{Trap}
 use Rattle.stands_for.specs.frame_facts.declared.cause.FrameCause.TheVariants.{Undecodable}
 use Rattle.stands_for.specs.frame_graph.declared.places.Standing.{Standing}
@@ -50,22 +53,23 @@ undefined Undefined = true
 undefined Unpredictable = false
 undefined NotInProfile = false
 
-all_undefined : ℕ → Bool
-all_undefined zero = true
-all_undefined (suc n) = undefined (decoded_of (0xde00 + n) 0) && all_undefined n
+all_undefined : Profile → ℕ → Bool
+all_undefined p zero = true
+all_undefined p (suc n) = undefined (decoded_for p (0xde00 + n) 0) && all_undefined p n
 
-all : all_undefined 256 ≡ true
-unfolding decoded_of all_undefined
-all = refl
+all : (p : Profile) → all_undefined p 256 ≡ true
+unfolding decoded_of late_decoded_of all_undefined
+all One = refl
+all Two = refl
 
-among : (n k : ℕ) → all_undefined n ≡ true → k < n → undefined (decoded_of (0xde00 + k) 0) ≡ true
+among : (p : Profile) (n k : ℕ) → all_undefined p n ≡ true → k < n → undefined (decoded_for p (0xde00 + k) 0) ≡ true
 unfolding all_undefined
-among zero k e h = absurd (omega (arith, h))
-among (suc n) k e h =
-    let w = and_parts (undefined (decoded_of (0xde00 + n) 0)) (all_undefined n) e in
+among p zero k e h = absurd (omega (arith, h))
+among p (suc n) k e h =
+    let w = and_parts (undefined (decoded_for p (0xde00 + n) 0)) (all_undefined p n) e in
     elim (cases_eq k n) [
-      | inl same ↦ subst (λ j. undefined (decoded_of (0xde00 + j) 0) ≡ true) (sym same) w.0
-      | inr other ↦ among n k w.1 (omega (arith, h, other))
+      | inl same ↦ subst (λ j. undefined (decoded_for p (0xde00 + j) 0) ≡ true) (sym same) w.0
+      | inr other ↦ among p n k w.1 (omega (arith, h, other))
     ]
 
 is_undefined : (d : Decoded) → undefined d ≡ true → d ≡ Undefined
@@ -74,11 +78,11 @@ is_undefined Undefined e = refl
 is_undefined Unpredictable e = absurd cc
 is_undefined NotInProfile e = absurd cc
 
-udf_undefined : (first : ℕ) → is_udf first ≡ true → decoded_of first 0 ≡ Undefined
-udf_undefined first e =
+udf_undefined : (p : Profile) (first : ℕ) → is_udf first ≡ true → decoded_for p first 0 ≡ Undefined
+udf_undefined p first e =
     let top : first / 256 ≡ 0xde = eqb-true (first / 256) 0xde e in
     let same : 0xde00 + (first - 0xde00) ≡ first = omega (arith, top) in
-    subst (λ n. decoded_of n 0 ≡ Undefined) same (is_undefined (decoded_of (0xde00 + (first - 0xde00)) 0) (among 256 (first - 0xde00) all (omega (arith, top))))
+    subst (λ n. decoded_for p n 0 ≡ Undefined) same (is_undefined (decoded_for p (0xde00 + (first - 0xde00)) 0) (among p 256 (first - 0xde00) (all p) (omega (arith, top))))
 
 -- ---- what stands at a place with a state
 
@@ -96,19 +100,19 @@ module _ (x : Accepted) (s : Recorded) (input : List ℕ) (is : IsProgram x) (k 
   unfolding standing_at
   udf_traps e = by_halves (halfword_of (flow_graph_of x.image at.function) at.place) (halfword_of (flow_graph_of x.image at.function) (at.place + 1)) refl e
     where
-      step : (first : ℕ) → halfword_of (flow_graph_of x.image at.function) at.place ≡ Some first → is_udf first ≡ true → step_of s.regs (memory_of s) ≡ (Trap (trap.Undefined first), s.regs, memory_of s)
+      step : (first : ℕ) → halfword_of (flow_graph_of x.image at.function) at.place ≡ Some first → is_udf first ≡ true → step_for (profile_of x.image) s.regs (memory_of s) ≡ (Trap (trap.Undefined first), s.regs, memory_of s)
       step first h udf =
           let top : first / 256 ≡ 0xde = eqb-true (first / 256) 0xde udf in
           let fetches : fetch (memory_of s) s.regs.pc ≡ Ok first = rw at.address (code_fetch x.image at.function s.segments is.image at.of.among k.image at.place first h) in
           let narrow : nat_le 0xe800 first ≡ false = lt-leb 0xe800 first (omega (arith, top)) in
-          rw (fetches, narrow) (ap (λ (d : Decoded). outcome_of d first s.regs (memory_of s)) (udf_undefined first udf))
+          rw (fetches, narrow) (ap (λ (d : Decoded). outcome_of d first s.regs (memory_of s)) (udf_undefined (profile_of x.image) first udf))
 
-      none_at : (first : ℕ) → halfword_of (flow_graph_of x.image at.function) at.place ≡ Some first → is_udf first ≡ true → instr_at (memory_of s) s.regs.pc ≡ None
+      none_at : (first : ℕ) → halfword_of (flow_graph_of x.image at.function) at.place ≡ Some first → is_udf first ≡ true → instr_for (profile_of x.image) (memory_of s) s.regs.pc ≡ None
       none_at first h udf =
           let top : first / 256 ≡ 0xde = eqb-true (first / 256) 0xde udf in
           let fetches : fetch (memory_of s) s.regs.pc ≡ Ok first = rw at.address (code_fetch x.image at.function s.segments is.image at.of.among k.image at.place first h) in
           let narrow : nat_le 0xe800 first ≡ false = lt-leb 0xe800 first (omega (arith, top)) in
-          rw (fetches, narrow) (ap instr_of (udf_undefined first udf))
+          rw (fetches, narrow) (ap instr_of (udf_undefined (profile_of x.image) first udf))
 
       of_decoded_not : (d : Decoded) → of_decoded d ≡ Udf → ⊥
       of_decoded_not (Is i size) h = absurd cc
@@ -116,18 +120,18 @@ module _ (x : Accepted) (s : Recorded) (input : List ℕ) (is : IsProgram x) (k 
       of_decoded_not Unpredictable h = absurd cc
       of_decoded_not NotInProfile h = absurd cc
 
-      wide_not : (first : ℕ) (w : Option ℕ) → wide_of first w ≡ Udf → ⊥
+      wide_not : (first : ℕ) (w : Option ℕ) → wide_of (profile_of x.image) first w ≡ Udf → ⊥
       wide_not first None h = absurd cc
-      wide_not first (Some second) h = of_decoded_not (decoded_of first second) h
+      wide_not first (Some second) h = of_decoded_not (decoded_for (profile_of x.image) first second) h
 
       by_udf : (u b : Bool) (first : ℕ) (w : Option ℕ) → halfword_of (flow_graph_of x.image at.function) at.place ≡ Some first → is_udf first ≡ u
-          → cond u Udf (cond b (of_decoded (decoded_of first 0)) (wide_of first w)) ≡ Udf → Turns x s input
+          → cond u Udf (cond b (of_decoded (decoded_for (profile_of x.image) first 0)) (wide_of (profile_of x.image) first w)) ≡ Udf → Turns x s input
       by_udf true b first w h u g = trap_turns x s input (trap.Undefined first) s.regs (memory_of s) k (step first h u)
           (ap (λ (q : Option (Instr × ℕ)). acts.popped_back s (acts.pops_some q)) (none_at first h u))
-      by_udf false true first w h u g = absurd (of_decoded_not (decoded_of first 0) g)
+      by_udf false true first w h u g = absurd (of_decoded_not (decoded_for (profile_of x.image) first 0) g)
       by_udf false false first w h u g = absurd (wide_not first w g)
 
-      by_halves : (o w : Option ℕ) → halfword_of (flow_graph_of x.image at.function) at.place ≡ o → standing_by o w ≡ Udf → Turns x s input
+      by_halves : (o w : Option ℕ) → halfword_of (flow_graph_of x.image at.function) at.place ≡ o → standing_by (profile_of x.image) o w ≡ Udf → Turns x s input
       by_halves None w h g = absurd cc
       by_halves (Some first) w h g = by_udf (is_udf first) _ first w h refl g
 

@@ -1,5 +1,5 @@
--- An instruction of the data group, which works on a low register: both sp and memory stay, and what is known after it holds.
-use Rattle.std.proofs.Common.{◌≡◌, Option, Some, None, Ok, ap, ℕ, ◌<◌, Bool, true, false, cond, List, slice_index, ◌∙◌, arith, ◌+◌, length, take, refl, sym, subst, inl, inr}
+-- An instruction of the data group, which works on a register that is not sp: both sp and memory stay, and what is known after it holds.
+use Rattle.std.proofs.Common.{◌≡◌, Option, Some, None, Ok, ap, ℕ, Bool, true, false, cond, List, slice_index, ◌∙◌, arith, ◌+◌, length, take, refl, sym, subst, inl, inr}
 use Rattle.std.specs.Prelude.{slice_set, Contains}
 use Rattle.std.proofs.lemmas.List.{get_or-set_other}
 use Rattle.std.specs.Option.{option_or}
@@ -12,7 +12,8 @@ use Rattle.stands_for.specs.thumb_core.Laws.{AreSound}
 use Rattle.stands_for.specs.thumb_core.Outcome.{Outcome as Stepping}
 use Rattle.stands_for.specs.thumb_core.Registers.{with_next}
 use Rattle.stands_for.specs.thumb_core.Data.{data_effect}
-use Rattle.stands_for.specs.thumb_core.Step.{step_of, instr_at}
+use Rattle.stands_for.specs.image_memory.Profiles.{profile_of}
+use Rattle.stands_for.specs.thumb_core.Step.{step_for, instr_for}
 use Rattle.stands_for.proofs.thumb_core.Follows.{step_follows}
 use Rattle.stands_for.specs.thumb_core.declared.regs.Regs.{Regs}
 use Rattle.stands_for.specs.thumb_core.declared.regs.Stepped.TheVariants.{Done}
@@ -49,11 +50,11 @@ gone : (o : Option Fact) (g : Fact) → gone_on None o ≡ Ok g → o ≡ Some g
 gone None g e = absurd cc
 gone (Some f) g e = let same : f ≡ g = cc in ap (λ (h : Fact). Some h) same
 
-same_sp : (d : ℕ) (old new : List ℕ) → d < 8 → Writes d old new → slice_index new SP ≡ slice_index old SP
-same_sp d old new low w = go w.does w.is
+same_sp : (d : ℕ) (old new : List ℕ) → (d ≡ 13 → ⊥) → Writes d old new → slice_index new SP ≡ slice_index old SP
+same_sp d old new no_sp w = go w.does w.is
   where
     go : (b : Bool) → new ≡ cond b (slice_set old d w.value) old → slice_index new SP ≡ slice_index old SP
-    go true e = ap (λ (r : List ℕ). slice_index r SP) e ∙ get_or-set_other old d SP w.value 0 (λ q. absurd (omega (arith, low, q)))
+    go true e = ap (λ (r : List ℕ). slice_index r SP) e ∙ get_or-set_other old d SP w.value 0 (λ q. no_sp (sym q))
     go false e = ap (λ (r : List ℕ). slice_index r SP) e
 
 none_or : {A : Type 0} (a b : Option A) → option_or a b ≡ None → b ≡ None
@@ -63,28 +64,31 @@ none_or None b e = e
 -- ---- the event
 
 module _ (x : Accepted) (is : IsProgram x) (s : Recorded) (k : Keeps x s) (at : StandsAt x s.first s.segments s.regs s.regs.pc) (i : Instr) (size d : ℕ)
-    (stands : standing_at (flow_graph_of x.image at.function) at.place ≡ Instruction i size) (low : d < 8) (it : IsData i d) (works : works_on i ≡ Some d) where
+    (stands : standing_at (flow_graph_of x.image at.function) at.place ≡ Instruction i size) (no_sp : d ≡ 13 → ⊥) (it : IsData i d) (works : works_on i ≡ Some d) where
   abbrev regs : Regs
   regs = with_next size (data_effect i s.regs)
 
   fetch : IsFetched x.image at.function s.segments is.image at.of.among k.image i size s.regs (memory_of s)
   fetch = fetched x.image at.function s.segments is.image at.of.among k.image at.place i size s.regs (memory_of s) refl at.address stands
 
-  pub stepped : step_of s.regs (memory_of s) ≡ (Done, regs, memory_of s)
+  pub stepped : step_for (profile_of x.image) s.regs (memory_of s) ≡ (Done, regs, memory_of s)
   stepped = fetch.step ∙ it.does size s.regs (memory_of s)
 
   sound : AreSound regs.r regs.pc
-  sound = subst (λ (o : Stepping). AreSound o.1.r o.1.pc) stepped ((step_follows s.regs (memory_of s)).sound k.sound)
+  sound = subst (λ (o : Stepping). AreSound o.1.r o.1.pc) stepped ((step_follows (profile_of x.image) s.regs (memory_of s)).sound k.sound)
 
-  left : (g : Fact) × (after_of (code x at.function at.marks).prologue false (address_of (flow_graph_of x.image at.function) at.place) i at.fact ≡ Ok g)
+  left : (g : Fact) × (after_of (code x at.function at.marks).prologue ((code x at.function at.marks).lowers at.place) (address_of (flow_graph_of x.image at.function) at.place) i at.fact ≡ Ok g)
   left = leaves (code x at.function at.marks) at.place at.fact (none_stands x at.function at.marks is.sound at.of.among at.of.are) at.state i
       (stands_instruction (flow_graph_of x.image at.function) at.place i size stands)
 
   abbrev p : Prologue
   p = (code x at.function at.marks).prologue
 
-  effects : effect p false (address_of (flow_graph_of x.image at.function) at.place) i at.fact ≡ Some left.0
-  effects = gone _ left.0 (sym (it.plain p false (address_of (flow_graph_of x.image at.function) at.place) at.fact) ∙ left.1)
+  abbrev lowering : Bool
+  lowering = (code x at.function at.marks).lowers at.place
+
+  effects : effect p lowering (address_of (flow_graph_of x.image at.function) at.place) i at.fact ≡ Some left.0
+  effects = gone _ left.0 (sym (it.plain p lowering (address_of (flow_graph_of x.image at.function) at.place) at.fact) ∙ left.1)
 
   roomy : IsRoomy s.first.caller.sp s.regs
   roomy =
@@ -95,10 +99,10 @@ module _ (x : Accepted) (is : IsProgram x) (s : Recorded) (k : Keeps x s) (at : 
   holds : Holds p left.0 s.first s.segments regs
   holds =
       let h = at.holds in
-      let frame = it.frame p false (address_of (flow_graph_of x.image at.function) at.place) at.fact left.0 effects in
+      let frame = it.frame p lowering (address_of (flow_graph_of x.image at.function) at.place) at.fact left.0 effects in
       let told : Describes h.entry s.first.caller.sp left.0 (data_effect i s.regs) =
-      data_described h.entry s.first.caller.sp p false (address_of (flow_graph_of x.image at.function) at.place) i d at.fact left.0 s.regs works low roomy h.describes effects in
-      let sp : slice_index (data_effect i s.regs).r SP ≡ reg_in s SP = same_sp d s.regs.r (data_effect i s.regs).r low (it.writes s.regs) in
+      data_described h.entry s.first.caller.sp p lowering (address_of (flow_graph_of x.image at.function) at.place) i d at.fact left.0 s.regs works no_sp roomy h.describes effects in
+      let sp : slice_index (data_effect i s.regs).r SP ≡ reg_in s SP = same_sp d s.regs.r (data_effect i s.regs).r no_sp (it.writes s.regs) in
       record {
         entry = h.entry;
         saved = h.saved;
@@ -110,7 +114,7 @@ module _ (x : Accepted) (is : IsProgram x) (s : Recorded) (k : Keeps x s) (at : 
       }
 
   sp : slice_index regs.r SP ≡ reg_in s SP
-  sp = same_sp d s.regs.r (data_effect i s.regs).r low (it.writes s.regs)
+  sp = same_sp d s.regs.r (data_effect i s.regs).r no_sp (it.writes s.regs)
 
   pc : regs.pc ≡ s.regs.pc + size
   pc =
@@ -124,9 +128,9 @@ module _ (x : Accepted) (is : IsProgram x) (s : Recorded) (k : Keeps x s) (at : 
   -- the tests let it pass only where no function begins after it
   fresh : acts.tests (program_of x) s Done regs ≡ None → begins_function x.image.functions regs.pc ≡ false
   fresh e =
-      let landing = sp_end (innermost_in (cleanups_in s.cleanups)) s.home.0 s.regs.pc (reg_in s SP) (slice_index regs.r SP) in
-      let edge = none_or landing (acts.control_flow_trap_of (program_of x) s (branches_some (instr_at (memory_of s) s.regs.pc) s.regs) Done regs) e in
-      let straight : branches_some (instr_at (memory_of s) s.regs.pc) s.regs ≡ false = ap (λ (o : Option (Instr × ℕ)). branches_some o s.regs) fetch.stands ∙ it.taken s.regs in
+      let landing = sp_end (look x.roles s.regs.pc).lowers (innermost_in (cleanups_in s.cleanups)) s.home.0 s.regs.pc (reg_in s SP) (slice_index regs.r SP) in
+      let edge = none_or landing (acts.control_flow_trap_of (program_of x) s (branches_some (instr_for (profile_of x.image) (memory_of s) s.regs.pc) s.regs) Done regs) e in
+      let straight : branches_some (instr_for (profile_of x.image) (memory_of s) s.regs.pc) s.regs ≡ false = ap (λ (o : Option (Instr × ℕ)). branches_some o s.regs) fetch.stands ∙ it.taken s.regs in
       let fell : fell_off (program_of x) s.regs.pc regs.pc ≡ None = subst (λ (b : Bool). cond b None (fell_off (program_of x) s.regs.pc regs.pc) ≡ None) straight edge in
       go (begins_function x.image.functions regs.pc) fell
     where
@@ -138,12 +142,12 @@ module _ (x : Accepted) (is : IsProgram x) (s : Recorded) (k : Keeps x s) (at : 
     tested : (o : Option End) → acts.tests (program_of x) s Done regs ≡ o → OnEvent x (acts.onward (program_of x) s (acts.tested (program_of x) s Done regs (memory_of s) o) input)
     tested (Some end) e = k
     tested None e =
-        let none : pushes_some (instr_at (memory_of s) s.regs.pc) ≡ 0 = ap pushes_some fetch.stands ∙ ap length it.pushes in
+        let none : pushes_some (instr_for (profile_of x.image) (memory_of s) s.regs.pc) ≡ 0 = ap pushes_some fetch.stands ∙ ap length it.pushes in
         let t : Recorded = record s { regs = regs } in
-        subst (Keeps x) (sym (reguarded_at_one_sp (look x.roles s.regs.pc).saves (pushes_some (instr_at (memory_of s) s.regs.pc)) (reg_in s SP) (slice_index regs.r SP) t none sp))
+        subst (Keeps x) (sym (reguarded_at_one_sp (look x.roles s.regs.pc).saves (pushes_some (instr_for (profile_of x.image) (memory_of s) s.regs.pc)) (reg_in s SP) (slice_index regs.r SP) t none sp))
         (simple_keeps x is s k at i size stands left.0 regs it.on left.1 pc sp sound holds (fresh e))
 
-    checked : OnEvent x (acts.onward (program_of x) s (acts.stepped (program_of x) s (step_of s.regs (memory_of s))) input)
+    checked : OnEvent x (acts.onward (program_of x) s (acts.stepped (program_of x) s (step_for (profile_of x.image) s.regs (memory_of s))) input)
     checked = subst (λ (o : Stepping). OnEvent x (acts.onward (program_of x) s (acts.stepped (program_of x) s o) input)) (sym stepped) (tested (acts.tests (program_of x) s Done regs) refl)
 
     event : (look x.roles s.regs.pc).is_instr ≡ true → OnEvent x (acts.recorded_event (program_of x) s input)
@@ -152,6 +156,6 @@ module _ (x : Accepted) (is : IsProgram x) (s : Recorded) (k : Keeps x s) (at : 
 
 -- An event that does an instruction of the data group keeps what every event keeps.
 pub data_keeps : (x : Accepted) → IsProgram x → (s : Recorded) → Keeps x s → (at : StandsAt x s.first s.segments s.regs s.regs.pc) (i : Instr) (size d : ℕ)
-    → standing_at (flow_graph_of x.image at.function) at.place ≡ Instruction i size → d < 8 → works_on i ≡ Some d → (look x.roles s.regs.pc).is_instr ≡ true → (input : List ℕ)
+    → standing_at (flow_graph_of x.image at.function) at.place ≡ Instruction i size → (d ≡ 13 → ⊥) → works_on i ≡ Some d → (look x.roles s.regs.pc).is_instr ≡ true → (input : List ℕ)
     → OnEvent x (acts.recorded_event (program_of x) s input)
-data_keeps x is s k at i size d stands low works reached input = event x is s k at i size d stands low (data_is i d works) works input reached
+data_keeps x is s k at i size d stands no_sp works reached input = event x is s k at i size d stands no_sp (data_is i d works) works input reached

@@ -14,7 +14,7 @@ use Rattle.stands_for.specs.step_ahead.Ahead.{branches, pushed}
 use Rattle.stands_for.specs.frame_facts.After.{after_of, effect, gone_on}
 use Rattle.stands_for.specs.frame_facts.declared.saves.Prologue.{Prologue}
 use Rattle.stands_for.specs.frame_graph.Edges.{reaches_next}
-use Rattle.stands_for.specs.thumb_isa.declared.instr.Instr.TheVariants.{ShiftImm, AddSubReg, AddSubImm3, Imm8, Alu, Adr, AddRdSp, Extend, Rev}
+use Rattle.stands_for.specs.thumb_isa.declared.instr.Instr.TheVariants.{ShiftImm, AddSubReg, AddSubImm3, Imm8, Alu, Adr, AddRdSp, Extend, Rev, MovW, MovT, Div}
 use Rattle.stands_for.specs.frame_facts.Facts.{source, with_source, lost, sp_plus}
 use Rattle.stands_for.specs.frame_facts.Shifts.{shift_imm}
 use Rattle.stands_for.specs.frame_facts.Data.{add_sub_imm3, imm8, alu}
@@ -23,7 +23,7 @@ use Rattle.stands_for.specs.frame_facts.Machine.{works_on}
 
 -- ---- what such an instruction is
 
--- the registers, or one of the low ones written
+-- the registers, or one of them written
 pub record Writes (d : ℕ) (old new : List ℕ) : Type 0 where
   pub does : Bool
   pub value : ℕ
@@ -155,6 +155,36 @@ data_is (Extend op e m) d h = to_d (Extend op e m) e d h (record {
   writes = λ regs. written e _ regs.r;
 })
 data_is (Rev op e m) d h = to_d (Rev op e m) e d h (record {
+  on = refl;
+  taken = λ regs. refl;
+  pushes = refl;
+  plain = λ p l a f. refl;
+  frame = λ p l a f g k. same_of f g (lost e f) (refl, refl) k;
+  does = λ size regs m. refl;
+  stays = λ regs. refl;
+  writes = λ regs. written e _ regs.r;
+})
+data_is (MovW e imm) d h = to_d (MovW e imm) e d h (record {
+  on = refl;
+  taken = λ regs. refl;
+  pushes = refl;
+  plain = λ p l a f. refl;
+  frame = λ p l a f g k. same_of f g (lost e f) (refl, refl) k;
+  does = λ size regs m. refl;
+  stays = λ regs. refl;
+  writes = λ regs. written e _ regs.r;
+})
+data_is (MovT e imm) d h = to_d (MovT e imm) e d h (record {
+  on = refl;
+  taken = λ regs. refl;
+  pushes = refl;
+  plain = λ p l a f. refl;
+  frame = λ p l a f g k. same_of f g (lost e f) (refl, refl) k;
+  does = λ size regs m. refl;
+  stays = λ regs. refl;
+  writes = λ regs. written e _ regs.r;
+})
+data_is (Div signed e n m) d h = to_d (Div signed e n m) e d h (record {
   on = refl;
   taken = λ regs. refl;
   pushes = refl;

@@ -11,8 +11,8 @@ use Rattle.steps_keep.proofs.Data.{data_keeps}
 use Rattle.steps_keep.proofs.Data as data_event
 
 pub data_turns : DataTurns
-data_turns x s i d input is k does works low = record {
+data_turns x s i d input is k does works no_sp = record {
   same = plain_match (program_of x) s input (knows s k.corresponds)
-      (subst (λ (o : Stepping). IsPlain s o.0) (sym (data_event.stepped x is s k does.at i does.size d does.stands low (data_is i d works) works)) tt);
-  keeps = data_keeps x is s k does.at i does.size d does.stands low works does.reached input;
+      (subst (λ (o : Stepping). IsPlain (program_of x) s o.0) (sym (data_event.stepped x is s k does.at i does.size d does.stands no_sp (data_is i d works) works)) tt);
+  keeps = data_keeps x is s k does.at i does.size d does.stands no_sp works does.reached input;
 }

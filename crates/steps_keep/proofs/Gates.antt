@@ -24,7 +24,8 @@ use Rattle.stands_for.specs.thumb_isa.declared.instr.Instr.TheVariants.{Svc}
 use Rattle.stands_for.specs.thumb_core.Laws.{AreSound, AreWords}
 use Rattle.stands_for.specs.thumb_core.Outcome.{Outcome as Stepping}
 use Rattle.stands_for.specs.thumb_core.Registers.{with_next}
-use Rattle.stands_for.specs.thumb_core.Step.{step_of}
+use Rattle.stands_for.specs.image_memory.Profiles.{profile_of}
+use Rattle.stands_for.specs.thumb_core.Step.{step_for}
 use Rattle.stands_for.proofs.thumb_core.Follows.{step_follows}
 use Rattle.stands_for.specs.thumb_core.declared.regs.TheConstants.{SP}
 use Rattle.stands_for.specs.thumb_core.declared.regs.Regs.{Regs}
@@ -86,7 +87,7 @@ module _ (x : Accepted) (is : IsProgram x) (s : Recorded) (k : Keeps x s) (at : 
   abbrev regs : Regs
   regs = with_next size s.regs
 
-  stepped : step_of s.regs (memory_of s) ≡ (Gate number, regs, memory_of s)
+  stepped : step_for (profile_of x.image) s.regs (memory_of s) ≡ (Gate number, regs, memory_of s)
   stepped = (fetch x is s k at (Svc number) size stands).step
 
   -- ---- after it
@@ -157,7 +158,7 @@ module _ (x : Accepted) (is : IsProgram x) (s : Recorded) (k : Keeps x s) (at : 
 
     sound : AreSound b.regs.r b.regs.pc
     sound =
-        let next : AreSound regs.r regs.pc = subst (λ (o : Stepping). AreSound o.1.r o.1.pc) stepped ((step_follows s.regs (memory_of s)).sound k.sound) in
+        let next : AreSound regs.r regs.pc = subst (λ (o : Stepping). AreSound o.1.r o.1.pc) stepped ((step_follows (profile_of x.image) s.regs (memory_of s)).sound k.sound) in
         record { words = b.words; small = subst (λ n. n < 2 ^ 32) (sym b.pc) next.small; is_even = subst (λ n. n % 2 ≡ 0) (sym b.pc) next.is_even }
 
     after_u : IsCounted b.lists → Corresponds u → begins_function x.image.functions regs.pc ≡ false → Keeps x u
@@ -225,14 +226,14 @@ module _ (x : Accepted) (is : IsProgram x) (s : Recorded) (k : Keeps x s) (at : 
     tested : (o : Option End) → acts.tests (program_of x) s (Gate number) regs ≡ o → OnEvent x (acts.onward (program_of x) s (acts.tested (program_of x) s (Gate number) regs (memory_of s) o) input)
     tested (Some end) e = k
     tested None e =
-        let edge = none_or (sp_end (innermost_in (cleanups_in s.cleanups)) s.home.0 s.regs.pc (reg_in s SP) (slice_index regs.r SP)) _ e in
+        let edge = none_or (sp_end (look x.roles s.regs.pc).lowers (innermost_in (cleanups_in s.cleanups)) s.home.0 s.regs.pc (reg_in s SP) (slice_index regs.r SP)) _ e in
         gated (λ on. fresh (goes_after number) on edge)
       where
         fresh : (b : Bool) → b ≡ true → cond b (if begins_function x.image.functions regs.pc then Some (the_end.Trap kind.FellOff regs.pc s.regs.pc) else None) None ≡ None → begins_function x.image.functions regs.pc ≡ false
         fresh true on w = no_fall (begins_function x.image.functions regs.pc) (the_end.Trap kind.FellOff regs.pc s.regs.pc) w
         fresh false on w = absurd cc
 
-    checked : OnEvent x (acts.onward (program_of x) s (acts.stepped (program_of x) s (step_of s.regs (memory_of s))) input)
+    checked : OnEvent x (acts.onward (program_of x) s (acts.stepped (program_of x) s (step_for (profile_of x.image) s.regs (memory_of s))) input)
     checked = subst (λ (o : Stepping). OnEvent x (acts.onward (program_of x) s (acts.stepped (program_of x) s o) input)) (sym stepped) (tested (acts.tests (program_of x) s (Gate number) regs) refl)
 
     event : (look x.roles s.regs.pc).is_instr ≡ true → OnEvent x (acts.recorded_event (program_of x) s input)
@@ -241,7 +242,7 @@ module _ (x : Accepted) (is : IsProgram x) (s : Recorded) (k : Keeps x s) (at : 
 
     pub svc_event : (look x.roles s.regs.pc).is_instr ≡ true → Turns x s input
     svc_event reached = record {
-      same = calls_match.events (program_of x) s input k.corresponds (k.sound.words.small 0) (subst (λ (o : Stepping). IsInPlace s o.0) (sym stepped) walks);
+      same = calls_match.events (program_of x) s input k.corresponds (k.sound.words.small 0) (subst (λ (o : Stepping). IsInPlace (program_of x) s o.0) (sym stepped) walks);
       keeps = event reached;
     }
 

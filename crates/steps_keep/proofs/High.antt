@@ -1,6 +1,6 @@
 -- MOV and ADD of any two registers, where sp is not written: both machines do the same, and what is known after it holds. That pc is not
 -- written the checker saw to.
-use Rattle.std.proofs.Common.{◌≡◌, ℕ, ◌<◌, ◌==◌, ◌⊎◌, inl, inr, false, cond, refl, sym, ap, subst, ◌∙◌, arith, ◌+◌, length, get_or, set, ◌-◌, ◌%◌, ◌^◌, Bool, true, ◌≤◌, nat_le, Some, None, ℤ, pos, negsuc, List, [], Ok, Err, Result, not}
+use Rattle.std.proofs.Common.{◌≡◌, ℕ, Option, ◌<◌, ◌==◌, ◌⊎◌, inl, inr, false, cond, refl, sym, ap, subst, ◌∙◌, arith, ◌+◌, length, get_or, set, ◌-◌, ◌%◌, ◌^◌, Bool, true, ◌≤◌, nat_le, Some, None, ℤ, pos, negsuc, List, [], Ok, Err, Result, not}
 use Rattle.std.proofs.lemmas.Bool.{cases_eq, cases_lt, lt-ltb, le-ltb, eqb-true, leb-true}
 use Rattle.std.proofs.lemmas.Bool.Decides.{nat_tests}
 use Rattle.std.proofs.lemmas.List.{get_or-set_same, get_or-set_other, get_or_past, length-set}
@@ -22,7 +22,8 @@ use Rattle.stands_for.specs.two_machines.Activations.{Recorded, memory_of}
 use Rattle.stands_for.specs.thumb_isa.declared.instr.Instr.{Instr}
 use Rattle.stands_for.specs.thumb_core.Branch.{write_high}
 use Rattle.stands_for.specs.thumb_core.Outcome.{Outcome as Stepping}
-use Rattle.stands_for.specs.thumb_core.Step.{step_of}
+use Rattle.stands_for.specs.image_memory.Profiles.{profile_of}
+use Rattle.stands_for.specs.thumb_core.Step.{step_for}
 use Rattle.stands_for.specs.thumb_core.declared.regs.Stepped.TheVariants.{Done}
 use Rattle.stands_for.specs.step_ahead.Ahead.{branches, pushed}
 use Rattle.stands_for.specs.frame_facts.After.{after_of, gone_on}
@@ -170,12 +171,12 @@ module _ (x : Accepted) (is : IsProgram x) (s : Recorded) (k : Keeps x s) (at : 
 
 module _ (x : Accepted) (s : Recorded) (i : Instr) (d v : ℕ) (g : Source) (input : List ℕ) (is : IsProgram x) (k : Keeps x s) (does : DoesAt x s i) (no_sp : d ≡ 13 → ⊥) (no_pc : (d == PC) ≡ false)
     (means : Means does.at.holds.entry s.first.caller.sp g (word_in d v)) (on : reaches_next i ≡ true) (taken : branches i s.regs ≡ false) (pushes : pushed i ≡ [])
-    (after : after_of (code x does.at.function does.at.marks).prologue false (address_of (flow_graph_of x.image does.at.function) does.at.place) i does.at.fact ≡ Ok (with_source does.at.fact d g))
-    (step : step_of s.regs (memory_of s) ≡ (Done, write_high d v does.size s.regs, memory_of s)) where
+    (after : after_of (code x does.at.function does.at.marks).prologue ((code x does.at.function does.at.marks).lowers does.at.place) (address_of (flow_graph_of x.image does.at.function) does.at.place) i does.at.fact ≡ Ok (with_source does.at.fact d g))
+    (step : step_for (profile_of x.image) s.regs (memory_of s) ≡ (Done, write_high d v does.size s.regs, memory_of s)) where
   abbrev regs : Regs
   regs = with_next does.size (with_reg s.regs d v)
 
-  stepped : step_of s.regs (memory_of s) ≡ (Done, regs, memory_of s)
+  stepped : step_for (profile_of x.image) s.regs (memory_of s) ≡ (Done, regs, memory_of s)
   stepped = step ∙ ap (λ (b : Bool). let o : Stepping = (Done, cond b (with_pc s.regs v) regs, memory_of s) in o) no_pc
 
   pub high_event : Turns x s input
@@ -201,7 +202,7 @@ module _ (x : Accepted) (s : Recorded) (d m : ℕ) (input : List ℕ) (is : IsPr
   abbrev here : ℕ
   here = address_of (flow_graph_of x.image does.at.function) does.at.place
 
-  by_add : (g : Fact) × (after_of p false here (AddHigh d m) does.at.fact ≡ Ok g) → Turns x s input
+  by_add : (g : Fact) × (after_of p ((code x does.at.function does.at.marks).lowers does.at.place) here (AddHigh d m) does.at.fact ≡ Ok g) → Turns x s input
   by_add w =
       let a = no_indirect (d == 15) (gone_on None (cond (d == 13) None (Some (with_source does.at.fact d Other)))) w.0 w.1 in
       let b = no_write (d == 13) (with_source does.at.fact d Other) w.0 a.1 in
@@ -219,8 +220,14 @@ module _ (x : Accepted) (s : Recorded) (d m : ℕ) (input : List ℕ) (is : IsPr
   abbrev q : Prologue
   q = (code x does.at.function does.at.marks).prologue
 
+  abbrev lowering : Bool
+  lowering = (code x does.at.function does.at.marks).lowers does.at.place
+
   abbrev there : ℕ
   there = address_of (flow_graph_of x.image does.at.function) does.at.place
+
+  abbrev into_sp : Option Fact
+  into_sp = cond lowering (Some (let f : Fact = record does.at.fact { below = true } in f)) (sp_set q (copied m does.at.fact) does.at.fact)
 
   no_13 : (d == 13) ≡ false
   no_13 = elim (cases_eq d 13) [
@@ -228,12 +235,12 @@ module _ (x : Accepted) (s : Recorded) (d m : ℕ) (input : List ℕ) (is : IsPr
     | inr other ↦ grind (arith, nat_tests)
   ]
 
-  by_mov : (g : Fact) × (after_of q false there (MovHigh d m) does.at.fact ≡ Ok g) → Turns x s input
+  by_mov : (g : Fact) × (after_of q lowering there (MovHigh d m) does.at.fact ≡ Ok g) → Turns x s input
   by_mov w =
-      let a = no_indirect (d == 15) (gone_on None (cond (d == 13) (sp_set q (copied m does.at.fact) does.at.fact) (Some (with_source does.at.fact d (copied m does.at.fact))))) w.0 w.1 in
-      let after : after_of q false there (MovHigh d m) does.at.fact ≡ Ok (with_source does.at.fact d (copied m does.at.fact)) =
-      ap (λ (b : Bool). cond b (Err IndirectBranch) (gone_on None (cond (d == 13) (sp_set q (copied m does.at.fact) does.at.fact) (Some (with_source does.at.fact d (copied m does.at.fact)))))) a.0
-      ∙ ap (λ (b : Bool). gone_on None (cond b (sp_set q (copied m does.at.fact) does.at.fact) (Some (with_source does.at.fact d (copied m does.at.fact))))) no_13 in
+      let a = no_indirect (d == 15) (gone_on None (cond (d == 13) into_sp (Some (with_source does.at.fact d (copied m does.at.fact))))) w.0 w.1 in
+      let after : after_of q lowering there (MovHigh d m) does.at.fact ≡ Ok (with_source does.at.fact d (copied m does.at.fact)) =
+      ap (λ (b : Bool). cond b (Err IndirectBranch) (gone_on None (cond (d == 13) into_sp (Some (with_source does.at.fact d (copied m does.at.fact)))))) a.0
+      ∙ ap (λ (b : Bool). gone_on None (cond b into_sp (Some (with_source does.at.fact d (copied m does.at.fact))))) no_13 in
       high_event x s (MovHigh d m) d (operand s.regs m) (copied m does.at.fact) input is k does no_sp a.0
       (copy_means does.at.holds.entry s.first.caller.sp d m does.at.fact s.regs no_sp (roomy_at x is s k does.at) does.at.holds.describes)
       (ap not a.0) a.0 refl after (fetch x is s k does.at (MovHigh d m) does.size does.stands).step

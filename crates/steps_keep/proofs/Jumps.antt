@@ -20,9 +20,9 @@ use Rattle.stands_for.specs.thumb_core.declared.ends.End.{End}
 use Rattle.stands_for.proofs.flow.Work.{contains_head}
 use Rattle.stands_for.specs.image_memory.Start.{begins_function}
 use Rattle.stands_for.specs.thumb_isa.declared.instr.Instr.{Instr}
-use Rattle.stands_for.specs.thumb_core.Branch.{target_of, passes}
+use Rattle.stands_for.specs.thumb_core.Branch.{target_of, passes, takes}
 use Rattle.stands_for.specs.thumb_core.Data.{forward}
-use Rattle.stands_for.specs.thumb_core.Registers.{with_pc, even, with_next}
+use Rattle.stands_for.specs.thumb_core.Registers.{with_pc, even, with_next, reg}
 use Rattle.stands_for.specs.thumb_core.declared.regs.TheConstants.{SP}
 use Rattle.stands_for.specs.thumb_core.declared.regs.Regs.{Regs}
 use Rattle.stands_for.specs.thumb_core.declared.regs.Stepped.TheVariants.{Done}
@@ -44,8 +44,9 @@ use Rattle.stands_for.proofs.frame_check.Wells.{placed_at}
 use Rattle.stands_for.specs.two_machines.Machine.{control_flow_trap}
 use Rattle.stands_for.specs.two_machines.Activations.{Recorded, memory_of}
 use Rattle.stands_for.specs.two_machines.Checked.{program_of}
-use Rattle.stands_for.specs.thumb_isa.declared.instr.Instr.TheVariants.{B, CmpHigh, Hint, Barrier, BCond}
-use Rattle.stands_for.specs.thumb_core.Step.{step_of}
+use Rattle.stands_for.specs.thumb_isa.declared.instr.Instr.TheVariants.{B, CmpHigh, Hint, Barrier, BCond, Cbz, BWide}
+use Rattle.stands_for.specs.image_memory.Profiles.{profile_of}
+use Rattle.stands_for.specs.thumb_core.Step.{step_for}
 use Rattle.stands_for.specs.step_ahead.Ahead.{branches, pushed}
 use Rattle.stands_for.specs.thumb_core.Outcome.{Outcome as Stepping}
 use Rattle.stands_for.specs.thumb_core.declared.ends.End.TheVariants as the_end
@@ -90,6 +91,9 @@ module _ (x : Accepted) (is : IsProgram x) (s : Recorded) (k : Keeps x s) (at : 
   abbrev p : Prologue
   p = (code x at.function at.marks).prologue
 
+  abbrev lowering : Bool
+  lowering = (code x at.function at.marks).lowers at.place
+
   none : NoneStands (code x at.function at.marks)
   none = none_stands x at.function at.marks is.sound at.of.among at.of.are
 
@@ -103,7 +107,7 @@ module _ (x : Accepted) (is : IsProgram x) (s : Recorded) (k : Keeps x s) (at : 
       ]
 
   -- on after it, where the tests let it pass
-  pub straight_first : (g : Fact) (regs : Regs) → reaches_next i ≡ true → after_of p false here i at.fact ≡ Ok g → regs.pc ≡ s.regs.pc + size → Holds p g s.first s.segments regs
+  pub straight_first : (g : Fact) (regs : Regs) → reaches_next i ≡ true → after_of p lowering here i at.fact ≡ Ok g → regs.pc ≡ s.regs.pc + size → Holds p g s.first s.segments regs
       → control_flow_trap (program_of x) false s.regs.pc Done regs ≡ None → StandsFirst x (record s { regs = regs })
   straight_first g regs on e pc holds edge reached =
       next_stands x is s k at i size stands g regs s.segments s.first refl on e pc holds reached (no_fall (begins_function x.image.functions regs.pc) (the_end.Trap kind.FellOff regs.pc s.regs.pc) edge)
@@ -149,7 +153,7 @@ module _ (x : Accepted) (is : IsProgram x) (s : Recorded) (k : Keeps x s) (at : 
         (Contains-append_right (onward flow_graph here i size) (edges_to 0 (option_and_then (place_of flow_graph) (branch_target here i))) w one) in
         Contains-append_left (straight_edges flow_graph at.place) (edges_from flow_graph (site_at flow_graph at.place)) w straight
 
-    pub jump_first : (g : Fact) (regs : Regs) → after_of p false here i at.fact ≡ Ok g → regs.pc ≡ t → Holds p g s.first s.segments regs → StandsAt x s.first s.segments regs regs.pc
+    pub jump_first : (g : Fact) (regs : Regs) → after_of p lowering here i at.fact ≡ Ok g → regs.pc ≡ t → Holds p g s.first s.segments regs → StandsAt x s.first s.segments regs regs.pc
     jump_first g regs e pc holds = record {
       function = at.function;
       marks = at.marks;
@@ -183,7 +187,7 @@ module _ (x : Accepted) (is : IsProgram x) (s : Recorded) (k : Keeps x s) (at : 
         whole : (n : ℕ) → n < 2 ^ 32 → n % 2 ≡ 0 → even (n % 2 ^ 32) ≡ n
         whole n low e = omega (arith, low, e)
 
-    pub branch_first : after_of p false here i at.fact ≡ Ok at.fact → StandsFirst x (record s { regs = with_pc s.regs (target_of off s.regs) })
+    pub branch_first : after_of p lowering here i at.fact ≡ Ok at.fact → StandsFirst x (record s { regs = with_pc s.regs (target_of off s.regs) })
     branch_first e reached = jump_first (forward (here + 4) off) to at.fact (with_pc s.regs (target_of off s.regs)) e lands_there (same_holds (with_pc s.regs (target_of off s.regs)) refl)
 
 -- ---- the instructions
@@ -193,33 +197,38 @@ b_turns x s off input is k does =
     simple_turns x is s k does.at (B off) does.size does.stands (with_pc s.regs (target_of off s.regs)) (fetch x is s k does.at (B off) does.size does.stands).step refl refl
     (λ w. branch_first x is s k does.at (B off) does.size does.stands off refl refl) input does.reached
 
+pub b_wide_turns : (x : Accepted) (s : Recorded) (off : ℤ) (input : List ℕ) → IsProgram x → Keeps x s → DoesAt x s (BWide off) → Turns x s input
+b_wide_turns x s off input is k does =
+    simple_turns x is s k does.at (BWide off) does.size does.stands (with_pc s.regs (target_of off s.regs)) (fetch x is s k does.at (BWide off) does.size does.stands).step refl refl
+    (λ w. branch_first x is s k does.at (BWide off) does.size does.stands off refl refl) input does.reached
+
 -- what goes on after it with the registers as they were
 quiet_turns : (x : Accepted) (s : Recorded) (i : Instr) (between : Regs) (input : List ℕ) → IsProgram x → Keeps x s → (does : DoesAt x s i) → reaches_next i ≡ true → branches i s.regs ≡ false
-    → pushed i ≡ [] → ((q : Prologue) (at : ℕ) (f : Fact) → after_of q false at i f ≡ Ok f) → step_of s.regs (memory_of s) ≡ (Done, with_next does.size between, memory_of s)
+    → pushed i ≡ [] → ((q : Prologue) (l : Bool) (at : ℕ) (f : Fact) → after_of q l at i f ≡ Ok f) → step_for (profile_of x.image) s.regs (memory_of s) ≡ (Done, with_next does.size between, memory_of s)
     → between.r ≡ s.regs.r → between.pc ≡ s.regs.pc → Turns x s input
 quiet_turns x s i between input is k does on taken pushes plain stepped same pc =
     let to : (with_next does.size between).pc ≡ s.regs.pc + does.size = ap (λ n. even ((n + does.size) % 2 ^ 32)) pc ∙ next_pc x is s k does.at i does.size does.stands in
     simple_turns x is s k does.at i does.size does.stands (with_next does.size between) stepped (ap (λ (r : List ℕ). slice_index r SP) same) pushes
-    (λ w. straight_first x is s k does.at i does.size does.stands does.at.fact (with_next does.size between) on (plain (code x does.at.function does.at.marks).prologue (address_of (flow_graph_of x.image does.at.function) does.at.place) does.at.fact) to
+    (λ w. straight_first x is s k does.at i does.size does.stands does.at.fact (with_next does.size between) on (plain (code x does.at.function does.at.marks).prologue ((code x does.at.function does.at.marks).lowers does.at.place) (address_of (flow_graph_of x.image does.at.function) does.at.place) does.at.fact) to
     (same_holds x is s k does.at i does.size does.stands (with_next does.size between) same)
     (subst (λ (b : Bool). control_flow_trap (program_of x) b s.regs.pc Done (with_next does.size between) ≡ None) taken w))
     input does.reached
 
 pub cmp_high_turns : (x : Accepted) (s : Recorded) (n m : ℕ) (input : List ℕ) → IsProgram x → Keeps x s → DoesAt x s (CmpHigh n m) → Turns x s input
 cmp_high_turns x s n m input is k does =
-    quiet_turns x s (CmpHigh n m) _ input is k does refl refl refl (λ q a f. refl) (fetch x is s k does.at (CmpHigh n m) does.size does.stands).step refl refl
+    quiet_turns x s (CmpHigh n m) _ input is k does refl refl refl (λ q l a f. refl) (fetch x is s k does.at (CmpHigh n m) does.size does.stands).step refl refl
 
 pub hint_turns : (x : Accepted) (s : Recorded) (n : ℕ) (input : List ℕ) → IsProgram x → Keeps x s → DoesAt x s (Hint n) → Turns x s input
-hint_turns x s n input is k does = quiet_turns x s (Hint n) s.regs input is k does refl refl refl (λ q a f. refl) (fetch x is s k does.at (Hint n) does.size does.stands).step refl refl
+hint_turns x s n input is k does = quiet_turns x s (Hint n) s.regs input is k does refl refl refl (λ q l a f. refl) (fetch x is s k does.at (Hint n) does.size does.stands).step refl refl
 
 pub barrier_turns : (x : Accepted) (s : Recorded) (op option : ℕ) (input : List ℕ) → IsProgram x → Keeps x s → DoesAt x s (Barrier op option) → Turns x s input
 barrier_turns x s op option input is k does =
-    quiet_turns x s (Barrier op option) s.regs input is k does refl refl refl (λ q a f. refl) (fetch x is s k does.at (Barrier op option) does.size does.stands).step refl refl
+    quiet_turns x s (Barrier op option) s.regs input is k does refl refl refl (λ q l a f. refl) (fetch x is s k does.at (Barrier op option) does.size does.stands).step refl refl
 
 pub bcond_turns : (x : Accepted) (s : Recorded) (cc : ℕ) (off : ℤ) (input : List ℕ) → IsProgram x → Keeps x s → DoesAt x s (BCond cc off) → Turns x s input
 bcond_turns x s cc off input is k does = go (passes cc s.regs) refl
   where
-    step : step_of s.regs (memory_of s) ≡ (Done, cond (passes cc s.regs) (with_pc s.regs (target_of off s.regs)) (with_next does.size s.regs), memory_of s)
+    step : step_for (profile_of x.image) s.regs (memory_of s) ≡ (Done, cond (passes cc s.regs) (with_pc s.regs (target_of off s.regs)) (with_next does.size s.regs), memory_of s)
     step = (fetch x is s k does.at (BCond cc off) does.size does.stands).step
 
     go : (b : Bool) → passes cc s.regs ≡ b → Turns x s input
@@ -228,5 +237,20 @@ bcond_turns x s cc off input is k does = go (passes cc s.regs) refl
         (step ∙ ap (λ (b : Bool). let o : Stepping = (Done, cond b (with_pc s.regs (target_of off s.regs)) (with_next does.size s.regs), memory_of s) in o) e) refl refl
         (λ w. branch_first x is s k does.at (BCond cc off) does.size does.stands off refl refl) input does.reached
     go false e =
-        quiet_turns x s (BCond cc off) s.regs input is k does refl e refl (λ q a f. refl)
+        quiet_turns x s (BCond cc off) s.regs input is k does refl e refl (λ q l a f. refl)
+        (step ∙ ap (λ (b : Bool). let o : Stepping = (Done, cond b (with_pc s.regs (target_of off s.regs)) (with_next does.size s.regs), memory_of s) in o) e) refl refl
+
+pub cbz_turns : (x : Accepted) (s : Recorded) (nonzero : Bool) (n : ℕ) (off : ℤ) (input : List ℕ) → IsProgram x → Keeps x s → DoesAt x s (Cbz nonzero n off) → Turns x s input
+cbz_turns x s nonzero n off input is k does = go (takes nonzero (reg s.regs n)) refl
+  where
+    step : step_for (profile_of x.image) s.regs (memory_of s) ≡ (Done, cond (takes nonzero (reg s.regs n)) (with_pc s.regs (target_of off s.regs)) (with_next does.size s.regs), memory_of s)
+    step = (fetch x is s k does.at (Cbz nonzero n off) does.size does.stands).step
+
+    go : (b : Bool) → takes nonzero (reg s.regs n) ≡ b → Turns x s input
+    go true e =
+        simple_turns x is s k does.at (Cbz nonzero n off) does.size does.stands (with_pc s.regs (target_of off s.regs))
+        (step ∙ ap (λ (b : Bool). let o : Stepping = (Done, cond b (with_pc s.regs (target_of off s.regs)) (with_next does.size s.regs), memory_of s) in o) e) refl refl
+        (λ w. branch_first x is s k does.at (Cbz nonzero n off) does.size does.stands off refl refl) input does.reached
+    go false e =
+        quiet_turns x s (Cbz nonzero n off) s.regs input is k does refl e refl (λ q l a f. refl)
         (step ∙ ap (λ (b : Bool). let o : Stepping = (Done, cond b (with_pc s.regs (target_of off s.regs)) (with_next does.size s.regs), memory_of s) in o) e) refl refl

@@ -9,6 +9,7 @@ pub use Rattle.stands_for.proofs.Moves
 pub use Rattle.stands_for.proofs.Onward
 pub use Rattle.stands_for.proofs.SimpleTurns
 pub use Rattle.stands_for.proofs.Slots
+pub use Rattle.stands_for.proofs.SpTests
 pub use Rattle.stands_for.proofs.Tame
 pub use Rattle.stands_for.proofs.Written
 pub use Rattle.stands_for.proofs.accepted_code

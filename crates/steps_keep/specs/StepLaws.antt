@@ -1,7 +1,7 @@
 -- Instructions that leave memory and sp, the data group apart: each is the same in both machines, and keeps.
 use Rattle.std.specs.Prelude.{◌≡◌, ℕ, false, List}
 use Rattle.stands_for.specs.thumb_isa.declared.instr.Instr.{Instr}
-use Rattle.stands_for.specs.thumb_isa.declared.instr.Instr.TheVariants.{AddHigh, CmpHigh, MovHigh, Hint, Barrier, B, BCond}
+use Rattle.stands_for.specs.thumb_isa.declared.instr.Instr.TheVariants.{AddHigh, CmpHigh, MovHigh, Hint, Barrier, B, BCond, Cbz, BWide}
 use Rattle.stands_for.specs.frame_check.Accepts.{Accepted}
 use Rattle.stands_for.specs.frame_check.Roles.{look}
 use Rattle.stands_for.specs.two_machines.Activations.{Recorded}
@@ -16,6 +16,8 @@ IsSimple (B off) = Unit {0}
 IsSimple (BCond cc off) = Unit {0}
 IsSimple (Hint n) = Unit {0}
 IsSimple (Barrier op option) = Unit {0}
+IsSimple (Cbz nonzero n off) = Unit {0}
+IsSimple (BWide off) = Unit {0}
 IsSimple i = ⊥
 
 abbrev pub SimpleTurns : Type 0

@@ -7,7 +7,7 @@ ghost use Rattle.steps_keep.specs.StepLaws.{SimpleTurns, UnreachedTurns};
 ghost use Rattle.steps_keep.specs.GateEvents.{GatesTurn};
 ghost use Rattle.steps_keep.specs.CallEvents.{BlTurns, BlxTurns};
 
-/// An instruction that works on one of r0 to r7 and touches neither memory nor sp does the same in both machines, and after it they stand for
+/// An instruction that works on a register other than sp and touches no memory does the same in both machines, and after it they stand for
 /// each other.
 pub fn data_turns()
     ensures { DataTurns }

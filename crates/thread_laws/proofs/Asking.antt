@@ -1,5 +1,5 @@
 -- The trap of the gate that starts a thread comes of that gate alone, and leaves the state.
-use Rattle.std.proofs.Common.{slice_index, ◌≡◌, ℕ, ◌+◌, ◌==◌, ◌&&◌, ◌||◌, nat_lt, nat_le, Bool, true, false, cond, List, [], ◌∷◌, length, Option, Some, None, Result, Ok, Err, refl, sym, ap, subst, ◌∙◌}
+use Rattle.std.proofs.Common.{slice_index, ◌≡◌, ℕ, ◌+◌, ◌==◌, ◌&&◌, ◌||◌, nat_lt, nat_le, Bool, true, false, cond, List, [], ◌∷◌, ◌++◌, length, Option, Some, None, Result, Ok, Err, refl, sym, ap, subst, ◌∙◌}
 use Rattle.std.specs.Prelude.{is_some, ◌%◌, ◌^◌}
 use Rattle.std.specs.List.{list_all}
 use Rattle.std.specs.Option.{option_or}
@@ -35,10 +35,12 @@ use Rattle.thread_run.specs.thumb_isa.declared.instr.Instr.{Instr}
 use Rattle.thread_run.specs.thumb_isa.declared.instr.Instr.TheVariants.{Svc}
 use Rattle.thread_run.specs.thumb_isa.declared.instr.Decoded.{Decoded}
 use Rattle.thread_run.specs.thumb_isa.declared.instr.Decoded.TheVariants.{Is, Undefined, Unpredictable, NotInProfile}
-use Rattle.thread_run.specs.thumb_isa.Rows.{Row, fits, rows, first_fit, decoded_of}
+use Rattle.thread_run.specs.thumb_isa.Rows.{Row, fits, rows, late_rows, first_fit, decoded_of, late_decoded_of, decoded_for}
+use Rattle.thread_run.specs.thumb_isa.declared.profile.Profile.{Profile}
+use Rattle.thread_run.specs.thumb_isa.declared.profile.Profile.TheVariants.{One, Two}
 use Rattle.thread_run.specs.step_ahead.Ahead.{branches_some}
 use Rattle.thread_run.specs.thumb_core.Outcome.{Outcome as Stepping}
-use Rattle.thread_run.specs.thumb_core.Step.{step_of, instr_at, instr_of, instr_of_first, instr_of_second}
+use Rattle.thread_run.specs.thumb_core.Step.{step_for, instr_for, instr_of, instr_of_first, instr_of_second}
 use Rattle.thread_run.specs.thumb_core.declared.regs.TheConstants.{SP}
 use Rattle.thread_run.specs.thumb_core.declared.regs.CoreTrap.{CoreTrap}
 use Rattle.thread_run.specs.thumb_core.declared.regs.CoreTrap.TheVariants as core
@@ -54,8 +56,8 @@ use Rattle.thread_run.specs.eh_gates.declared.state.Turned.TheVariants.{Went, En
 use Rattle.thread_run.specs.eh_gates.CallGates.{fault_end}
 use Rattle.thread_run.specs.eh_gates.State.{Tables}
 use Rattle.thread_run.specs.eh_gates.Throwing.{barrier_in, rethrow_end, throw_event}
-use Rattle.thread_run.specs.two_machines.Machine.{sp_end, fell_off, goes_after, leaves_cleanup}
-use Rattle.thread_run.specs.two_machines.Program.{Program, program_tables}
+use Rattle.thread_run.specs.two_machines.Machine.{sp_end, fell_off, goes_after, raises, leaves_cleanup}
+use Rattle.thread_run.specs.two_machines.Program.{Program, program_tables, profile_in}
 use Rattle.thread_run.specs.two_machines.Activations.{Caller, Activation, InProgress, Recorded, reg_in, memory_of, lists_of, cleanups_in, heads, words_in, with_lists}
 use Rattle.thread_run.specs.two_machines.ActivationMachine as acts
 use Rattle.thread_run.specs.declared.starting.TheConstants.{START_GATE}
@@ -83,8 +85,8 @@ first_lacks : (a b : Option End) → Lacks a → Lacks b → Lacks (option_or a 
 first_lacks None b p q = q
 first_lacks (Some end) b p q = p
 
-sp_lacks : (landing : Option ℕ) (low pc old new : ℕ) → Lacks (sp_end landing low pc old new)
-sp_lacks landing low pc old new = either Lacks (leaves_cleanup landing old new) _ _ refl (either Lacks (nat_lt new low) _ _ refl tt)
+sp_lacks : (lowers : Bool) (landing : Option ℕ) (low pc old new : ℕ) → Lacks (sp_end lowers landing low pc old new)
+sp_lacks lowers landing low pc old new = either Lacks (raises lowers old new) _ _ refl (either Lacks (leaves_cleanup landing old new) _ _ refl (either Lacks (nat_lt new low) _ _ refl tt))
 
 fell_lacks : (p : Program) (pc to : ℕ) → Lacks (fell_off p pc to)
 fell_lacks p pc to = either Lacks (p.look to).is_function _ _ refl tt
@@ -102,9 +104,9 @@ flow_lacks p s branches (Trap trap) regs = tt
 
 tests_lack : (p : Program) (s : Recorded) (what : Stepped) (regs : Regs) → Lacks (acts.tests p s what regs)
 tests_lack p s what regs =
-    first_lacks (sp_end (innermost_in (cleanups_in s.cleanups)) s.home.0 s.regs.pc (reg_in s SP) (slice_index regs.r SP))
-    (acts.control_flow_trap_of p s (branches_some (instr_at (memory_of s) s.regs.pc) s.regs) what regs)
-    (sp_lacks (innermost_in (cleanups_in s.cleanups)) s.home.0 s.regs.pc (reg_in s SP) (slice_index regs.r SP)) (flow_lacks p s (branches_some (instr_at (memory_of s) s.regs.pc) s.regs) what regs)
+    first_lacks (sp_end (p.look s.regs.pc).lowers (innermost_in (cleanups_in s.cleanups)) s.home.0 s.regs.pc (reg_in s SP) (slice_index regs.r SP))
+    (acts.control_flow_trap_of p s (branches_some (instr_for (profile_in p) (memory_of s) s.regs.pc) s.regs) what regs)
+    (sp_lacks (p.look s.regs.pc).lowers (innermost_in (cleanups_in s.cleanups)) s.home.0 s.regs.pc (reg_in s SP) (slice_index regs.r SP)) (flow_lacks p s (branches_some (instr_for (profile_in p) (memory_of s) s.regs.pc) s.regs) what regs)
 
 bus_lacks : (why : BusFault) (pc : ℕ) → asks (trap_end (core.Memory why) pc) ≡ false
 bus_lacks (bus.Unmapped a) pc = refl
@@ -243,9 +245,9 @@ module _ (s : Recorded) (number : ℕ) where
 -- ---- events
 
 -- an end that asks for a start comes of the gate, and leaves the state
-pub record Asks (s t : Recorded) : Type 0 where
+pub record Asks (p : Program) (s t : Recorded) : Type 0 where
   pub same : t ≡ s
-  pub step : (step_of s.regs (memory_of s)).0 ≡ Gate START_GATE
+  pub step : (step_for (profile_in p) s.regs (memory_of s)).0 ≡ Gate START_GATE
 
 abbrev asks_in : Event Recorded End → Bool
 asks_in (Goes t text left) = false
@@ -281,7 +283,7 @@ module _ (p : Program) (s : Recorded) (input : List ℕ) where
   no_gate number e = cc
 
   of_step : (o : Stepping) → Of o.0 (acts.onward p s (acts.stepped p s o) input)
-  of_step (Trap trap, regs, m) = go (acts.pops_back s)
+  of_step (Trap trap, regs, m) = go (acts.pops_back p s)
     where
       go : (o : Option Regs) → Of (Trap trap) (acts.onward p s (acts.trapped_by p s trap o) input)
       go None = λ h. absurd (never (sym (trap_lacks trap s.regs.pc) ∙ h))
@@ -294,17 +296,17 @@ module _ (p : Program) (s : Recorded) (input : List ℕ) where
       (tests_lack p s (Return to) (acts.returned s.first.caller regs)) (λ number e. e)
   of_step (Gate number, regs, m) = of_test (Gate number) (Gate number) regs m (acts.tests p s (Gate number) regs) (tests_lack p s (Gate number) regs) (λ n e. e)
 
-  of_check : (b : Bool) → Of (step_of s.regs (memory_of s)).0 (acts.onward p s (acts.checked p s b) input)
-  of_check true = of_step (step_of s.regs (memory_of s))
+  of_check : (b : Bool) → Of (step_for (profile_in p) s.regs (memory_of s)).0 (acts.onward p s (acts.checked p s b) input)
+  of_check true = of_step (step_for (profile_in p) s.regs (memory_of s))
   of_check false = λ h. absurd (never h)
 
-  of_event : Of (step_of s.regs (memory_of s)).0 (acts.recorded_event p s input)
+  of_event : Of (step_for (profile_in p) s.regs (memory_of s)).0 (acts.recorded_event p s input)
   unfolding acts.recorded_event acts.passed
   of_event = of_check (p.look s.regs.pc).is_instr
 
-  pub asking : (end : End) (t : Recorded) → acts.recorded_event p s input ≡ Ends end t → asks end ≡ true → Asks s t
+  pub asking : (end : End) (t : Recorded) → acts.recorded_event p s input ≡ Ends end t → asks end ≡ true → Asks p s t
   asking end t e h =
-      let w = subst (λ (d : Event Recorded End). Of (step_of s.regs (memory_of s)).0 d) e of_event h in
+      let w = subst (λ (d : Event Recorded End). Of (step_for (profile_in p) s.regs (memory_of s)).0 d) e of_event h in
       record { same = w.0; step = w.1 }
 
   -- where the checker reached no instruction the run has fallen off
@@ -340,9 +342,10 @@ fit_short (row ∷ more) first second h =
     let two = both (is_short (row.means first second)) (list_all (λ row. is_short (row.means first second)) more) h in
     either (λ (d : Decoded). is_short d ≡ true) (fits row first second) (row.means first second) (first_fit more first second) two.0 (fit_short more first second two.1)
 
-decoded_short : (first second : ℕ) → is_short (decoded_of first second) ≡ true
-unfolding decoded_of is_short is_svc
-decoded_short first second = fit_short rows first second refl
+decoded_short : (profile : Profile) (first second : ℕ) → is_short (decoded_for profile first second) ≡ true
+unfolding decoded_of late_decoded_of is_short is_svc
+decoded_short One first second = fit_short rows first second refl
+decoded_short Two first second = fit_short (late_rows ++ rows) first second refl
 
 short_size : (d : Decoded) (number size : ℕ) → is_short d ≡ true → instr_of d ≡ Some (Svc number, size) → size ≡ 2
 unfolding is_short is_svc
@@ -358,20 +361,20 @@ short_size Undefined number size h e = absurd cc
 short_size Unpredictable number size h e = absurd cc
 short_size NotInProfile number size h e = absurd cc
 
-pub svc_size : (m : Memory) (a number size : ℕ) → instr_at m a ≡ Some (Svc number, size) → size ≡ 2
-svc_size m a number size e = by_first (fetch m a) e
+pub svc_size : (profile : Profile) (m : Memory) (a number size : ℕ) → instr_for profile m a ≡ Some (Svc number, size) → size ≡ 2
+svc_size profile m a number size e = by_first (fetch m a) e
   where
     none_is : ◌≡◌ {A = Option (Instr × ℕ)} None (Some (Svc number, size)) → ⊥
     none_is e = cc
 
-    by_second : (first : ℕ) (r : Result ℕ BusFault) → instr_of_second r first ≡ Some (Svc number, size) → size ≡ 2
-    by_second first (Ok second) e = short_size (decoded_of first second) number size (decoded_short first second) e
+    by_second : (first : ℕ) (r : Result ℕ BusFault) → instr_of_second profile r first ≡ Some (Svc number, size) → size ≡ 2
+    by_second first (Ok second) e = short_size (decoded_for profile first second) number size (decoded_short profile first second) e
     by_second first (Err why) e = absurd (none_is e)
 
-    by_width : (first : ℕ) (b : Bool) → cond b (instr_of_second (fetch m ((a + 2) % 2 ^ 32)) first) (instr_of (decoded_of first 0)) ≡ Some (Svc number, size) → size ≡ 2
+    by_width : (first : ℕ) (b : Bool) → cond b (instr_of_second profile (fetch m ((a + 2) % 2 ^ 32)) first) (instr_of (decoded_for profile first 0)) ≡ Some (Svc number, size) → size ≡ 2
     by_width first true e = by_second first _ e
-    by_width first false e = short_size (decoded_of first 0) number size (decoded_short first 0) e
+    by_width first false e = short_size (decoded_for profile first 0) number size (decoded_short profile first 0) e
 
-    by_first : (r : Result ℕ BusFault) → instr_of_first r m a ≡ Some (Svc number, size) → size ≡ 2
+    by_first : (r : Result ℕ BusFault) → instr_of_first profile r m a ≡ Some (Svc number, size) → size ≡ 2
     by_first (Ok first) e = by_width first (nat_le 0xe800 first) e
     by_first (Err why) e = absurd (none_is e)

@@ -40,7 +40,7 @@ use Rattle.thread_run.specs.eh_types.Graph.{row_of}
 use Rattle.thread_run.specs.frame_check.Accepts.{Accepted}
 use Rattle.thread_run.specs.thumb_core.Laws.{KeepsMap}
 use Rattle.thread_run.specs.thumb_core.Outcome.{Outcome as Stepping}
-use Rattle.thread_run.specs.thumb_core.Step.{step_of}
+use Rattle.thread_run.specs.thumb_core.Step.{step_for}
 use Rattle.thread_run.proofs.thumb_core.Follows.{step_follows}
 use Rattle.thread_run.specs.thumb_core.declared.regs.Regs.{Regs}
 use Rattle.thread_run.specs.thumb_core.declared.regs.Stepped.{Stepped}
@@ -53,7 +53,7 @@ use Rattle.thread_run.specs.eh_gates.declared.state.Turned.TheVariants.{Went, En
 use Rattle.thread_run.specs.eh_gates.State.{Tables}
 use Rattle.thread_run.specs.eh_gates.Landing.{words_of}
 use Rattle.thread_run.specs.eh_gates.Throwing.{barrier_in, barrier_words, throw_event}
-use Rattle.thread_run.specs.two_machines.Program.{Program, program_tables}
+use Rattle.thread_run.specs.two_machines.Program.{Program, program_tables, profile_in}
 use Rattle.thread_run.specs.two_machines.Activations.{Activation, InProgress, Recorded, reg_in, memory_of, state_word, count_word, words_in, heads, with_lists, with_words, lists_of, cleanups_in}
 use Rattle.thread_run.specs.two_machines.ActivationMachine as acts
 use Rattle.thread_run.specs.two_machines.Checked.{program_of}
@@ -678,7 +678,7 @@ module _ (s : Recorded) (stack : (g : ℕ) → Has s.beyond g → STACK_START �
           let l = stepped_left m k in leaves_it (acts.recorded_after p s (Trap trap) regs m) (record { words = l.words; in_use = l.in_use; closed = l.closed })
 
       stepped : (o : Stepping) → KeepsMap (memory_of s) o.2 → Leaves s (acts.onward p s (acts.stepped p s o) input)
-      stepped (Trap trap, regs, m) k = go (acts.pops_back s)
+      stepped (Trap trap, regs, m) k = go (acts.pops_back p s)
         where
           go : (o : Option Regs) → Leaves s (acts.onward p s (acts.trapped_by p s trap o) input)
           go None = leaves_it s same
@@ -691,7 +691,7 @@ module _ (s : Recorded) (stack : (g : ℕ) → Has s.beyond g → STACK_START �
       stepped (Gate number, regs, m) k = tested (Gate number) regs m k _
 
       checked : (b : Bool) → Leaves s (acts.onward p s (acts.checked p s b) input)
-      checked true = stepped (step_of s.regs (memory_of s)) (step_follows s.regs (memory_of s)).memory
+      checked true = stepped (step_for (profile_in p) s.regs (memory_of s)) (step_follows (profile_in p) s.regs (memory_of s)).memory
       checked false = leaves_it s same
 
       event_leaves : Leaves s (acts.recorded_event p s input)

@@ -20,6 +20,7 @@ pub use Rattle.frames_same.specs.eh_cxa
 pub use Rattle.frames_same.specs.thumb_core
 pub use Rattle.frames_same.specs.eh_bus
 pub use Rattle.frames_same.specs.thumb_isa
+pub use Rattle.frames_same.specs.accepted_code
 pub use Rattle.frames_same.specs.event_runs
 pub use Rattle.frames_same.specs.stands_for
 pub mod KeptLandings

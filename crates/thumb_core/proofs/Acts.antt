@@ -9,7 +9,8 @@ use Rattle.thumb_isa.specs.declared.instr.Instr.{Instr}
 use Rattle.thumb_isa.specs.declared.instr.Instr.TheVariants.{Bx, Blx, LdrLit, MemReg, MemImm, MemSp, Push, Pop, Stm, Ldm, Svc, Bl}
 use Rattle.thumb_isa.specs.declared.instr.Decoded.{Decoded}
 use Rattle.thumb_isa.specs.declared.instr.Decoded.TheVariants.{Is, Undefined, Unpredictable, NotInProfile}
-use Rattle.thumb_isa.specs.Rows.{decoded_of}
+use Rattle.thumb_isa.specs.declared.profile.Profile.{Profile}
+use Rattle.thumb_isa.specs.Rows.{decoded_for}
 use Rattle.thumb_core.specs.declared.regs.TheConstants.{SP, LR, PC}
 use Rattle.thumb_core.specs.declared.regs.Regs.{Regs}
 use Rattle.thumb_core.specs.declared.regs.CoreTrap.{CoreTrap}
@@ -23,7 +24,7 @@ use Rattle.thumb_core.specs.Outcome.{Outcome, with_memory}
 use Rattle.thumb_core.specs.Access.{store_end, loaded, store_reg, mem_reg, mem_imm, mem_sp}
 use Rattle.thumb_core.specs.Branch.{target_of, link_of, call_to, return_to, if_odd, register_effect}
 use Rattle.thumb_core.specs.Lists.{words_of, bytes_of, load_list, ldm_end, pop_to, pop_end}
-use Rattle.thumb_core.specs.Step.{effect, outcome_of, with_second, with_first, step_of, instr_of, instr_of_second, instr_of_first, instr_at}
+use Rattle.thumb_core.specs.Step.{effect, outcome_of, with_second, with_first, step_for, instr_of, instr_of_second, instr_of_first, instr_for}
 use Rattle.thumb_core.specs.Stores.{Span, span, SameApart, KeepsApart, stores_of, stores_of_some}
 use Rattle.thumb_core.specs.Laws.{Popped, Acts}
 use Rattle.thumb_core.proofs.PopLaws.{last_word, sp_after, kept_register}
@@ -211,16 +212,16 @@ outcome_acts Undefined first regs m small = trap_acts None None _ regs m
 outcome_acts Unpredictable first regs m small = trap_acts None None _ regs m
 outcome_acts NotInProfile first regs m small = trap_acts None None _ regs m
 
-second_acts : (half : Result ℕ BusFault) (first : ℕ) (regs : Regs) (m : Memory) → AreRegisters regs → ActsAt regs m (instr_of_second half first) (with_second half first regs m)
-second_acts (Ok second) first regs m small = outcome_acts (decoded_of first second) first regs m small
-second_acts (Err fault) first regs m small = trap_acts None None _ regs m
+second_acts : (p : Profile) (half : Result ℕ BusFault) (first : ℕ) (regs : Regs) (m : Memory) → AreRegisters regs → ActsAt regs m (instr_of_second p half first) (with_second p half first regs m)
+second_acts p (Ok second) first regs m small = outcome_acts (decoded_for p first second) first regs m small
+second_acts p (Err fault) first regs m small = trap_acts None None _ regs m
 
-first_acts : (half : Result ℕ BusFault) (regs : Regs) (m : Memory) → AreRegisters regs → ActsAt regs m (instr_of_first half m regs.pc) (with_first half regs m)
-first_acts (Ok first) regs m small =
+first_acts : (p : Profile) (half : Result ℕ BusFault) (regs : Regs) (m : Memory) → AreRegisters regs → ActsAt regs m (instr_of_first p half m regs.pc) (with_first p half regs m)
+first_acts p (Ok first) regs m small =
     both (λ at o. ActsAt regs m at o) (nat_le 0xe800 first) _ _ _ _
-    (second_acts (fetch m ((regs.pc + 2) % 2 ^ 32)) first regs m small)
-    (outcome_acts (decoded_of first 0) first regs m small)
-first_acts (Err fault) regs m small = trap_acts None None _ regs m
+    (second_acts p (fetch m ((regs.pc + 2) % 2 ^ 32)) first regs m small)
+    (outcome_acts (decoded_for p first 0) first regs m small)
+first_acts p (Err fault) regs m small = trap_acts None None _ regs m
 
-pub step_acts : (regs : Regs) (m : Memory) → AreRegisters regs → Acts (instr_at m regs.pc) (stores_of_some (instr_at m regs.pc) regs) regs m (step_of regs m)
-step_acts regs m small = first_acts (fetch m regs.pc) regs m small
+pub step_acts : (p : Profile) (regs : Regs) (m : Memory) → AreRegisters regs → Acts (instr_for p m regs.pc) (stores_of_some (instr_for p m regs.pc) regs) regs m (step_for p regs m)
+step_acts p regs m small = first_acts p (fetch m regs.pc) regs m small

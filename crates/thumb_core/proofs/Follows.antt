@@ -1,5 +1,5 @@
 -- What holds of every step, by the groups of instructions.
-use Rattle.std.proofs.Common.{◌≡◌, ℕ, ℤ, ◌+◌, ◌-◌, ◌%◌, ◌^◌, ◌==◌, nat_le, Bool, true, false, List, cond, refl, ap, ◌∙◌, arith, Err, Ok, Result, Option, Some, None, length, get_or, slice_index, inl, inr}
+use Rattle.std.proofs.Common.{◌≡◌, ℕ, ℤ, ◌+◌, ◌-◌, ◌*◌, ◌%◌, ◌^◌, ◌==◌, nat_le, Bool, true, false, List, cond, refl, ap, ◌∙◌, arith, Err, Ok, Result, Option, Some, None, length, get_or, slice_index, inl, inr}
 use Rattle.std.specs.Int.{bit_at}
 use Rattle.std.proofs.lemmas.Bool.Decides.{nat_tests}
 use Rattle.std.proofs.lemmas.Grind.{get_or-set_at}
@@ -7,10 +7,11 @@ use Rattle.eh_bus.specs.Segment.{Segment}
 use Rattle.eh_bus.specs.Memory.{Memory, load, store, store_run, fetch, fault_in, store_fault, run_fault, written, run_written, unless_fault}
 use Rattle.eh_bus.specs.declared.fault.BusFault.{BusFault}
 use Rattle.thumb_isa.specs.declared.instr.Instr.{Instr}
-use Rattle.thumb_isa.specs.declared.instr.Instr.TheVariants.{ShiftImm, AddSubReg, AddSubImm3, Imm8, Alu, AddHigh, MovHigh, Bx, Blx, LdrLit, MemReg, MemImm, MemSp, Adr, AddRdSp, AddSp, SubSp, Extend, Rev, Push, Pop, Stm, Ldm, BCond, Svc, B, Bl}
+use Rattle.thumb_isa.specs.declared.instr.Instr.TheVariants.{ShiftImm, AddSubReg, AddSubImm3, Imm8, Alu, AddHigh, MovHigh, Bx, Blx, LdrLit, MemReg, MemImm, MemSp, Adr, AddRdSp, AddSp, SubSp, Extend, Rev, Push, Pop, Stm, Ldm, BCond, Svc, B, Bl, Cbz, BWide, MovW, MovT, Div}
 use Rattle.thumb_isa.specs.declared.instr.Decoded.{Decoded}
 use Rattle.thumb_isa.specs.declared.instr.Decoded.TheVariants.{Is, Undefined, Unpredictable, NotInProfile}
-use Rattle.thumb_isa.specs.Rows.{decoded_of}
+use Rattle.thumb_isa.specs.declared.profile.Profile.{Profile}
+use Rattle.thumb_isa.specs.Rows.{decoded_for}
 use Rattle.thumb_core.specs.declared.regs.TheConstants.{SP, LR, PC}
 use Rattle.thumb_core.specs.declared.regs.Regs.{Regs}
 use Rattle.thumb_core.specs.declared.regs.CoreTrap.{CoreTrap}
@@ -22,13 +23,13 @@ use Rattle.thumb_core.specs.Arith.{sum_of, difference_of, sum_or_difference}
 use Rattle.thumb_core.specs.Shift.{shift_of}
 use Rattle.thumb_core.specs.Registers.{put, word_in, even, reg, operand, base, all_of, with_all, with_reg, with_pc, with_next}
 use Rattle.thumb_core.specs.Alu.{alu_of, with_answer}
-use Rattle.thumb_core.specs.Data.{forward, backward, extension_of, reversal_of, imm8, data_effect}
+use Rattle.thumb_core.specs.Data.{forward, backward, extension_of, reversal_of, quotient, imm8, data_effect}
 use Rattle.thumb_core.specs.Words.{listed, loads_from}
 use Rattle.thumb_core.specs.Outcome.{plain_outcome, with_memory}
 use Rattle.thumb_core.specs.Access.{store_end, loaded, signed, store_reg, load_reg, load_reg_signed, mem_reg, mem_imm, mem_sp}
-use Rattle.thumb_core.specs.Branch.{passes, target_of, branch, branch_if, write_high, link_of, call_to, return_to, if_odd, register_effect}
+use Rattle.thumb_core.specs.Branch.{passes, takes, target_of, branch, branch_if, compare_branch, write_high, link_of, call_to, return_to, if_odd, register_effect}
 use Rattle.thumb_core.specs.Lists.{words_of, bytes_of, load_list, ldm_end, pop_to, pop_end}
-use Rattle.thumb_core.specs.Step.{effect, outcome_of, with_second, with_first, step_of}
+use Rattle.thumb_core.specs.Step.{effect, outcome_of, with_second, with_first, step_for}
 use Rattle.thumb_core.specs.Laws.{AreWords, AreSound, KeepsMap, Follows}
 use Rattle.eh_bus.proofs.AccessLaws.{store_keeps, run_keeps}
 use Rattle.eh_bus.proofs.MapLaws.{map_refl, store_map, run_map}
@@ -145,6 +146,9 @@ data_words (AddSp off) regs s = sum_words SP (forward (reg regs SP) off) regs s
 data_words (SubSp off) regs s = sum_words SP (backward (reg regs SP) off) regs s
 data_words (Extend op d k) regs s = sum_words d (extension_of op (reg regs k)) regs s
 data_words (Rev op d k) regs s = sum_words d (reversal_of op (reg regs k)) regs s
+data_words (MovW d imm) regs s = sum_words d imm regs s
+data_words (MovT d imm) regs s = sum_words d (imm * 2 ^ 16 + reg regs d % 2 ^ 16) regs s
+data_words (Div is_signed d n k) regs s = sum_words d (quotient is_signed (reg regs n) (reg regs k)) regs s
 data_words i regs s = s.words
 
 high_sound : (d x size : ℕ) (regs : Regs) → AreSound regs.r regs.pc → AreSound (write_high d x size regs).r (write_high d x size regs).pc
@@ -161,6 +165,12 @@ branch_if_sound condition off size regs s =
     either (λ (a : Regs). AreSound a.r a.pc) (passes condition regs) (branch off regs) (with_next size regs)
     (branch_sound off regs s) (sound_pc regs.r (regs.pc + size) s.words)
 
+compare_sound : (nonzero : Bool) (n : ℕ) (off : ℤ) (size : ℕ) (regs : Regs) → AreSound regs.r regs.pc
+    → AreSound (compare_branch nonzero n off size regs).r (compare_branch nonzero n off size regs).pc
+compare_sound nonzero n off size regs s =
+    either (λ (a : Regs). AreSound a.r a.pc) (takes nonzero (reg regs n)) (branch off regs) (with_next size regs)
+    (branch_sound off regs s) (sound_pc regs.r (regs.pc + size) s.words)
+
 high_even : (d x size : ℕ) (regs : Regs) → (write_high d x size regs).pc % 2 ≡ 0
 high_even d x size regs =
     either (λ (a : Regs). a.pc % 2 ≡ 0) (d == PC) (with_pc regs x) (with_next size (with_reg regs d x)) (even_next x) (even_next (regs.pc + size))
@@ -168,6 +178,10 @@ high_even d x size regs =
 branch_if_even : (condition : ℕ) (off : ℤ) (size : ℕ) (regs : Regs) → (branch_if condition off size regs).pc % 2 ≡ 0
 branch_if_even condition off size regs =
     either (λ (a : Regs). a.pc % 2 ≡ 0) (passes condition regs) (branch off regs) (with_next size regs) (even_next (target_of off regs)) (even_next (regs.pc + size))
+
+compare_even : (nonzero : Bool) (n : ℕ) (off : ℤ) (size : ℕ) (regs : Regs) → (compare_branch nonzero n off size regs).pc % 2 ≡ 0
+compare_even nonzero n off size regs =
+    either (λ (a : Regs). a.pc % 2 ≡ 0) (takes nonzero (reg regs n)) (branch off regs) (with_next size regs) (even_next (target_of off regs)) (even_next (regs.pc + size))
 
 register_follows : (i : Instr) (size : ℕ) (regs : Regs) (m : Memory) → Follows regs m (with_memory (register_effect i size regs) m)
 register_follows (AddHigh d k) size regs m =
@@ -184,6 +198,9 @@ register_follows (Blx k) size regs m =
     odd_follows (operand regs k) regs (call_to (operand regs k) size regs) m (λ odd. call_follows (operand regs k) size regs m)
 register_follows (Bx k) size regs m =
     odd_follows (operand regs k) regs (return_to (operand regs k) regs) m (λ odd. return_follows (operand regs k) regs regs m (λ s. s.words) odd)
+register_follows (Cbz nonzero n off) size regs m =
+    done_follows regs (compare_branch nonzero n off size regs) m (compare_even nonzero n off size regs) (λ s. compare_sound nonzero n off size regs s)
+register_follows (BWide off) size regs m = done_follows regs (branch off regs) m (even_next (target_of off regs)) (λ s. branch_sound off regs s)
 register_follows (Svc imm) size regs m = gate_follows imm size regs m
 register_follows i size regs m = plain_follows size regs (data_effect i regs) m m (same m) (λ s. data_words i regs s)
 
@@ -318,16 +335,16 @@ outcome_follows Undefined first regs m = trap_follows _ regs m
 outcome_follows Unpredictable first regs m = trap_follows _ regs m
 outcome_follows NotInProfile first regs m = trap_follows _ regs m
 
-second_follows : (half : Result ℕ BusFault) (first : ℕ) (regs : Regs) (m : Memory) → Follows regs m (with_second half first regs m)
-second_follows (Ok second) first regs m = outcome_follows (decoded_of first second) first regs m
-second_follows (Err fault) first regs m = trap_follows _ regs m
+second_follows : (p : Profile) (half : Result ℕ BusFault) (first : ℕ) (regs : Regs) (m : Memory) → Follows regs m (with_second p half first regs m)
+second_follows p (Ok second) first regs m = outcome_follows (decoded_for p first second) first regs m
+second_follows p (Err fault) first regs m = trap_follows _ regs m
 
-first_follows : (half : Result ℕ BusFault) (regs : Regs) (m : Memory) → Follows regs m (with_first half regs m)
-first_follows (Ok first) regs m =
+first_follows : (p : Profile) (half : Result ℕ BusFault) (regs : Regs) (m : Memory) → Follows regs m (with_first p half regs m)
+first_follows p (Ok first) regs m =
     either (λ o. Follows regs m o) (nat_le 0xe800 first) _ _
-    (second_follows (fetch m ((regs.pc + 2) % 2 ^ 32)) first regs m)
-    (outcome_follows (decoded_of first 0) first regs m)
-first_follows (Err fault) regs m = trap_follows _ regs m
+    (second_follows p (fetch m ((regs.pc + 2) % 2 ^ 32)) first regs m)
+    (outcome_follows (decoded_for p first 0) first regs m)
+first_follows p (Err fault) regs m = trap_follows _ regs m
 
-pub step_follows : (regs : Regs) (m : Memory) → Follows regs m (step_of regs m)
-step_follows regs m = first_follows (fetch m regs.pc) regs m
+pub step_follows : (p : Profile) (regs : Regs) (m : Memory) → Follows regs m (step_for p regs m)
+step_follows p regs m = first_follows p (fetch m regs.pc) regs m

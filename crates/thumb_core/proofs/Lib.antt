@@ -7,3 +7,4 @@ pub mod Loaded
 pub mod PopLaws
 pub mod Acts
 pub mod Popped
+pub mod Divided

@@ -1,14 +1,14 @@
 -- Branches, calls, returns, and the instructions that may write pc.
 use Rattle.std.specs.Prelude.{ℕ, ℤ, ◌+◌, ◌%◌, ◌^◌, Bool, true, false, not, ◌&&◌, ◌||◌, ◌==◌, if◌then◌else◌}
 use Rattle.thumb_isa.specs.declared.instr.Instr.{Instr}
-use Rattle.thumb_isa.specs.declared.instr.Instr.TheVariants.{AddHigh, MovHigh, Bx, Blx, BCond, Svc, B, Bl}
+use Rattle.thumb_isa.specs.declared.instr.Instr.TheVariants.{AddHigh, MovHigh, Bx, Blx, BCond, Svc, B, Bl, Cbz, BWide}
 use Rattle.thumb_core.specs.declared.branch.TheConstants.{EQ, NE, CS, CC, MI, PL, VS, VC, HI, LS, GE, LT, GT}
 use Rattle.thumb_core.specs.declared.regs.TheConstants.{LR, PC}
 use Rattle.thumb_core.specs.declared.regs.Regs.{Regs}
 use Rattle.thumb_core.specs.declared.regs.CoreTrap.TheVariants.{EvenTarget}
 use Rattle.thumb_core.specs.declared.regs.Stepped.{Stepped}
 use Rattle.thumb_core.specs.declared.regs.Stepped.TheVariants.{Call, Gate, Return, Trap}
-use Rattle.thumb_core.specs.Registers.{even, operand, pc_read, with_reg, with_pc, with_next}
+use Rattle.thumb_core.specs.Registers.{reg, even, operand, pc_read, with_reg, with_pc, with_next}
 use Rattle.thumb_core.specs.Outcome.{done}
 use Rattle.thumb_core.specs.Data.{forward, data_effect}
 
@@ -39,6 +39,14 @@ branch off regs = with_pc regs (target_of off regs)
 -- a branch under a condition
 abbrev pub branch_if : ℕ → ℤ → ℕ → Regs → Regs
 branch_if cond off size regs = if passes cond regs then branch off regs else with_next size regs
+
+-- whether CBZ, or CBNZ, takes its branch: its register is 0, or isn't
+abbrev pub takes : Bool → ℕ → Bool
+takes nonzero value = if nonzero then not (value == 0) else value == 0
+
+-- CBZ and CBNZ; no flag plays a part, and none is changed
+abbrev pub compare_branch : Bool → ℕ → ℤ → ℕ → Regs → Regs
+compare_branch nonzero n off size regs = if takes nonzero (reg regs n) then branch off regs else with_next size regs
 
 -- a register, low or high; a write to pc is a branch
 abbrev pub write_high : ℕ → ℕ → ℕ → Regs → Regs
@@ -95,4 +103,6 @@ register_effect (Bl off) size regs = bl off size regs
 register_effect (Blx k) size regs = blx k size regs
 register_effect (Bx k) size regs = bx k regs
 register_effect (Svc imm) size regs = svc imm size regs
+register_effect (Cbz nonzero n off) size regs = done (compare_branch nonzero n off size regs)
+register_effect (BWide off) size regs = done (branch off regs)
 register_effect i size regs = done (with_next size (data_effect i regs))

@@ -1,8 +1,8 @@
 -- Instructions that change low registers, sp and flags alone, pc apart.
-use Rattle.std.specs.Prelude.{ℕ, ℤ, ◌+◌, ◌-◌, ◌*◌, ◌%◌, ◌^◌, Bool, ◌==◌, if◌then◌else◌}
+use Rattle.std.specs.Prelude.{ℕ, ℤ, ◌+◌, ◌-◌, ◌*◌, ◌/◌, ◌%◌, ◌^◌, nat_le, Bool, true, false, ◌==◌, if◌then◌else◌}
 use Rattle.std.specs.Int.{cast_unsigned, w32}
 use Rattle.thumb_isa.specs.declared.instr.Instr.{Instr}
-use Rattle.thumb_isa.specs.declared.instr.Instr.TheVariants.{ShiftImm, AddSubReg, AddSubImm3, Imm8, Alu, CmpHigh, Adr, AddRdSp, AddSp, SubSp, Extend, Rev, Hint, Barrier}
+use Rattle.thumb_isa.specs.declared.instr.Instr.TheVariants.{ShiftImm, AddSubReg, AddSubImm3, Imm8, Alu, CmpHigh, Adr, AddRdSp, AddSp, SubSp, Extend, Rev, Hint, Barrier, MovW, MovT, Div}
 use Rattle.thumb_core.specs.declared.data.TheConstants.{MOV, CMP, ADD, SXTH, SXTB, UXTH, REV, REV16}
 use Rattle.thumb_core.specs.declared.regs.TheConstants.{SP}
 use Rattle.thumb_core.specs.declared.regs.Regs.{Regs}
@@ -11,6 +11,12 @@ use Rattle.thumb_core.specs.Arith.{sum_of, difference_of, sum_or_difference, sig
 use Rattle.thumb_core.specs.Registers.{reg, operand, base, with_reg, with_nz, with_flags}
 use Rattle.thumb_core.specs.Shift.{shift_of}
 use Rattle.thumb_core.specs.Alu.{alu}
+
+-- both are so, or neither
+abbrev pub same_bool : Bool → Bool → Bool
+same_bool true b = b
+same_bool false true = false
+same_bool false false = true
 
 -- an address some bytes further on
 abbrev pub forward : ℕ → ℤ → ℕ
@@ -95,6 +101,39 @@ reversal_of op x =
 abbrev pub rev : ℕ → ℕ → ℕ → Regs → Regs
 rev op d m regs = with_reg regs d (reversal_of op (reg regs m))
 
+-- MOVW
+abbrev pub mov_wide : ℕ → ℕ → Regs → Regs
+mov_wide d imm regs = with_reg regs d imm
+
+-- MOVT: the upper half is new, the lower half stays
+abbrev pub mov_top : ℕ → ℕ → Regs → Regs
+mov_top d imm regs = with_reg regs d (imm * 2 ^ 16 + reg regs d % 2 ^ 16)
+
+-- UDIV: the quotient, and 0 where the divisor is 0
+abbrev pub unsigned_quotient : ℕ → ℕ → ℕ
+unsigned_quotient x y = if y == 0 then 0 else x / y
+
+-- a word as the number of its sign and its magnitude
+abbrev pub is_minus : ℕ → Bool
+is_minus x = nat_le (2 ^ 31) x
+
+abbrev pub magnitude : ℕ → ℕ
+magnitude x = if is_minus x then 2 ^ 32 - x else x
+
+-- SDIV: the quotient of the signed numbers, rounded towards zero, and 0 where the divisor is 0. That of -2 ^ 31 and -1 is 2 ^ 31, which as a
+-- word is -2 ^ 31
+abbrev pub signed_quotient : ℕ → ℕ → ℕ
+signed_quotient x y =
+    let q = unsigned_quotient (magnitude x) (magnitude y) in
+    if same_bool (is_minus x) (is_minus y) then q else (2 ^ 32 - q) % 2 ^ 32
+
+abbrev pub quotient : Bool → ℕ → ℕ → ℕ
+quotient signed x y = if signed then signed_quotient x y else unsigned_quotient x y
+
+-- SDIV and UDIV
+abbrev pub divide : Bool → ℕ → ℕ → ℕ → Regs → Regs
+divide signed d n m regs = with_reg regs d (quotient signed (reg regs n) (reg regs m))
+
 -- what an instruction of this group leaves in the registers before it goes on; one of another group is met elsewhere
 abbrev pub data_effect : Instr → Regs → Regs
 data_effect (ShiftImm op d k n) regs = shift_imm op d k n regs
@@ -111,4 +150,7 @@ data_effect (Extend op d k) regs = extend op d k regs
 data_effect (Rev op d k) regs = rev op d k regs
 data_effect (Hint n) regs = regs
 data_effect (Barrier op option) regs = regs
+data_effect (MovW d imm) regs = mov_wide d imm regs
+data_effect (MovT d imm) regs = mov_top d imm regs
+data_effect (Div signed d n k) regs = divide signed d n k regs
 data_effect _ regs = regs

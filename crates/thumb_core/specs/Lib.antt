@@ -4,6 +4,7 @@ pub mod Registers
 pub mod Shift
 pub mod Alu
 pub mod Data
+pub mod Division
 pub mod Outcome
 pub mod Access
 pub mod Branch

@@ -4,7 +4,9 @@ use Rattle.thumb_isa.specs.declared.instr.Instr.{Instr}
 use Rattle.thumb_isa.specs.declared.instr.Instr.TheVariants.{LdrLit, MemReg, MemImm, MemSp, Push, Pop, Stm, Ldm}
 use Rattle.thumb_isa.specs.declared.instr.Decoded.{Decoded}
 use Rattle.thumb_isa.specs.declared.instr.Decoded.TheVariants.{Is, Undefined, Unpredictable, NotInProfile}
-use Rattle.thumb_isa.specs.Rows.{decoded_of}
+use Rattle.thumb_isa.specs.declared.profile.Profile.{Profile}
+use Rattle.thumb_isa.specs.declared.profile.Profile.TheVariants.{One}
+use Rattle.thumb_isa.specs.Rows.{decoded_for}
 use Rattle.eh_bus.specs.Memory.{Memory, fetch}
 use Rattle.eh_bus.specs.declared.fault.BusFault.{BusFault}
 use Rattle.thumb_core.specs.declared.regs.Regs.{Regs}
@@ -35,21 +37,25 @@ outcome_of Undefined first regs m = (Trap (trap.Undefined first), regs, m)
 outcome_of Unpredictable first regs m = (Trap (trap.Unpredictable first), regs, m)
 outcome_of NotInProfile first regs m = (Trap (trap.NotInProfile first), regs, m)
 
--- with the second halfword of a wide encoding
-abbrev pub with_second : Result ℕ BusFault → ℕ → Regs → Memory → Outcome
-with_second (Ok second) first regs m = outcome_of (decoded_of first second) first regs m
-with_second (Err fault) first regs m = fault_outcome fault regs m
+-- with the second halfword of a wide encoding, by the rows of a profile
+abbrev pub with_second : Profile → Result ℕ BusFault → ℕ → Regs → Memory → Outcome
+with_second p (Ok second) first regs m = outcome_of (decoded_for p first second) first regs m
+with_second p (Err fault) first regs m = fault_outcome fault regs m
 
 -- with the first halfword: a second one is fetched before anything is decoded
-abbrev pub with_first : Result ℕ BusFault → Regs → Memory → Outcome
-with_first (Ok first) regs m =
-    if nat_le 0xe800 first then with_second (fetch m ((regs.pc + 2) % 2 ^ 32)) first regs m
-    else outcome_of (decoded_of first 0) first regs m
-with_first (Err fault) regs m = fault_outcome fault regs m
+abbrev pub with_first : Profile → Result ℕ BusFault → Regs → Memory → Outcome
+with_first p (Ok first) regs m =
+    if nat_le 0xe800 first then with_second p (fetch m ((regs.pc + 2) % 2 ^ 32)) first regs m
+    else outcome_of (decoded_for p first 0) first regs m
+with_first p (Err fault) regs m = fault_outcome fault regs m
 
 -- the instruction at pc
+abbrev pub step_for : Profile → Regs → Memory → Outcome
+step_for p regs m = with_first p (fetch m regs.pc) regs m
+
+-- .. in the first profile
 abbrev pub step_of : Regs → Memory → Outcome
-step_of regs m = with_first (fetch m regs.pc) regs m
+step_of regs m = step_for One regs m
 
 -- ---- the instruction that stands at an address, with its size: none where a halfword can't be fetched or is none
 
@@ -59,17 +65,21 @@ instr_of Undefined = None
 instr_of Unpredictable = None
 instr_of NotInProfile = None
 
-abbrev pub instr_of_second : Result ℕ BusFault → ℕ → Option (Instr × ℕ)
-instr_of_second (Ok second) first = instr_of (decoded_of first second)
-instr_of_second (Err fault) first = None
+abbrev pub instr_of_second : Profile → Result ℕ BusFault → ℕ → Option (Instr × ℕ)
+instr_of_second p (Ok second) first = instr_of (decoded_for p first second)
+instr_of_second p (Err fault) first = None
 
-abbrev pub instr_of_first : Result ℕ BusFault → Memory → ℕ → Option (Instr × ℕ)
-instr_of_first (Ok first) m a =
-    if nat_le 0xe800 first then instr_of_second (fetch m ((a + 2) % 2 ^ 32)) first else instr_of (decoded_of first 0)
-instr_of_first (Err fault) m a = None
+abbrev pub instr_of_first : Profile → Result ℕ BusFault → Memory → ℕ → Option (Instr × ℕ)
+instr_of_first p (Ok first) m a =
+    if nat_le 0xe800 first then instr_of_second p (fetch m ((a + 2) % 2 ^ 32)) first else instr_of (decoded_for p first 0)
+instr_of_first p (Err fault) m a = None
 
+abbrev pub instr_for : Profile → Memory → ℕ → Option (Instr × ℕ)
+instr_for p m a = instr_of_first p (fetch m a) m a
+
+-- .. in the first profile
 abbrev pub instr_at : Memory → ℕ → Option (Instr × ℕ)
-instr_at m a = instr_of_first (fetch m a) m a
+instr_at m a = instr_for One m a
 
 -- ---- what a fetch answers: the instruction at pc with its size, or the trap of a step there
 

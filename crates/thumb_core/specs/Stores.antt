@@ -10,7 +10,8 @@ use Rattle.thumb_core.specs.declared.regs.Regs.{Regs}
 use Rattle.thumb_core.specs.Registers.{reg}
 use Rattle.thumb_core.specs.Data.{forward}
 use Rattle.thumb_core.specs.Lists.{bytes_of}
-use Rattle.thumb_core.specs.Step.{instr_at}
+use Rattle.thumb_isa.specs.declared.profile.Profile.{Profile}
+use Rattle.thumb_core.specs.Step.{instr_for}
 
 -- `size` bytes from an address on
 pub record Span : Type 0 where
@@ -56,8 +57,8 @@ stores_of_some None regs = None
 stores_of_some (Some (i, size)) regs = stores_of i regs
 
 -- the same of the instruction at pc
-abbrev pub stores_at : Memory → Regs → Option Span
-stores_at m regs = stores_of_some (instr_at m regs.pc) regs
+abbrev pub stores_for : Profile → Memory → Regs → Option Span
+stores_for p m regs = stores_of_some (instr_for p m regs.pc) regs
 
 -- what is read of bytes that none of these meets is as before
 pub record SameApart (s : Span) (old new : Memory) : Type 0 where

@@ -1,7 +1,7 @@
 //! Branches, calls, returns, and the instructions that may write pc (docs/core.md, "Branches").
 ghost use Rattle.std.specs.Prelude.{◌≡◌, ◌<◌};
 ghost use Rattle.thumb_core.specs.Outcome.{done};
-ghost use Rattle.thumb_core.specs.Branch.{passes, target_of, branch, branch_if, write_high, add_high, mov_high, call_to, bl, blx, bx, svc};
+ghost use Rattle.thumb_core.specs.Branch.{passes, takes, target_of, branch, branch_if, compare_branch, write_high, add_high, mov_high, call_to, bl, blx, bx, svc};
 
 use crate::data::forward;
 use crate::regs::{CoreTrap, LR, PC, Regs, Stepped, even};
@@ -72,7 +72,7 @@ fn branch(off: i32, regs: &mut Regs)
     regs.go_to(target);
 }
 
-/// B.
+/// B, of either width.
 pub(crate) fn b(off: i32, regs: &mut Regs) -> Stepped
     ensures { (result, regs.new) ≡ done (branch off regs.old) }
 {
@@ -85,6 +85,26 @@ pub(crate) fn branch_if(cond: u8, off: i32, size: u32, regs: &mut Regs) -> Stepp
     ensures { (result, regs.new) ≡ done (branch_if cond off size regs.old) }
 {
     if passes(cond, regs) {
+        branch(off, regs);
+    } else {
+        regs.advance(size);
+    }
+    Stepped::Done
+}
+
+/// Whether CBZ takes its branch by what its register has, or CBNZ, where `nonzero`.
+pub fn takes(nonzero: bool, value: u32) -> bool
+    ensures { result ≡ takes nonzero value }
+{
+    if nonzero { value != 0 } else { value == 0 }
+}
+
+/// CBZ and CBNZ.
+pub(crate) fn compare_branch(nonzero: bool, n: u8, off: i32, size: u32, regs: &mut Regs) -> Stepped
+    requires { n < 15 }
+    ensures { (result, regs.new) ≡ done (compare_branch nonzero n off size regs.old) }
+{
+    if takes(nonzero, regs.reg(n)) {
         branch(off, regs);
     } else {
         regs.advance(size);

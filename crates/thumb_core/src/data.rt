@@ -1,5 +1,5 @@
 //! Instructions that change low registers, sp and flags alone, pc apart (docs/core.md, "Data").
-ghost use Rattle.std.specs.Prelude.{◌≡◌, ◌<◌};
+ghost use Rattle.std.specs.Prelude.{◌≡◌, ◌+◌, ◌*◌, ◌%◌, ◌^◌, ◌<◌};
 ghost use Rattle.thumb_core.specs.Arith.{sum_or_difference, sign_extension};
 ghost use Rattle.thumb_core.specs.Data.{forward, backward, with_value, with_sum, shift_imm, add_sub_reg, add_sub_imm, imm8, cmp_high, extension_of, half_reversal, reversal_of};
 
@@ -174,4 +174,12 @@ pub(crate) fn reversal_of(op: u8, x: u32) -> u32
         REV16 => half_reversal(x) + half_reversal(x / 0x1_0000) * 0x1_0000,
         _ => signed_half(half_reversal(x)),
     }
+}
+
+/// A word whose upper half is `imm`, and whose lower half is that of `x`.
+pub(crate) fn top_of(imm: u32, x: u32) -> u32
+    requires { imm < 2 ^ 16 }
+    ensures { result ≡ imm * 2 ^ 16 + x % 2 ^ 16 }
+{
+    imm * 0x1_0000 + x % 0x1_0000
 }

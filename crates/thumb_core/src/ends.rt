@@ -68,6 +68,8 @@ pub enum TrapKind {
     /// The pc, or the start of the function that follows.
     FellOff,
     /// The new sp.
+    SpRaised,
+    /// The new sp.
     SpInCleanup,
     /// The new sp.
     StackLimit,
@@ -113,6 +115,7 @@ impl TrapKind {
             TrapKind::Protected => b"Protected",
             TrapKind::NotExecutable => b"NotExecutable",
             TrapKind::FellOff => b"FellOff",
+            TrapKind::SpRaised => b"SpRaised",
             TrapKind::SpInCleanup => b"SpInCleanup",
             TrapKind::StackLimit => b"StackLimit",
             TrapKind::BadCallTarget => b"BadCallTarget",

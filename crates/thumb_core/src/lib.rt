@@ -1,4 +1,4 @@
-//! One instruction of an ARMv6-M core, over every memory.
+//! One instruction of an ARMv6-M core, or of one that has division, wide branches and immediates besides, over every memory.
 #![tactic(auto)]
 
 pub mod access;
@@ -7,6 +7,7 @@ pub mod arith;
 pub mod branch;
 pub mod calls;
 pub mod data;
+pub mod division;
 pub mod ends;
 pub mod lists;
 pub mod regs;

@@ -2,62 +2,80 @@
 ghost use Rattle.std.specs.Prelude.{◌≡◌, IfOk, Some};
 ghost use Rattle.thumb_isa.specs.Range.{InRange};
 ghost use Rattle.thumb_core.specs.Laws.{AreSound, KeepsMap, Leaves, LeavesMemory, OnTrap, PcStands};
-ghost use Rattle.thumb_core.specs.Step.{step_of, effect, instr_at, fetched_instr, outcome_from};
-ghost use Rattle.thumb_core.specs.Stores.{KeepsApart, stores_at, stores_of};
+ghost use Rattle.thumb_core.specs.Step.{step_for, step_of, effect, instr_for, instr_at, fetched_instr, outcome_from};
+ghost use Rattle.thumb_core.specs.Stores.{KeepsApart, stores_for, stores_of};
+ghost use Rattle.thumb_isa.specs.declared.profile.Profile.TheVariants.{One};
 
 use crate::access::{load_word, mem_imm, mem_reg, mem_sp};
 use crate::alu::alu;
-use crate::branch::{add_high, b, bl, blx, branch_if, bx, mov_high, svc};
+use crate::branch::{add_high, b, bl, blx, branch_if, bx, compare_branch, mov_high, svc};
 use crate::data::{
     add_sub_imm, add_sub_reg, backward, cmp_high, extension_of, forward, imm8, reversal_of,
-    shift_imm,
+    shift_imm, top_of,
 };
+use crate::division::quotient;
 use crate::lists::{ldm, pop, push, stm};
 use crate::regs::{CoreTrap, Regs, SP, Stepped, are_words};
 use eh_bus::bus::Bus;
-use thumb_isa::decode::{decode, is_wide};
+use thumb_isa::decode::{decode_for, is_wide};
 use thumb_isa::instr::{Decoded, Instr};
+use thumb_isa::profile::Profile;
 
-/// Does the instruction at `regs.pc` (DDI 0419).
+/// Does the instruction at `regs.pc`, by the rows of a profile (DDI 0419, DDI 0553).
 ///
 /// A first halfword that begins a wide encoding makes the second one be fetched, at pc + 2, before anything is decoded.
 /// So the traps are, in this order: the fault of the first fetch, that of the second; what the halfwords are where they
 /// are no instruction; and the instruction's own, an even target or the first fault of its loads and stores.
 #[inline(always)]
-pub fn step<B: Bus>(regs: &mut Regs, bus: &mut B) -> Stepped
-    ensures effect { (result, regs.new, B.memory bus.new) ≡ step_of regs.old (B.memory bus.old) }
+pub fn step_for<B: Bus>(profile: Profile, regs: &mut Regs, bus: &mut B) -> Stepped
+    ensures effect { (result, regs.new, B.memory bus.new) ≡ step_for profile regs.old (B.memory bus.old) }
 
     // What follows of it for every instruction.
     ensures trap { OnTrap result ((regs.new ≡ regs.old) × (B.memory bus.new ≡ B.memory bus.old)) }
     ensures stands { PcStands result regs.new }
     ensures sound { AreSound regs.old.r regs.old.pc → AreSound regs.new.r regs.new.pc }
     ensures memory { KeepsMap (B.memory bus.old) (B.memory bus.new) }
-    ensures apart { KeepsApart (stores_at (B.memory bus.old) regs.old) (B.memory bus.old) (B.memory bus.new) }
-    ensures leaves { Leaves (instr_at (B.memory bus.old) regs.old.pc) result regs.old (B.memory bus.old) regs.new }
+    ensures apart { KeepsApart (stores_for profile (B.memory bus.old) regs.old) (B.memory bus.old) (B.memory bus.new) }
+    ensures leaves { Leaves (instr_for profile (B.memory bus.old) regs.old.pc) result regs.old (B.memory bus.old) regs.new }
     ensures leaves_memory { LeavesMemory result (B.memory bus.old) (B.memory bus.new) }
 {
     are_words(&regs.r);
-    perform(regs, bus)
+    perform(profile, regs, bus)
+}
+
+/// The same by the rows of the first profile.
+#[inline(always)]
+pub fn step<B: Bus>(regs: &mut Regs, bus: &mut B) -> Stepped
+    ensures effect { (result, regs.new, B.memory bus.new) ≡ step_of regs.old (B.memory bus.old) }
+    ensures trap { OnTrap result ((regs.new ≡ regs.old) × (B.memory bus.new ≡ B.memory bus.old)) }
+    ensures stands { PcStands result regs.new }
+    ensures sound { AreSound regs.old.r regs.old.pc → AreSound regs.new.r regs.new.pc }
+    ensures memory { KeepsMap (B.memory bus.old) (B.memory bus.new) }
+    ensures apart { KeepsApart (stores_for One (B.memory bus.old) regs.old) (B.memory bus.old) (B.memory bus.new) }
+    ensures leaves { Leaves (instr_at (B.memory bus.old) regs.old.pc) result regs.old (B.memory bus.old) regs.new }
+    ensures leaves_memory { LeavesMemory result (B.memory bus.old) (B.memory bus.new) }
+{
+    step_for(Profile::One, regs, bus)
 }
 
 /// Fetches and executes.
 #[inline(always)]
-fn perform<B: Bus>(regs: &mut Regs, bus: &mut B) -> Stepped
-    ensures { (result, regs.new, B.memory bus.new) ≡ step_of regs.old (B.memory bus.old) }
+fn perform<B: Bus>(profile: Profile, regs: &mut Regs, bus: &mut B) -> Stepped
+    ensures { (result, regs.new, B.memory bus.new) ≡ step_for profile regs.old (B.memory bus.old) }
 {
-    match fetch(regs, bus) {
+    match fetch_for(profile, regs, bus) {
         Ok((i, size)) => execute(i, size, regs, bus),
         Err(trap) => Stepped::Trap(trap),
     }
 }
 
-/// The instruction at `regs.pc` with its size, fetched and decoded once; or the trap of a step there, where none stands. A step is this and
-/// then `execute`.
+/// The instruction at `regs.pc` with its size, fetched and decoded once by the rows of a profile; or the trap of a step there, where none
+/// stands. A step is this and then `execute`.
 #[inline(always)]
-pub fn fetch<B: Bus>(regs: &Regs, bus: &B) -> Result<(Instr, u32), CoreTrap>
-    ensures there { instr_at (B.memory bus.now) regs.now.pc ≡ fetched_instr result }
+pub fn fetch_for<B: Bus>(profile: Profile, regs: &Regs, bus: &B) -> Result<(Instr, u32), CoreTrap>
+    ensures there { instr_for profile (B.memory bus.now) regs.now.pc ≡ fetched_instr result }
     ensures range { IfOk result (λ at. InRange at.0) }
-    ensures does { step_of regs.now (B.memory bus.now) ≡ outcome_from result regs.now (B.memory bus.now) }
+    ensures does { step_for profile regs.now (B.memory bus.now) ≡ outcome_from result regs.now (B.memory bus.now) }
 {
     let first = match bus.fetch16(regs.pc) {
         Ok(half) => half,
@@ -71,12 +89,22 @@ pub fn fetch<B: Bus>(regs: &Regs, bus: &B) -> Result<(Instr, u32), CoreTrap>
     } else {
         0
     };
-    match decode(first, second) {
+    match decode_for(profile, first, second) {
         Decoded::Is(i, size) => Ok((i, size)),
         Decoded::Undefined => Err(CoreTrap::Undefined(u32::from(first))),
         Decoded::Unpredictable => Err(CoreTrap::Unpredictable(u32::from(first))),
         Decoded::NotInProfile => Err(CoreTrap::NotInProfile(u32::from(first))),
     }
+}
+
+/// The same by the rows of the first profile.
+#[inline(always)]
+pub fn fetch<B: Bus>(regs: &Regs, bus: &B) -> Result<(Instr, u32), CoreTrap>
+    ensures there { instr_at (B.memory bus.now) regs.now.pc ≡ fetched_instr result }
+    ensures range { IfOk result (λ at. InRange at.0) }
+    ensures does { step_of regs.now (B.memory bus.now) ≡ outcome_from result regs.now (B.memory bus.now) }
+{
+    fetch_for(Profile::One, regs, bus)
 }
 
 /// Does an instruction of `size` bytes, as it stands at `regs.pc`.
@@ -117,10 +145,15 @@ fn act<B: Bus>(i: Instr, size: u32, regs: &mut Regs, bus: &mut B) -> Stepped
         Instr::Rev { op, d, m } => regs.put(d, reversal_of(op, regs.reg(m))),
         Instr::Hint { .. } => {}
         Instr::Barrier { .. } => {}
+        Instr::MovW { d, imm } => regs.put(d, imm),
+        Instr::MovT { d, imm } => regs.put(d, top_of(imm, regs.reg(d))),
+        Instr::Div { signed, d, n, m } => regs.put(d, quotient(signed, regs.reg(n), regs.reg(m))),
         Instr::AddHigh { d, m } => return add_high(d, m, size, regs),
         Instr::MovHigh { d, m } => return mov_high(d, m, size, regs),
         Instr::BCond { cond, off } => return branch_if(cond, off, size, regs),
+        Instr::Cbz { nonzero, n, off } => return compare_branch(nonzero, n, off, size, regs),
         Instr::B { off } => return b(off, regs),
+        Instr::BWide { off } => return b(off, regs),
         Instr::Bl { off } => return bl(off, size, regs),
         Instr::Blx { m } => return blx(m, size, regs),
         Instr::Bx { m } => return bx(m, regs),

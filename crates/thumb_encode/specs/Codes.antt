@@ -2,23 +2,34 @@
 use Rattle.std.specs.Prelude.{◌≡◌, ℕ, suc, ◌+◌, ◌-◌, ◌<◌, ◌*◌, ◌/◌, ◌%◌, ◌^◌, ℤ, pos, negsuc, Bool, not, ◌&&◌, ◌||◌, ◌==◌, nat_lt, nat_le, Result, Ok, Err, if◌then◌else◌}
 use Rattle.std.specs.Int.{from_bool}
 use Rattle.thumb_isa.specs.declared.instr.Instr.{Instr}
-use Rattle.thumb_isa.specs.declared.instr.Instr.TheVariants.{ShiftImm, AddSubReg, AddSubImm3, Imm8, Alu, AddHigh, CmpHigh, MovHigh, Bx, Blx, LdrLit, MemReg, MemImm, MemSp, Adr, AddRdSp, AddSp, SubSp, Extend, Rev, Push, Pop, Hint, Stm, Ldm, BCond, Svc, B, Bl, Barrier}
+use Rattle.thumb_isa.specs.declared.instr.Instr.TheVariants.{ShiftImm, AddSubReg, AddSubImm3, Imm8, Alu, AddHigh, CmpHigh, MovHigh, Bx, Blx, LdrLit, MemReg, MemImm, MemSp, Adr, AddRdSp, AddSp, SubSp, Extend, Rev, Push, Pop, Hint, Stm, Ldm, BCond, Svc, B, Bl, Barrier, Cbz, BWide, MovW, MovT, Div}
 use Rattle.thumb_isa.specs.declared.instr.Decoded.TheVariants.{Is}
 use Rattle.thumb_isa.specs.Fields.{field}
-use Rattle.thumb_isa.specs.Rows.{decoded_of}
+use Rattle.thumb_isa.specs.declared.profile.Profile.{Profile}
+use Rattle.thumb_isa.specs.declared.profile.Profile.TheVariants.{One, Two}
+use Rattle.thumb_isa.specs.Rows.{decoded_for}
+use Rattle.thumb_isa.specs.Laws.{is_late}
 use Rattle.thumb_encode.specs.declared.code.Code.{Code}
 use Rattle.thumb_encode.specs.declared.code.Code.TheVariants.{Half, Pair}
 use Rattle.thumb_isa.specs.declared.encode_fault.EncodeFault.{EncodeFault}
 use Rattle.thumb_isa.specs.declared.encode_fault.EncodeFault.TheVariants.{RegisterRange, ListEmpty, ImmediateRange, ImmediateAlign, TargetRange}
 
--- the code decodes to the instruction; a halfword does, whatever follows it
+-- the code decodes to the instruction in a profile; a halfword does, whatever follows it
+abbrev pub IsCodeIn : Profile → Code → Instr → Type 0
+IsCodeIn p (Half half) i = (second : ℕ) → decoded_for p half second ≡ Is i 2
+IsCodeIn p (Pair first second) i = decoded_for p first second ≡ Is i 4
+
+-- it does in the second profile, which has every instruction
 abbrev pub IsCodeOf : Code → Instr → Type 0
-IsCodeOf (Half half) i = (second : ℕ) → decoded_of half second ≡ Is i 2
-IsCodeOf (Pair first second) i = decoded_of first second ≡ Is i 4
+IsCodeOf = IsCodeIn Two
+
+-- the first profile that has the instruction
+abbrev pub least_profile : Instr → Profile
+least_profile i = if is_late i then Two else One
 
 -- no pair of halfwords decodes to the instruction
 abbrev pub HasNoCode : Instr → Type 0
-HasNoCode i = (first second size : ℕ) → first < 2 ^ 16 → second < 2 ^ 16 → decoded_of first second ≡ Is i size → ⊥
+HasNoCode i = (first second size : ℕ) → first < 2 ^ 16 → second < 2 ^ 16 → decoded_for Two first second ≡ Is i size → ⊥
 
 -- this fault where the test holds, and else what follows
 abbrev pub refused_if : {A : Type 0} → Bool → EncodeFault → Result A EncodeFault → Result A EncodeFault
@@ -39,6 +50,11 @@ all_below limit a b c = nat_lt a limit && nat_lt b limit && nat_lt c limit
 abbrev pub target_field : ℕ → ℤ → Result ℕ EncodeFault
 target_field half (pos n) = refused_if (nat_le half n || not (n % 2 == 0)) TargetRange (Ok (n / 2))
 target_field half (negsuc n) = refused_if (nat_le half n || not (n % 2 == 1)) TargetRange (Ok (half - suc (n / 2)))
+
+-- the offset of a CBZ is even, from 0 to 126; its field is half of it
+abbrev pub cbz_field : ℤ → Result ℕ EncodeFault
+cbz_field (pos n) = refused_if (nat_lt 126 n || not (n % 2 == 0)) TargetRange (Ok (n / 2))
+cbz_field (negsuc n) = Err TargetRange
 
 -- an offset from a register is a multiple of `scale` from 0 to `largest`; its field counts in `scale`
 abbrev pub offset_field : ℕ → ℕ → ℤ → Result ℕ EncodeFault
@@ -62,13 +78,28 @@ low_fields high middle low = high * 2 ^ 6 + middle * 2 ^ 3 + low
 abbrev pub high_fields : ℕ → ℕ → ℕ
 high_fields d m = d / 8 * 2 ^ 7 + m * 2 ^ 3 + d % 8
 
--- the halfwords of a BL, by the low 24 bits of half its offset
-abbrev pub bl_code : ℕ → Code
-bl_code target =
+-- the halfwords of a BL, or of a B with two halfwords, by the low 24 bits of half its offset; the second begins with the bits of `base`
+abbrev pub long_code : ℕ → ℕ → Code
+long_code base target =
     let sign = target / 2 ^ 23 in
     let j1 = from_bool (target / 2 ^ 22 % 2 == sign) in
     let j2 = from_bool (target / 2 ^ 21 % 2 == sign) in
-    Pair (0xf000 + sign * 2 ^ 10 + target / 2 ^ 11 % 2 ^ 10) (0xd000 + j1 * 2 ^ 13 + j2 * 2 ^ 11 + target % 2 ^ 11)
+    Pair (0xf000 + sign * 2 ^ 10 + target / 2 ^ 11 % 2 ^ 10) (base + j1 * 2 ^ 13 + j2 * 2 ^ 11 + target % 2 ^ 11)
+
+abbrev pub bl_code : ℕ → Code
+bl_code = long_code 0xd000
+
+abbrev pub b_wide_code : ℕ → Code
+b_wide_code = long_code 0x9000
+
+-- any register but sp and pc
+abbrev pub is_general : ℕ → Bool
+is_general r = nat_lt r 15 && not (r == 13)
+
+-- the halfwords of a MOVW or MOVT: its immediate is imm4:i:imm3:imm8, and `base` tells which it is
+abbrev pub sixteen_code : ℕ → ℕ → ℕ → Code
+sixteen_code base d imm =
+    Pair (base + imm / 2 ^ 11 % 2 * 2 ^ 10 + imm / 2 ^ 12) (imm / 2 ^ 8 % 2 ^ 3 * 2 ^ 12 + d * 2 ^ 8 + imm % 2 ^ 8)
 
 -- the code of an instruction, or the first reason, in the order of the faults, why it has none
 abbrev pub encoded_of : Instr → Result Code EncodeFault
@@ -137,6 +168,17 @@ encoded_of (Bl off) = with_field (target_field (2 ^ 24) off) bl_code
 encoded_of (Barrier op option) =
     refused_if (nat_lt 2 op) RegisterRange
     (refused_if (nat_lt 15 option) ImmediateRange (Ok (Pair 0xf3bf (0x8f40 + op * 2 ^ 4 + option))))
+encoded_of (Cbz nonzero n off) =
+    refused_if (nat_lt 7 n) RegisterRange
+    (with_field (cbz_field off) (λ target. Half (0xb100 + from_bool nonzero * 2 ^ 11 + target / 2 ^ 5 * 2 ^ 9 + target % 2 ^ 5 * 2 ^ 3 + n)))
+encoded_of (BWide off) = with_field (target_field (2 ^ 24) off) b_wide_code
+encoded_of (MovW d imm) =
+    refused_if (not (is_general d)) RegisterRange (refused_if (nat_lt 65535 imm) ImmediateRange (Ok (sixteen_code 0xf240 d imm)))
+encoded_of (MovT d imm) =
+    refused_if (not (is_general d)) RegisterRange (refused_if (nat_lt 65535 imm) ImmediateRange (Ok (sixteen_code 0xf2c0 d imm)))
+encoded_of (Div signed d n m) =
+    refused_if (not (is_general d && is_general n && is_general m)) RegisterRange
+    (Ok (Pair (0xfb90 + from_bool (not signed) * 2 ^ 5 + n) (0xf0f0 + d * 2 ^ 8 + m)))
 
 -- the code that an instruction of this size was decoded from
 abbrev pub code_at : ℕ → ℕ → ℕ → Code
@@ -145,4 +187,4 @@ code_at first second size = if size == 2 then Half first else Pair first second
 -- whatever pair of halfwords decodes to the instruction, the result is that pair
 abbrev pub GivesBack : Instr → Result Code EncodeFault → Type 0
 GivesBack i result =
-    (first second size : ℕ) → first < 2 ^ 16 → second < 2 ^ 16 → decoded_of first second ≡ Is i size → result ≡ Ok (code_at first second size)
+    (first second size : ℕ) → first < 2 ^ 16 → second < 2 ^ 16 → decoded_for Two first second ≡ Is i size → result ≡ Ok (code_at first second size)

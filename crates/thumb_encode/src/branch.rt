@@ -1,19 +1,19 @@
 //! Codes of branches, calls, gates and barriers; docs/instruction-set.md states the ranges.
 ghost use Rattle.std.specs.Prelude.{◌≡◌, ℕ, ◌*◌, ◌^◌, ◌<◌, ◌≤◌, ℤ, pos, IfOk};
 ghost use Rattle.thumb_isa.specs.Fields.{signed_half};
-ghost use Rattle.thumb_isa.specs.Rows.{decoded_of};
+ghost use Rattle.thumb_isa.specs.declared.profile.Profile.TheVariants.{One, Two};
 ghost use Rattle.thumb_isa.specs.declared.instr.Decoded.TheVariants.{Is};
-ghost use Rattle.thumb_isa.specs.declared.instr.Instr.TheVariants.{Bx, Blx, BCond, Svc, B, Bl, Barrier};
-ghost use Rattle.thumb_encode.specs.Codes.{IsCodeOf, encoded_of, bl_code};
+ghost use Rattle.thumb_isa.specs.declared.instr.Instr.TheVariants.{Bx, Blx, BCond, Svc, B, Bl, Barrier, Cbz, BWide};
+ghost use Rattle.thumb_encode.specs.Codes.{IsCodeIn, encoded_of, long_code};
 
 use crate::code::Code;
-use crate::operand::target_field;
+use crate::operand::{cbz_field, target_field};
 use thumb_isa::encode_fault::EncodeFault;
 
 /// BX.
 #[tactic(auto, using(thumb_isa::proofs::Table::table))]
 pub fn bx(m: u8) -> Result<Code, EncodeFault>
-    ensures ok { IfOk result (λ code. IsCodeOf code (Bx m)) }
+    ensures ok { IfOk result (λ code. IsCodeIn One code (Bx m)) }
     ensures exact { result ≡ encoded_of (Bx m) }
 {
     if m > 14 {
@@ -25,7 +25,7 @@ pub fn bx(m: u8) -> Result<Code, EncodeFault>
 /// BLX (register).
 #[tactic(auto, using(thumb_isa::proofs::Table::table))]
 pub fn blx(m: u8) -> Result<Code, EncodeFault>
-    ensures ok { IfOk result (λ code. IsCodeOf code (Blx m)) }
+    ensures ok { IfOk result (λ code. IsCodeIn One code (Blx m)) }
     ensures exact { result ≡ encoded_of (Blx m) }
 {
     if m > 14 {
@@ -37,7 +37,7 @@ pub fn blx(m: u8) -> Result<Code, EncodeFault>
 /// B with a condition.
 #[tactic(auto, using(thumb_isa::proofs::Table::table))]
 pub fn b_cond(cond: u8, off: i32) -> Result<Code, EncodeFault>
-    ensures ok { IfOk result (λ code. IsCodeOf code (BCond cond off)) }
+    ensures ok { IfOk result (λ code. IsCodeIn One code (BCond cond off)) }
     ensures exact { result ≡ encoded_of (BCond cond off) }
 {
     if cond > 13 {
@@ -50,7 +50,7 @@ pub fn b_cond(cond: u8, off: i32) -> Result<Code, EncodeFault>
 /// SVC.
 #[tactic(auto, using(thumb_isa::proofs::Table::table))]
 pub fn svc(imm: u32) -> Result<Code, EncodeFault>
-    ensures ok { IfOk result (λ code. IsCodeOf code (Svc imm)) }
+    ensures ok { IfOk result (λ code. IsCodeIn One code (Svc imm)) }
     ensures exact { result ≡ encoded_of (Svc imm) }
 {
     if imm > 255 {
@@ -62,7 +62,7 @@ pub fn svc(imm: u32) -> Result<Code, EncodeFault>
 /// B without a condition.
 #[tactic(auto, using(thumb_isa::proofs::Table::table))]
 pub fn b(off: i32) -> Result<Code, EncodeFault>
-    ensures ok { IfOk result (λ code. IsCodeOf code (B off)) }
+    ensures ok { IfOk result (λ code. IsCodeIn One code (B off)) }
     ensures exact { result ≡ encoded_of (B off) }
 {
     let target = target_field(off, 0x800)?;
@@ -70,34 +70,63 @@ pub fn b(off: i32) -> Result<Code, EncodeFault>
 }
 
 /// BL.
-#[tactic(auto, using(thumb_isa::proofs::Table::table))]
 pub fn bl(off: i32) -> Result<Code, EncodeFault>
-    ensures ok { IfOk result (λ code. IsCodeOf code (Bl off)) }
+    ensures ok { IfOk result (λ code. IsCodeIn One code (Bl off)) }
     ensures exact { result ≡ encoded_of (Bl off) }
 {
     let target = target_field(off, 0x100_0000)?;
-    Ok(pair_of(target))
+    Ok(pair_of(0xd000, target))
 }
 
-/// The two halfwords of a BL, by the low 24 bits of half the offset.
-#[tactic(auto, using(crate::proofs::Long::bl_code))]
-fn pair_of(target: u32) -> Code
-    requires { target < 2 ^ 24 }
-    ensures exact { result ≡ bl_code target }
-    ensures decodes { (off : ℤ) → signed_half 0x1000000 (target * 2) ≡ off → IsCodeOf result (Bl off) }
+/// B with two halfwords.
+pub fn b_wide(off: i32) -> Result<Code, EncodeFault>
+    ensures ok { IfOk result (λ code. IsCodeIn Two code (BWide off)) }
+    ensures exact { result ≡ encoded_of (BWide off) }
+{
+    let target = target_field(off, 0x100_0000)?;
+    Ok(pair_of(0x9000, target))
+}
+
+/// The two halfwords of a BL, or of a B with two, by the low 24 bits of half the offset; the second begins with the bits of `base`.
+#[tactic(auto, using(crate::proofs::Long::bl_code, crate::proofs::Long::b_wide_code))]
+fn pair_of(base: u32, target: u32) -> Code
+    requires low { target < 2 ^ 24 }
+    requires base_in { base ≤ 0xd000 }
+    ensures exact { result ≡ long_code base target }
+    ensures bl { base ≡ 0xd000 → (off : ℤ) → signed_half 0x1000000 (target * 2) ≡ off → IsCodeIn One result (Bl off) }
+    ensures b_wide { base ≡ 0x9000 → (off : ℤ) → signed_half 0x1000000 (target * 2) ≡ off → IsCodeIn Two result (BWide off) }
 {
     let sign = target >> 23;
     let j1 = u32::from((target >> 22) % 2 == sign);
     let j2 = u32::from((target >> 21) % 2 == sign);
     Code::Pair(
         (0xf000 + (sign << 10) + (target >> 11) % 0x400) as u16,
-        (0xd000 + (j1 << 13) + (j2 << 11) + target % 0x800) as u16,
+        (base + (j1 << 13) + (j2 << 11) + target % 0x800) as u16,
     )
+}
+
+/// CBZ, CBNZ.
+#[tactic(auto, using(crate::proofs::LateForms::cbz_code))]
+pub fn cbz(nonzero: bool, n: u8, off: i32) -> Result<Code, EncodeFault>
+    ensures ok { IfOk result (λ code. IsCodeIn Two code (Cbz nonzero n off)) }
+    ensures exact { result ≡ encoded_of (Cbz nonzero n off) }
+{
+    if n > 7 {
+        return Err(EncodeFault::RegisterRange);
+    }
+    let target = cbz_field(off)?;
+    Ok(Code::Half(
+        0xb100
+            + (u16::from(nonzero) << 11)
+            + (target >> 5 << 9)
+            + (target % 32 << 3)
+            + u16::from(n),
+    ))
 }
 
 /// DSB, DMB, ISB.
 pub fn barrier(op: u8, option: u8) -> Result<Code, EncodeFault>
-    ensures ok { IfOk result (λ code. IsCodeOf code (Barrier op option)) }
+    ensures ok { IfOk result (λ code. IsCodeIn One code (Barrier op option)) }
     ensures exact { result ≡ encoded_of (Barrier op option) }
 {
     if op > 2 {

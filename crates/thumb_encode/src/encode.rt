@@ -1,18 +1,19 @@
 //! From an instruction to its code, the inverse of the decoder; docs/instruction-set.md states the table.
 ghost use Rattle.std.specs.Prelude.{◌≡◌, IfOk, OnErr};
-ghost use Rattle.thumb_encode.specs.Codes.{IsCodeOf, HasNoCode, GivesBack, encoded_of};
+ghost use Rattle.thumb_encode.specs.Codes.{IsCodeIn, IsCodeOf, HasNoCode, GivesBack, encoded_of, least_profile};
 
 use crate::code::Code;
-use crate::{branch, lists, memory, registers};
+use crate::{branch, lists, memory, registers, wide};
 use thumb_isa::encode_fault::EncodeFault;
 use thumb_isa::instr::Instr;
 
 /// The code of an instruction: Ok exactly where some code decodes to it, and else the first of the faults in their
-/// order. No two codes decode to the same instruction.
-#[tactic(auto, using(crate::proofs::Inverse::refused_is_no_code, crate::proofs::Inverse::given_back))]
+/// order. No two codes decode to the same instruction. What the first profile has decodes from its code in both.
+#[tactic(auto, using(crate::proofs::Inverse::refused_is_no_code, crate::proofs::Inverse::given_back, crate::proofs::LateForms::ok_in_second))]
 pub fn encode(i: &Instr) -> Result<Code, EncodeFault>
     ensures exact { result ≡ encoded_of i.now }
     ensures ok { IfOk result (λ code. IsCodeOf code i.now) }
+    ensures least { IfOk result (λ code. IsCodeIn (least_profile i.now) code i.now) }
     ensures only { OnErr result (HasNoCode i.now) }
     ensures inverse { GivesBack i.now result }
 {
@@ -21,7 +22,7 @@ pub fn encode(i: &Instr) -> Result<Code, EncodeFault>
 
 /// The code by the form of the instruction.
 fn code_of(i: &Instr) -> Result<Code, EncodeFault>
-    ensures ok { IfOk result (λ code. IsCodeOf code i.now) }
+    ensures ok { IfOk result (λ code. IsCodeIn (least_profile i.now) code i.now) }
     ensures exact { result ≡ encoded_of i.now }
 {
     match *i {
@@ -55,5 +56,10 @@ fn code_of(i: &Instr) -> Result<Code, EncodeFault>
         Instr::B { off } => branch::b(off),
         Instr::Bl { off } => branch::bl(off),
         Instr::Barrier { op, option } => branch::barrier(op, option),
+        Instr::Cbz { nonzero, n, off } => branch::cbz(nonzero, n, off),
+        Instr::BWide { off } => branch::b_wide(off),
+        Instr::MovW { d, imm } => wide::mov_w(d, imm),
+        Instr::MovT { d, imm } => wide::mov_t(d, imm),
+        Instr::Div { signed, d, n, m } => wide::div(signed, d, n, m),
     }
 }

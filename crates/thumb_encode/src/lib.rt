@@ -1,4 +1,5 @@
-//! The code of an instruction of the ARMv6-M profile (Armv6-M Architecture Reference Manual, DDI 0419).
+//! The code of an instruction of ARMv6-M (Armv6-M Architecture Reference Manual, DDI 0419), and of the six rows of ARMv8-M Baseline
+//! (DDI 0553) that the second profile has besides.
 #![tactic(auto)]
 
 mod branch;
@@ -8,6 +9,7 @@ mod lists;
 mod memory;
 mod operand;
 mod registers;
+mod wide;
 
 pub use code::Code;
 pub use thumb_isa::encode_fault::EncodeFault;

@@ -1,9 +1,9 @@
 //! Codes of PUSH, POP, STM and LDM.
 ghost use Rattle.std.specs.Prelude.{◌≡◌, ℕ, ◌*◌, ◌^◌, ◌<◌, ◌≤◌, ℤ, pos, IfOk};
-ghost use Rattle.thumb_isa.specs.Rows.{decoded_of};
+ghost use Rattle.thumb_isa.specs.declared.profile.Profile.TheVariants.{One};
 ghost use Rattle.thumb_isa.specs.declared.instr.Decoded.TheVariants.{Is};
 ghost use Rattle.thumb_isa.specs.declared.instr.Instr.TheVariants.{Push, Pop, Stm, Ldm};
-ghost use Rattle.thumb_encode.specs.Codes.{IsCodeOf, encoded_of};
+ghost use Rattle.thumb_encode.specs.Codes.{IsCodeIn, encoded_of};
 
 use crate::code::Code;
 use thumb_isa::encode_fault::EncodeFault;
@@ -12,7 +12,7 @@ use thumb_isa::fields::field;
 /// PUSH.
 #[tactic(auto, using(thumb_isa::proofs::Table::table))]
 pub fn push(list: u16) -> Result<Code, EncodeFault>
-    ensures ok { IfOk result (λ code. IsCodeOf code (Push list)) }
+    ensures ok { IfOk result (λ code. IsCodeIn One code (Push list)) }
     ensures exact { result ≡ encoded_of (Push list) }
 {
     let low = list % 0x100;
@@ -29,7 +29,7 @@ pub fn push(list: u16) -> Result<Code, EncodeFault>
 /// POP.
 #[tactic(auto, using(thumb_isa::proofs::Table::table))]
 pub fn pop(list: u16) -> Result<Code, EncodeFault>
-    ensures ok { IfOk result (λ code. IsCodeOf code (Pop list)) }
+    ensures ok { IfOk result (λ code. IsCodeIn One code (Pop list)) }
     ensures exact { result ≡ encoded_of (Pop list) }
 {
     let low = list % 0x100;
@@ -46,7 +46,7 @@ pub fn pop(list: u16) -> Result<Code, EncodeFault>
 /// STM: the base may be in the list only as its lowest register.
 #[tactic(auto, using(crate::proofs::Forms::stm_code))]
 pub fn stm(n: u8, list: u16) -> Result<Code, EncodeFault>
-    ensures ok { IfOk result (λ code. IsCodeOf code (Stm n list)) }
+    ensures ok { IfOk result (λ code. IsCodeIn One code (Stm n list)) }
     ensures exact { result ≡ encoded_of (Stm n list) }
 {
     if n > 7 || list > 0xff {
@@ -65,7 +65,7 @@ pub fn stm(n: u8, list: u16) -> Result<Code, EncodeFault>
 /// LDM.
 #[tactic(auto, using(thumb_isa::proofs::Table::table))]
 pub fn ldm(n: u8, list: u16) -> Result<Code, EncodeFault>
-    ensures ok { IfOk result (λ code. IsCodeOf code (Ldm n list)) }
+    ensures ok { IfOk result (λ code. IsCodeIn One code (Ldm n list)) }
     ensures exact { result ≡ encoded_of (Ldm n list) }
 {
     if n > 7 || list > 0xff {

@@ -1,9 +1,9 @@
 //! Codes of loads, stores and addresses.
 ghost use Rattle.std.specs.Prelude.{◌≡◌, ℕ, ◌*◌, ◌^◌, ◌<◌, ◌≤◌, ℤ, pos, IfOk};
-ghost use Rattle.thumb_isa.specs.Rows.{decoded_of};
+ghost use Rattle.thumb_isa.specs.declared.profile.Profile.TheVariants.{One};
 ghost use Rattle.thumb_isa.specs.declared.instr.Decoded.TheVariants.{Is};
 ghost use Rattle.thumb_isa.specs.declared.instr.Instr.TheVariants.{LdrLit, MemReg, MemImm, MemSp, Adr, AddRdSp, AddSp, SubSp};
-ghost use Rattle.thumb_encode.specs.Codes.{IsCodeOf, encoded_of};
+ghost use Rattle.thumb_encode.specs.Codes.{IsCodeIn, encoded_of};
 
 use crate::code::Code;
 use crate::operand::{byte_field, half_field, low_fields, word_field};
@@ -12,7 +12,7 @@ use thumb_isa::encode_fault::EncodeFault;
 /// LDR (literal).
 #[tactic(auto, using(thumb_isa::proofs::Table::table))]
 pub fn ldr_lit(t: u8, off: i32) -> Result<Code, EncodeFault>
-    ensures ok { IfOk result (λ code. IsCodeOf code (LdrLit t off)) }
+    ensures ok { IfOk result (λ code. IsCodeIn One code (LdrLit t off)) }
     ensures exact { result ≡ encoded_of (LdrLit t off) }
 {
     if t > 7 {
@@ -25,7 +25,7 @@ pub fn ldr_lit(t: u8, off: i32) -> Result<Code, EncodeFault>
 /// Loads and stores at a register plus a register.
 #[tactic(auto, using(thumb_isa::proofs::Table::table))]
 pub fn mem_reg(op: u8, t: u8, n: u8, m: u8) -> Result<Code, EncodeFault>
-    ensures ok { IfOk result (λ code. IsCodeOf code (MemReg op t n m)) }
+    ensures ok { IfOk result (λ code. IsCodeIn One code (MemReg op t n m)) }
     ensures exact { result ≡ encoded_of (MemReg op t n m) }
 {
     if op > 7 || t > 7 || n > 7 || m > 7 {
@@ -37,7 +37,7 @@ pub fn mem_reg(op: u8, t: u8, n: u8, m: u8) -> Result<Code, EncodeFault>
 /// Loads and stores at a register plus an offset.
 #[tactic(auto, using(thumb_isa::proofs::Table::table))]
 pub fn mem_imm(op: u8, t: u8, n: u8, off: i32) -> Result<Code, EncodeFault>
-    ensures ok { IfOk result (λ code. IsCodeOf code (MemImm op t n off)) }
+    ensures ok { IfOk result (λ code. IsCodeIn One code (MemImm op t n off)) }
     ensures exact { result ≡ encoded_of (MemImm op t n off) }
 {
     if op > 5 || t > 7 || n > 7 {
@@ -56,7 +56,7 @@ fn mem_word(op: u8, t: u8, n: u8, off: i32) -> Result<Code, EncodeFault>
     requires op_in { op < 2 }
     requires t_in { t < 8 }
     requires n_in { n < 8 }
-    ensures ok { IfOk result (λ code. IsCodeOf code (MemImm op t n off)) }
+    ensures ok { IfOk result (λ code. IsCodeIn One code (MemImm op t n off)) }
     ensures exact { result ≡ encoded_of (MemImm op t n off) }
 {
     let words = word_field(off, 124)?;
@@ -70,7 +70,7 @@ fn mem_byte(op: u8, t: u8, n: u8, off: i32) -> Result<Code, EncodeFault>
     requires op_high { op < 4 }
     requires t_in { t < 8 }
     requires n_in { n < 8 }
-    ensures ok { IfOk result (λ code. IsCodeOf code (MemImm op t n off)) }
+    ensures ok { IfOk result (λ code. IsCodeIn One code (MemImm op t n off)) }
     ensures exact { result ≡ encoded_of (MemImm op t n off) }
 {
     let bytes = byte_field(off, 31)?;
@@ -84,7 +84,7 @@ fn mem_half(op: u8, t: u8, n: u8, off: i32) -> Result<Code, EncodeFault>
     requires op_high { op < 6 }
     requires t_in { t < 8 }
     requires n_in { n < 8 }
-    ensures ok { IfOk result (λ code. IsCodeOf code (MemImm op t n off)) }
+    ensures ok { IfOk result (λ code. IsCodeIn One code (MemImm op t n off)) }
     ensures exact { result ≡ encoded_of (MemImm op t n off) }
 {
     let halves = half_field(off, 62)?;
@@ -93,7 +93,7 @@ fn mem_half(op: u8, t: u8, n: u8, off: i32) -> Result<Code, EncodeFault>
 
 /// STR, LDR (immediate) relative to sp.
 pub fn mem_sp(load: bool, t: u8, off: i32) -> Result<Code, EncodeFault>
-    ensures ok { IfOk result (λ code. IsCodeOf code (MemSp load t off)) }
+    ensures ok { IfOk result (λ code. IsCodeIn One code (MemSp load t off)) }
     ensures exact { result ≡ encoded_of (MemSp load t off) }
 {
     if t > 7 {
@@ -106,7 +106,7 @@ pub fn mem_sp(load: bool, t: u8, off: i32) -> Result<Code, EncodeFault>
 /// ADR.
 #[tactic(auto, using(thumb_isa::proofs::Table::table))]
 pub fn adr(d: u8, off: i32) -> Result<Code, EncodeFault>
-    ensures ok { IfOk result (λ code. IsCodeOf code (Adr d off)) }
+    ensures ok { IfOk result (λ code. IsCodeIn One code (Adr d off)) }
     ensures exact { result ≡ encoded_of (Adr d off) }
 {
     if d > 7 {
@@ -119,7 +119,7 @@ pub fn adr(d: u8, off: i32) -> Result<Code, EncodeFault>
 /// ADD (SP plus immediate) into a low register.
 #[tactic(auto, using(thumb_isa::proofs::Table::table))]
 pub fn add_rd_sp(d: u8, off: i32) -> Result<Code, EncodeFault>
-    ensures ok { IfOk result (λ code. IsCodeOf code (AddRdSp d off)) }
+    ensures ok { IfOk result (λ code. IsCodeIn One code (AddRdSp d off)) }
     ensures exact { result ≡ encoded_of (AddRdSp d off) }
 {
     if d > 7 {
@@ -132,7 +132,7 @@ pub fn add_rd_sp(d: u8, off: i32) -> Result<Code, EncodeFault>
 /// ADD (SP plus immediate) into sp.
 #[tactic(auto, using(thumb_isa::proofs::Table::table))]
 pub fn add_sp(off: i32) -> Result<Code, EncodeFault>
-    ensures ok { IfOk result (λ code. IsCodeOf code (AddSp off)) }
+    ensures ok { IfOk result (λ code. IsCodeIn One code (AddSp off)) }
     ensures exact { result ≡ encoded_of (AddSp off) }
 {
     let words = word_field(off, 508)?;
@@ -142,7 +142,7 @@ pub fn add_sp(off: i32) -> Result<Code, EncodeFault>
 /// SUB (SP minus immediate).
 #[tactic(auto, using(thumb_isa::proofs::Table::table))]
 pub fn sub_sp(off: i32) -> Result<Code, EncodeFault>
-    ensures ok { IfOk result (λ code. IsCodeOf code (SubSp off)) }
+    ensures ok { IfOk result (λ code. IsCodeIn One code (SubSp off)) }
     ensures exact { result ≡ encoded_of (SubSp off) }
 {
     let words = word_field(off, 508)?;

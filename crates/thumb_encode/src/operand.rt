@@ -1,7 +1,7 @@
 //! Operands in the fields of a code: which fit, and where they stand.
 ghost use Rattle.std.specs.Prelude.{◌≡◌, ◌+◌, ◌*◌, ◌/◌, ◌%◌, ◌^◌, ◌<◌, ◌≤◌, pos, IfOk};
 ghost use Rattle.thumb_isa.specs.Fields.{signed_half};
-ghost use Rattle.thumb_encode.specs.Codes.{target_field, offset_field};
+ghost use Rattle.thumb_encode.specs.Codes.{target_field, offset_field, cbz_field};
 
 use thumb_isa::encode_fault::EncodeFault;
 
@@ -36,6 +36,17 @@ pub fn target_field(off: i32, half: u32) -> Result<u32, EncodeFault>
     }
     let value = if off < 0 { off + 2 * limit } else { off };
     Ok(value as u32 / 2)
+}
+
+/// The field of the offset of a CBZ: half of it.
+pub fn cbz_field(off: i32) -> Result<u16, EncodeFault>
+    ensures ok { IfOk result (λ field. (field < 64) × (pos (field * 2) ≡ off)) }
+    ensures exact { result ≡ cbz_field off }
+{
+    if off < 0 || off > 126 || off % 2 != 0 {
+        return Err(EncodeFault::TargetRange);
+    }
+    Ok(off as u16 / 2)
 }
 
 /// The field of an offset in bytes.

@@ -1,9 +1,9 @@
 //! Codes of shifts, data processing and moves of registers.
 ghost use Rattle.std.specs.Prelude.{◌≡◌, ℕ, ◌*◌, ◌^◌, ◌<◌, ◌≤◌, ℤ, pos, IfOk};
-ghost use Rattle.thumb_isa.specs.Rows.{decoded_of};
+ghost use Rattle.thumb_isa.specs.declared.profile.Profile.TheVariants.{One};
 ghost use Rattle.thumb_isa.specs.declared.instr.Decoded.TheVariants.{Is};
 ghost use Rattle.thumb_isa.specs.declared.instr.Instr.TheVariants.{ShiftImm, AddSubReg, AddSubImm3, Imm8, Alu, AddHigh, CmpHigh, MovHigh, Extend, Rev, Hint};
-ghost use Rattle.thumb_encode.specs.Codes.{IsCodeOf, encoded_of};
+ghost use Rattle.thumb_encode.specs.Codes.{IsCodeIn, encoded_of};
 
 use crate::code::Code;
 use crate::operand::{high_fields, low_fields};
@@ -12,7 +12,7 @@ use thumb_isa::encode_fault::EncodeFault;
 /// LSL, LSR, ASR (immediate).
 #[tactic(auto, using(thumb_isa::proofs::Table::table))]
 pub fn shift(op: u8, d: u8, m: u8, n: u32) -> Result<Code, EncodeFault>
-    ensures ok { IfOk result (λ code. IsCodeOf code (ShiftImm op d m n)) }
+    ensures ok { IfOk result (λ code. IsCodeIn One code (ShiftImm op d m n)) }
     ensures exact { result ≡ encoded_of (ShiftImm op d m n) }
 {
     if op > 2 || d > 7 || m > 7 {
@@ -34,7 +34,7 @@ pub fn shift(op: u8, d: u8, m: u8, n: u32) -> Result<Code, EncodeFault>
 /// ADD, SUB (register).
 #[tactic(auto, using(thumb_isa::proofs::Table::table))]
 pub fn add_sub_reg(sub: bool, d: u8, n: u8, m: u8) -> Result<Code, EncodeFault>
-    ensures ok { IfOk result (λ code. IsCodeOf code (AddSubReg sub d n m)) }
+    ensures ok { IfOk result (λ code. IsCodeIn One code (AddSubReg sub d n m)) }
     ensures exact { result ≡ encoded_of (AddSubReg sub d n m) }
 {
     if d > 7 || n > 7 || m > 7 {
@@ -46,7 +46,7 @@ pub fn add_sub_reg(sub: bool, d: u8, n: u8, m: u8) -> Result<Code, EncodeFault>
 /// ADD, SUB (immediate) with three bits.
 #[tactic(auto, using(thumb_isa::proofs::Table::table))]
 pub fn add_sub_imm(sub: bool, d: u8, n: u8, imm: u32) -> Result<Code, EncodeFault>
-    ensures ok { IfOk result (λ code. IsCodeOf code (AddSubImm3 sub d n imm)) }
+    ensures ok { IfOk result (λ code. IsCodeIn One code (AddSubImm3 sub d n imm)) }
     ensures exact { result ≡ encoded_of (AddSubImm3 sub d n imm) }
 {
     if d > 7 || n > 7 {
@@ -61,7 +61,7 @@ pub fn add_sub_imm(sub: bool, d: u8, n: u8, imm: u32) -> Result<Code, EncodeFaul
 /// MOV, CMP, ADD, SUB (immediate) with eight bits.
 #[tactic(auto, using(thumb_isa::proofs::Table::table))]
 pub fn imm8(op: u8, d: u8, imm: u32) -> Result<Code, EncodeFault>
-    ensures ok { IfOk result (λ code. IsCodeOf code (Imm8 op d imm)) }
+    ensures ok { IfOk result (λ code. IsCodeIn One code (Imm8 op d imm)) }
     ensures exact { result ≡ encoded_of (Imm8 op d imm) }
 {
     if op > 3 || d > 7 {
@@ -76,7 +76,7 @@ pub fn imm8(op: u8, d: u8, imm: u32) -> Result<Code, EncodeFault>
 /// Data processing of two low registers.
 #[tactic(auto, using(thumb_isa::proofs::Table::table))]
 pub fn alu(op: u8, d: u8, m: u8) -> Result<Code, EncodeFault>
-    ensures ok { IfOk result (λ code. IsCodeOf code (Alu op d m)) }
+    ensures ok { IfOk result (λ code. IsCodeIn One code (Alu op d m)) }
     ensures exact { result ≡ encoded_of (Alu op d m) }
 {
     if op > 15 || d > 7 || m > 7 {
@@ -88,7 +88,7 @@ pub fn alu(op: u8, d: u8, m: u8) -> Result<Code, EncodeFault>
 /// ADD (register) of any registers.
 #[tactic(auto, using(thumb_isa::proofs::Table::table))]
 pub fn add_high(d: u8, m: u8) -> Result<Code, EncodeFault>
-    ensures ok { IfOk result (λ code. IsCodeOf code (AddHigh d m)) }
+    ensures ok { IfOk result (λ code. IsCodeIn One code (AddHigh d m)) }
     ensures exact { result ≡ encoded_of (AddHigh d m) }
 {
     if d > 15 || m > 15 || d == 15 && m == 15 {
@@ -100,7 +100,7 @@ pub fn add_high(d: u8, m: u8) -> Result<Code, EncodeFault>
 /// CMP (register) with a high register.
 #[tactic(auto, using(thumb_isa::proofs::Table::table))]
 pub fn cmp_high(n: u8, m: u8) -> Result<Code, EncodeFault>
-    ensures ok { IfOk result (λ code. IsCodeOf code (CmpHigh n m)) }
+    ensures ok { IfOk result (λ code. IsCodeIn One code (CmpHigh n m)) }
     ensures exact { result ≡ encoded_of (CmpHigh n m) }
 {
     if n > 14 || m > 14 || n < 8 && m < 8 {
@@ -112,7 +112,7 @@ pub fn cmp_high(n: u8, m: u8) -> Result<Code, EncodeFault>
 /// MOV (register) of any registers.
 #[tactic(auto, using(thumb_isa::proofs::Table::table))]
 pub fn mov_high(d: u8, m: u8) -> Result<Code, EncodeFault>
-    ensures ok { IfOk result (λ code. IsCodeOf code (MovHigh d m)) }
+    ensures ok { IfOk result (λ code. IsCodeIn One code (MovHigh d m)) }
     ensures exact { result ≡ encoded_of (MovHigh d m) }
 {
     if d > 15 || m > 15 {
@@ -124,7 +124,7 @@ pub fn mov_high(d: u8, m: u8) -> Result<Code, EncodeFault>
 /// SXTH, SXTB, UXTH, UXTB.
 #[tactic(auto, using(thumb_isa::proofs::Table::table))]
 pub fn extend(op: u8, d: u8, m: u8) -> Result<Code, EncodeFault>
-    ensures ok { IfOk result (λ code. IsCodeOf code (Extend op d m)) }
+    ensures ok { IfOk result (λ code. IsCodeIn One code (Extend op d m)) }
     ensures exact { result ≡ encoded_of (Extend op d m) }
 {
     if op > 3 || d > 7 || m > 7 {
@@ -136,7 +136,7 @@ pub fn extend(op: u8, d: u8, m: u8) -> Result<Code, EncodeFault>
 /// REV, REV16, REVSH.
 #[tactic(auto, using(thumb_isa::proofs::Table::table))]
 pub fn reverse(op: u8, d: u8, m: u8) -> Result<Code, EncodeFault>
-    ensures ok { IfOk result (λ code. IsCodeOf code (Rev op d m)) }
+    ensures ok { IfOk result (λ code. IsCodeIn One code (Rev op d m)) }
     ensures exact { result ≡ encoded_of (Rev op d m) }
 {
     if op > 3 || op == 2 || d > 7 || m > 7 {
@@ -148,7 +148,7 @@ pub fn reverse(op: u8, d: u8, m: u8) -> Result<Code, EncodeFault>
 /// NOP, YIELD, WFE, WFI, SEV and the other hints.
 #[tactic(auto, using(thumb_isa::proofs::Table::table))]
 pub fn hint(n: u8) -> Result<Code, EncodeFault>
-    ensures ok { IfOk result (λ code. IsCodeOf code (Hint n)) }
+    ensures ok { IfOk result (λ code. IsCodeIn One code (Hint n)) }
     ensures exact { result ≡ encoded_of (Hint n) }
 {
     if n > 15 {

@@ -94,7 +94,7 @@ cond_cases : (a each goal : Bool) → cond a true each ≡ true → (a ≡ true 
 cond_cases true each goal h f g = f refl
 cond_cases false each goal h f g = g h
 
-fits_none : (k mask value low h : ℕ) → h / 2 ^ k ≡ low / 2 ^ k → not (fits_above k mask value low) ≡ true → not (bit_and h mask == value) ≡ true
+pub fits_none : (k mask value low h : ℕ) → h / 2 ^ k ≡ low / 2 ^ k → not (fits_above k mask value low) ≡ true → not (bit_and h mask == value) ≡ true
 fits_none k mask value low h e t =
     not_of (bit_and h mask == value)
     (λ fits.
@@ -112,7 +112,7 @@ none_in_at mask value low n t h above below =
     fits_none k mask value low h (same_block k low n h two.0 above below) two.1)
     (λ each. all_from_at (λ h. not (bit_and h mask == value)) n low each h above below)
 
-fits_all : (k mask value low h : ℕ) → h / 2 ^ k ≡ low / 2 ^ k → (mask % 2 ^ k == 0) ≡ true → (value % 2 ^ k == 0) ≡ true → fits_above k mask value low ≡ true → (bit_and h mask == value) ≡ true
+pub fits_all : (k mask value low h : ℕ) → h / 2 ^ k ≡ low / 2 ^ k → (mask % 2 ^ k == 0) ≡ true → (value % 2 ^ k == 0) ≡ true → fits_above k mask value low ≡ true → (bit_and h mask == value) ≡ true
 fits_all k mask value low h e m v t =
     let high : bit_and h mask / 2 ^ k ≡ value / 2 ^ k = above_of k mask low h e ∙ eq_of _ _ t in
     let low_bits : bit_and h mask % 2 ^ k ≡ 0 = and_mod h mask k ∙ ap (λ m. bit_and (h % 2 ^ k) m) (eq_of _ _ m) ∙ and_zero_r (h % 2 ^ k) in

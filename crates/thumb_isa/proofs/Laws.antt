@@ -11,14 +11,14 @@ use Rattle.thumb_isa.proofs.Blocks.{both}
 use Rattle.thumb_isa.proofs.Search.{kept, drops_no_fit, first_fit-kept, decoded_by}
 
 -- the rows of one halfword, and those of two
-abbrev narrow_rows : List Row → List Bool
+abbrev pub narrow_rows : List Row → List Bool
 narrow_rows rs = map (λ row. is_none row.second) rs
 
-abbrev wide_rows : List Row → List Bool
+abbrev pub wide_rows : List Row → List Bool
 wide_rows rs = map (λ row. is_some row.second) rs
 
 -- the first halfword of each row of two is 0xe800 or above
-abbrev start_high : List Row → Bool
+abbrev pub start_high : List Row → Bool
 start_high rs = list_all (λ row. is_none row.second || nat_le 0xe800 row.value) rs
 
 drop_cases : (b : Bool) (ks : List Bool) (row : Row) (more : List Row) (first : ℕ)
@@ -30,7 +30,7 @@ drop_cases false ks row more first h below later =
     apart : (value : ℕ) → 0xe800 ≤ value → not (bit_and first row.mask == value) ≡ true
     apart value l = rw (ne_eqb (bit_and first row.mask) value (λ e. omega (arith, e, and_le_l first row.mask, below, l))) refl
 
-drops-narrow : (rs : List Row) (first : ℕ) → start_high rs ≡ true → first < 0xe800 → drops_no_fit (narrow_rows rs) rs first ≡ true
+pub drops-narrow : (rs : List Row) (first : ℕ) → start_high rs ≡ true → first < 0xe800 → drops_no_fit (narrow_rows rs) rs first ≡ true
 drops-narrow [] first h below = refl
 drops-narrow (row ∷ more) first h below =
     let two = both (is_none row.second || nat_le 0xe800 row.value) (start_high more) h in
@@ -45,13 +45,13 @@ pub alone : (first second other : ℕ) → first < 0xe800 → decoded_of first s
 alone first second other below = narrow_fit first second below ∙ sym (narrow_fit first other below)
 
 -- the size in bytes, where it is an instruction
-abbrev is_of_size : ℕ → Decoded → Bool
+abbrev pub is_of_size : ℕ → Decoded → Bool
 is_of_size n (Is i size) = size == n
 is_of_size n Undefined = true
 is_of_size n Unpredictable = true
 is_of_size n NotInProfile = true
 
-from_test : (n : ℕ) (d : Decoded) → is_of_size n d ≡ true → IsOfSize n d
+pub from_test : (n : ℕ) (d : Decoded) → is_of_size n d ≡ true → IsOfSize n d
 from_test n (Is i size) h = eqb-true size n h
 from_test n Undefined h = tt
 from_test n Unpredictable h = tt
@@ -61,7 +61,7 @@ either : (n : ℕ) (b : Bool) (x y : Decoded) → is_of_size n x ≡ true → is
 either n true x y p q = p
 either n false x y p q = q
 
-first_fit-size : (n : ℕ) (rs : List Row) (first second : ℕ) → list_all (λ row. is_of_size n (row.means first second)) rs ≡ true → is_of_size n (first_fit rs first second) ≡ true
+pub first_fit-size : (n : ℕ) (rs : List Row) (first second : ℕ) → list_all (λ row. is_of_size n (row.means first second)) rs ≡ true → is_of_size n (first_fit rs first second) ≡ true
 first_fit-size n [] first second h = refl
 first_fit-size n (row ∷ more) first second h =
     let two = both (is_of_size n (row.means first second)) (list_all (λ row. is_of_size n (row.means first second)) more) h in

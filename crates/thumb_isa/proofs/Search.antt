@@ -16,10 +16,10 @@ meaning_at i [] first second = Undefined
 meaning_at zero (row ∷ more) first second = row.means first second
 meaning_at (suc i) (row ∷ more) first second = meaning_at i more first second
 
-cond_true : {A : Type 0} (b : Bool) (x y : A) → b ≡ true → cond b x y ≡ x
+pub cond_true : {A : Type 0} (b : Bool) (x y : A) → b ≡ true → cond b x y ≡ x
 cond_true b x y h = rw h
 
-cond_not : {A : Type 0} (b : Bool) (x y : A) → not b ≡ true → cond b x y ≡ y
+pub cond_not : {A : Type 0} (b : Bool) (x y : A) → not b ≡ true → cond b x y ≡ y
 cond_not true x y h = cc
 cond_not false x y h = refl
 
@@ -31,7 +31,7 @@ first_fit-at (suc i) (row ∷ more) first second h =
     let two = both (not (fits row first second)) (stops_at i more first second) h in
     cond_not (fits row first second) _ _ two.0 ∙ first_fit-at i more first second two.1
 
-implied : (a b : Bool) → (not a || b) ≡ true → a ≡ true → b ≡ true
+pub implied : (a b : Bool) → (not a || b) ≡ true → a ≡ true → b ≡ true
 implied true b h e = h
 implied false b h e = cc
 
@@ -54,7 +54,7 @@ stops_in i [] low n = true
 stops_in zero (row ∷ more) low n = is_single row.second && all_in row.mask row.value low n
 stops_in (suc i) (row ∷ more) low n = none_in row.mask row.value low n && stops_in i more low n
 
-and_both : (a b : Bool) → a ≡ true → b ≡ true → (a && b) ≡ true
+pub and_both : (a b : Bool) → a ≡ true → b ≡ true → (a && b) ≡ true
 and_both true b p q = q
 and_both false b p q = p
 
@@ -66,7 +66,7 @@ no_fit : (a b : Bool) → not a ≡ true → not (a && b) ≡ true
 no_fit true b h = cc
 no_fit false b h = refl
 
-stops_at-in : (i : ℕ) (rs : List Row) (low n second : ℕ) → stops_in i rs low n ≡ true → (first : ℕ) → low ≤ first → first < low + n → stops_at i rs first second ≡ true
+pub stops_at-in : (i : ℕ) (rs : List Row) (low n second : ℕ) → stops_in i rs low n ≡ true → (first : ℕ) → low ≤ first → first < low + n → stops_at i rs first second ≡ true
 stops_at-in zero [] low n second h first above below = refl
 stops_at-in (suc i) [] low n second h first above below = refl
 stops_at-in zero (row ∷ more) low n second h first above below =
@@ -113,14 +113,14 @@ stops_over zero (row ∷ more) low n low_2 m = all_in row.mask row.value low n &
 stops_over (suc i) (row ∷ more) low n low_2 m =
     skips_all row low n low_2 m && stops_over i more low n low_2 m
 
-skip_cases : (a b p q : Bool) → cond a true b ≡ true → (a ≡ true → not p ≡ true) → (b ≡ true → not q ≡ true) → not (p && q) ≡ true
+pub skip_cases : (a b p q : Bool) → cond a true b ≡ true → (a ≡ true → not p ≡ true) → (b ≡ true → not q ≡ true) → not (p && q) ≡ true
 skip_cases true b false q h f g = refl
 skip_cases true b true q h f g = let e : false ≡ true = f refl in cc
 skip_cases false b false q h f g = refl
 skip_cases false b true q h f g = g h
 
 module _ (low n low_2 m first second : ℕ) (above : low ≤ first) (below : first < low + n) (above_2 : low_2 ≤ second) (below_2 : second < low_2 + m) where
-  stops_at-over : (i : ℕ) (rs : List Row) → stops_over i rs low n low_2 m ≡ true → stops_at i rs first second ≡ true
+  pub stops_at-over : (i : ℕ) (rs : List Row) → stops_over i rs low n low_2 m ≡ true → stops_at i rs first second ≡ true
   stops_at-over zero [] h = refl
   stops_at-over (suc i) [] h = refl
   stops_at-over zero (row ∷ more) h =

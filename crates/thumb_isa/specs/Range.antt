@@ -1,7 +1,7 @@
 -- What the fields of a decoded instruction may be.
-use Rattle.std.specs.Prelude.{◌≡◌, ℕ, ℤ, pos, negsuc, ◌%◌, ◌<◌, ◌≤◌, ◌^◌, nat_le, if◌then◌else◌}
+use Rattle.std.specs.Prelude.{◌≡◌, ◌≢◌, ℕ, ℤ, pos, negsuc, ◌%◌, ◌<◌, ◌≤◌, ◌^◌, nat_le, if◌then◌else◌}
 use Rattle.thumb_isa.specs.declared.instr.Instr.{Instr}
-use Rattle.thumb_isa.specs.declared.instr.Instr.TheVariants.{ShiftImm, AddSubReg, AddSubImm3, Imm8, Alu, AddHigh, CmpHigh, MovHigh, Bx, Blx, LdrLit, MemReg, MemImm, MemSp, Adr, AddRdSp, AddSp, SubSp, Extend, Rev, Push, Pop, Hint, Stm, Ldm, BCond, Svc, B, Bl, Barrier}
+use Rattle.thumb_isa.specs.declared.instr.Instr.TheVariants.{ShiftImm, AddSubReg, AddSubImm3, Imm8, Alu, AddHigh, CmpHigh, MovHigh, Bx, Blx, LdrLit, MemReg, MemImm, MemSp, Adr, AddRdSp, AddSp, SubSp, Extend, Rev, Push, Pop, Hint, Stm, Ldm, BCond, Svc, B, Bl, Barrier, Cbz, BWide, MovW, MovT, Div}
 use Rattle.thumb_isa.specs.declared.instr.Decoded.{Decoded}
 use Rattle.thumb_isa.specs.declared.instr.Decoded.TheVariants.{Is, Undefined, Unpredictable, NotInProfile}
 
@@ -14,6 +14,10 @@ IsForward scale limit (negsuc n) = ⊥
 abbrev pub IsBranch : ℕ → ℤ → Type 0
 IsBranch half (pos n) = (n < half) × (n % 2 ≡ 0)
 IsBranch half (negsuc n) = (n < half) × (n % 2 ≡ 1)
+
+-- any register but sp and pc
+abbrev pub IsGeneral : ℕ → Type 0
+IsGeneral r = (r < 15) × (r ≢ 13)
 
 abbrev pub InRange : Instr → Type 0
 InRange (ShiftImm op d m n) = (op < 3) × (d < 8) × (m < 8) × (n ≤ 32)
@@ -46,6 +50,11 @@ InRange (Svc imm) = imm < 256
 InRange (B off) = IsBranch (2 ^ 11) off
 InRange (Bl off) = IsBranch (2 ^ 24) off
 InRange (Barrier op option) = (op < 3) × (option < 16)
+InRange (Cbz nonzero n off) = (n < 8) × IsForward 2 128 off
+InRange (BWide off) = IsBranch (2 ^ 24) off
+InRange (MovW d imm) = IsGeneral d × (imm < 2 ^ 16)
+InRange (MovT d imm) = IsGeneral d × (imm < 2 ^ 16)
+InRange (Div signed d n m) = IsGeneral d × IsGeneral n × IsGeneral m
 
 -- the fields of an instruction that was decoded are in range
 abbrev pub IsInRange : Decoded → Type 0

@@ -1,10 +1,13 @@
--- The instruction table (Armv6-M Architecture Reference Manual, DDI 0419): a list of rows, searched from the front.
+-- The instruction table (Armv6-M Architecture Reference Manual, DDI 0419): a list of rows, searched from the front; and the rows of a second
+-- profile.
 -- Names in comments are the titles of the manual's sections.
-use Rattle.std.specs.Prelude.{ℕ, ◌+◌, ◌*◌, ◌^◌, ℤ, pos, Bool, true, ◌&&◌, Option, Some, None, ◌==◌, List, [], ◌∷◌, bit_and, if◌then◌else◌}
+use Rattle.std.specs.Prelude.{ℕ, ◌+◌, ◌*◌, ◌^◌, ℤ, pos, Bool, true, false, ◌&&◌, Option, Some, None, ◌==◌, List, [], ◌∷◌, ◌++◌, bit_and, if◌then◌else◌}
 use Rattle.thumb_isa.specs.declared.instr.Instr.{Instr}
-use Rattle.thumb_isa.specs.declared.instr.Instr.TheVariants.{ShiftImm, AddSubReg, AddSubImm3, Imm8, Alu, AddHigh, CmpHigh, MovHigh, Bx, Blx, LdrLit, MemReg, MemImm, MemSp, Adr, AddRdSp, AddSp, SubSp, Extend, Rev, Push, Pop, Hint, Stm, Ldm, BCond, Svc, B, Bl, Barrier}
+use Rattle.thumb_isa.specs.declared.instr.Instr.TheVariants.{ShiftImm, AddSubReg, AddSubImm3, Imm8, Alu, AddHigh, CmpHigh, MovHigh, Bx, Blx, LdrLit, MemReg, MemImm, MemSp, Adr, AddRdSp, AddSp, SubSp, Extend, Rev, Push, Pop, Hint, Stm, Ldm, BCond, Svc, B, Bl, Barrier, Cbz, BWide, MovW, MovT, Div}
 use Rattle.thumb_isa.specs.declared.instr.Decoded.{Decoded}
 use Rattle.thumb_isa.specs.declared.instr.Decoded.TheVariants.{Is, Undefined, Unpredictable, NotInProfile}
+use Rattle.thumb_isa.specs.declared.profile.Profile.{Profile}
+use Rattle.thumb_isa.specs.declared.profile.Profile.TheVariants.{One, Two}
 use Rattle.thumb_isa.specs.Fields.{field, signed}
 
 -- A pair of halfwords fits where the first under `mask` is `value`, and the second, if the row names it, likewise.
@@ -170,6 +173,44 @@ rows =
     ∷ wide 0xffff 0xf3bf 0xfff0 0x8f60 (λ first second. Barrier 2 (field second 0 4))
     ∷ []
 
+-- CBZ, CBNZ: i:imm5:0
+abbrev pub cbz_offset : ℕ → ℕ
+cbz_offset h = field h 9 1 * 2 ^ 6 + field h 3 5 * 2
+
+-- MOVW, MOVT: the register, and imm4:i:imm3:imm8
+abbrev pub wide_d : ℕ → ℕ
+wide_d second = field second 8 4
+
+abbrev pub wide_imm : ℕ → ℕ → ℕ
+wide_imm first second = field first 0 4 * 2 ^ 12 + field first 10 1 * 2 ^ 11 + field second 12 3 * 2 ^ 8 + field second 0 8
+
+-- The rows that the second profile has besides (Armv8-M Architecture Reference Manual, DDI 0553). Those that are no instruction go first.
+abbrev pub late_rows : List Row
+late_rows =
+    -- UNPREDICTABLE: MOVW, MOVT into sp or pc
+    refused_pair 0xfbf0 0xf240 0x8f00 0x0d00 Unpredictable
+    ∷ refused_pair 0xfbf0 0xf240 0x8f00 0x0f00 Unpredictable
+    ∷ refused_pair 0xfbf0 0xf2c0 0x8f00 0x0d00 Unpredictable
+    ∷ refused_pair 0xfbf0 0xf2c0 0x8f00 0x0f00 Unpredictable
+    -- SDIV, UDIV with sp or pc: as n, as d, as m
+    ∷ refused_pair 0xffdf 0xfb9d 0xf0f0 0xf0f0 Unpredictable
+    ∷ refused_pair 0xffdf 0xfb9f 0xf0f0 0xf0f0 Unpredictable
+    ∷ refused_pair 0xffd0 0xfb90 0xfff0 0xfdf0 Unpredictable
+    ∷ refused_pair 0xffd0 0xfb90 0xfff0 0xfff0 Unpredictable
+    ∷ refused_pair 0xffd0 0xfb90 0xf0ff 0xf0fd Unpredictable
+    ∷ refused_pair 0xffd0 0xfb90 0xf0ff 0xf0ff Unpredictable
+    -- CBZ, CBNZ
+    ∷ narrow 0xf500 0xb100 (λ h. Cbz (field h 11 1 == 1) (field h 0 3) (pos (cbz_offset h)))
+    -- B, encoding T4
+    ∷ wide 0xf800 0xf000 0xd000 0x9000 (λ first second. BWide (bl_offset first second))
+    -- MOV (immediate), encoding T3; MOVT
+    ∷ wide 0xfbf0 0xf240 0x8000 0x0000 (λ first second. MovW (wide_d second) (wide_imm first second))
+    ∷ wide 0xfbf0 0xf2c0 0x8000 0x0000 (λ first second. MovT (wide_d second) (wide_imm first second))
+    -- SDIV; UDIV
+    ∷ wide 0xfff0 0xfb90 0xf0f0 0xf0f0 (λ first second. Div true (field second 8 4) (field first 0 4) (field second 0 4))
+    ∷ wide 0xfff0 0xfbb0 0xf0f0 0xf0f0 (λ first second. Div false (field second 8 4) (field first 0 4) (field second 0 4))
+    ∷ []
+
 -- the meaning of the first row that fits
 abbrev pub first_fit : List Row → ℕ → ℕ → Decoded
 first_fit [] first second = Undefined
@@ -177,5 +218,14 @@ first_fit (row ∷ more) first second =
     let later = first_fit more first second in
     if fits row first second then row.means first second else later
 
+-- in the first profile
 unfoldable pub decoded_of : ℕ → ℕ → Decoded
 decoded_of first second = first_fit rows first second
+
+-- in the second, whose rows are these and those of the first
+unfoldable pub late_decoded_of : ℕ → ℕ → Decoded
+late_decoded_of first second = first_fit (late_rows ++ rows) first second
+
+abbrev pub decoded_for : Profile → ℕ → ℕ → Decoded
+decoded_for One first second = decoded_of first second
+decoded_for Two first second = late_decoded_of first second

@@ -1,10 +1,12 @@
 //! From halfwords to an instruction: the rows of specs/Rows.antt, cut by the top five bits. docs/instruction-set.md states the table.
 ghost use Rattle.std.specs.Prelude.{◌≡◌, ◌+◌, ◌*◌, ◌%◌, ◌^◌, ◌<◌, ◌≤◌, nat_le, ℕ};
 ghost use Rattle.thumb_isa.specs.Range.{IsInRange, IsBranch, IsOfSize, size_of};
-ghost use Rattle.thumb_isa.specs.Rows.{decoded_of, bl_offset};
+ghost use Rattle.thumb_isa.specs.Rows.{decoded_of, decoded_for, bl_offset};
 
 use crate::fields::{field, sign_extend, small};
 use crate::instr::{Decoded, Instr};
+use crate::late::late;
+use crate::profile::Profile;
 
 /// Whether an instruction that begins with this halfword has a second one: the top five bits are 11101, 11110 or 11111.
 pub fn is_wide(first: u16) -> bool
@@ -61,6 +63,24 @@ pub fn decode(first: u16, second: u16) -> Decoded
         ),
         0b11110 => long(first, second),
         _ => Decoded::Undefined,
+    }
+}
+
+/// The meaning of a pair of halfwords in a profile. The second profile is asked only where the first one knows no instruction.
+#[inline(always)]
+#[tactic(auto, using(crate::proofs::BothProfiles::kept, crate::proofs::BothProfiles::added, crate::proofs::BothProfiles::alone_for, crate::proofs::BothProfiles::sized_for))]
+pub fn decode_for(p: Profile, first: u16, second: u16) -> Decoded
+    ensures row { result ≡ decoded_for p first second }
+    ensures range { IsInRange result }
+    ensures size { IsOfSize (size_of first) result }
+    ensures alone { first < 0xe800 → (other : ℕ) → result ≡ decoded_for p first other }
+{
+    match decode(first, second) {
+        Decoded::Undefined => match p {
+            Profile::One => Decoded::Undefined,
+            Profile::Two => late(first, second),
+        },
+        decoded => decoded,
     }
 }
 
@@ -458,8 +478,8 @@ fn long(first: u16, second: u16) -> Decoded
     }
 }
 
-/// The offset of a BL: S:I1:I2:imm10:imm11:0.
-fn branch_offset(first: u16, second: u16) -> i32
+/// The offset of a BL, and of a B with two halfwords: S:I1:I2:imm10:imm11:0.
+pub fn branch_offset(first: u16, second: u16) -> i32
     ensures value { result ≡ bl_offset first second }
     ensures even { IsBranch (2 ^ 24) result }
 {

@@ -1,5 +1,5 @@
-//! The instructions of the ARMv6-M profile with their fields; docs/instruction-set.md lists the forms.
-/// One instruction of the ARMv6-M profile, with its fields.
+//! The instructions of both profiles with their fields; docs/instruction-set.md lists the forms.
+/// One instruction, with its fields. The last five are of the second profile alone (ARMv8-M Baseline, DDI 0553), the others of both.
 ///
 /// Registers are numbers 0 to 15 (13 is sp, 14 lr, 15 pc). A `list` has bit k set where register k is in it.
 /// `off` is in bytes: from the base register, or from the instruction's own address plus 4 for a branch. `op` holds the
@@ -66,6 +66,16 @@ pub enum Instr {
     Bl { off: i32 },
     /// DSB, DMB, ISB: `op` 0, 1, 2.
     Barrier { op: u8, option: u8 },
+    /// CBZ, and CBNZ where `nonzero`: a branch forwards where r`n` is 0, or isn't.
+    Cbz { nonzero: bool, n: u8, off: i32 },
+    /// B without a condition, with two halfwords.
+    BWide { off: i32 },
+    /// MOVW: MOV of sixteen bits.
+    MovW { d: u8, imm: u32 },
+    /// MOVT: sixteen bits into the upper half; the lower half stays.
+    MovT { d: u8, imm: u32 },
+    /// SDIV where `signed`, else UDIV.
+    Div { signed: bool, d: u8, n: u8, m: u8 },
 }
 
 /// What a pair of halfwords means.

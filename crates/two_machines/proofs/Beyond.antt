@@ -22,7 +22,7 @@ use Rattle.eh_trace.specs.declared.event.EventKind.{EventKind}
 use Rattle.eh_trace.specs.declared.event.EventKind.TheVariants as event
 use Rattle.eh_types.specs.Graph.{row_of}
 use Rattle.thumb_core.specs.Outcome.{Outcome as Stepping}
-use Rattle.thumb_core.specs.Step.{step_of}
+use Rattle.thumb_core.specs.Step.{step_for}
 use Rattle.thumb_core.specs.declared.regs.TheConstants.{SP}
 use Rattle.thumb_core.specs.declared.regs.Regs.{Regs}
 use Rattle.thumb_core.specs.declared.regs.Stepped.{Stepped}
@@ -35,7 +35,7 @@ use Rattle.eh_gates.specs.declared.state.Turned.TheVariants.{Went, Ended}
 use Rattle.eh_gates.specs.State.{Tables}
 use Rattle.eh_gates.specs.Landing.{words_of}
 use Rattle.eh_gates.specs.Throwing.{barrier_in, throw_event}
-use Rattle.two_machines.specs.Program.{Program, program_tables}
+use Rattle.two_machines.specs.Program.{Program, program_tables, profile_in}
 use Rattle.two_machines.specs.Activations.{Activation, InProgress, Recorded, reg_in, memory_of, staying, words_in, heads, with_lists, lists_of}
 use Rattle.two_machines.specs.ActivationMachine as acts
 use Rattle.two_machines.specs.RecordedSlots.{AreOutside, LeavesBeyond, WordsBeyondStay}
@@ -213,7 +213,7 @@ module _ (p : Program) (s : Recorded) (input : List ℕ) (out : AreOutside s.hom
   tested (Trap trap) regs m None = (refl, reguarded regs)
 
   stepped : (o : Stepping) → LeavesBeyond s (acts.onward p s (acts.stepped p s o) input)
-  stepped (Trap trap, regs, m) = go (acts.pops_back s)
+  stepped (Trap trap, regs, m) = go (acts.pops_back p s)
     where
       go : (o : Option Regs) → LeavesBeyond s (acts.onward p s (acts.trapped_by p s trap o) input)
       go None = (refl, refl)
@@ -224,7 +224,7 @@ module _ (p : Program) (s : Recorded) (input : List ℕ) (out : AreOutside s.hom
   stepped (Gate number, regs, m) = tested (Gate number) regs m _
 
   checked : (b : Bool) → LeavesBeyond s (acts.onward p s (acts.checked p s b) input)
-  checked true = stepped (step_of s.regs (memory_of s))
+  checked true = stepped (step_for (profile_in p) s.regs (memory_of s))
   checked false = (refl, refl)
 
   event_leaves : LeavesBeyond s (acts.recorded_event p s input)

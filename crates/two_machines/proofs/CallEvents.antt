@@ -9,11 +9,11 @@ use Rattle.eh_cxa.specs.Words.{word}
 use Rattle.eh_cxa.specs.declared.layout.TheConstants.{SLOTS, CLOSED_WORDS}
 use Rattle.eh_cxa.proofs.CleanupLaws.{innermost_follows}
 use Rattle.eh_cxa.proofs.Kept.{start_stands}
-use Rattle.thumb_core.specs.Step.{step_of}
+use Rattle.thumb_core.specs.Step.{step_for}
 use Rattle.thumb_core.specs.declared.regs.Stepped.{Stepped}
 use Rattle.thumb_core.specs.declared.regs.Stepped.TheVariants.{Done, Call, Return, Gate, Trap}
 use Rattle.eh_gates.specs.Gates.{gate_of}
-use Rattle.two_machines.specs.Program.{Program, program_tables}
+use Rattle.two_machines.specs.Program.{Program, program_tables, profile_in}
 use Rattle.two_machines.specs.Start.{start_of}
 use Rattle.two_machines.specs.Machine as bytes
 use Rattle.two_machines.specs.Activations.{Recorded, reg_in, memory_of, heads, bytes_of, recorded_start, lists_of}
@@ -45,7 +45,7 @@ module _ (p : Program) (s : Recorded) (c : Corresponds s) (small : reg_in s 0 < 
           outcome_event (gate_of (program_tables p) number regs.pc (bytes_of s)) (acts.gate_of (program_tables p) number regs.pc s) input (gates_match (program_tables p) number regs.pc s c small w).same
       go false = in_state_alike p s (knows s c) (gate_event number s.regs regs input)
 
-  can : (what : Stepped) → IsInPlace s what → CanMatch p s what
+  can : (what : Stepped) → IsInPlace p s what → CanMatch p s what
   can Done h = tt
   can (Call target ret) h = tt
   can (Return to) h = h
@@ -57,5 +57,5 @@ calls_match = record {
   start = start_corresponds;
   landing = knows;
   gates = gates_match;
-  events = λ p s input c small h. events_match p s input (knows s c) (can p s c small (step_of s.regs (memory_of s)).0 h);
+  events = λ p s input c small h. events_match p s input (knows s c) (can p s c small (step_for (profile_in p) s.regs (memory_of s)).0 h);
 }

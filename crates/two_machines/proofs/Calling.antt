@@ -2,11 +2,11 @@
 use Rattle.std.proofs.Common.{◌≡◌, ℕ, Bool, true, false, List, [], ◌∷◌, map, Option, Some, None, refl, sym, ap, subst, ◌∙◌}
 use Rattle.event_runs.specs.Runs.{Event, Goes}
 use Rattle.eh_bus.specs.Memory.{Memory}
-use Rattle.thumb_core.specs.Step.{step_of}
+use Rattle.thumb_core.specs.Step.{step_for}
 use Rattle.thumb_core.specs.declared.regs.Regs.{Regs}
 use Rattle.thumb_core.specs.declared.regs.Stepped.TheVariants.{Call}
 use Rattle.thumb_core.specs.declared.ends.End.{End}
-use Rattle.two_machines.specs.Program.{Program}
+use Rattle.two_machines.specs.Program.{Program, profile_in}
 use Rattle.two_machines.specs.Activations.{Caller, Activation, Recorded, memory_of, freed_in}
 use Rattle.two_machines.specs.ActivationMachine.{tested, tests, recorded_after, checked, passed, stepped, onward, recorded_event}
 use Rattle.two_machines.specs.ActivationLaws.{IsCalled, CallsRecord, callers}
@@ -29,7 +29,7 @@ module _ (p : Program) (s t : Recorded) (input text left : List ℕ) (target ret
       let state : recorded_after p s (Call target ret) regs m ≡ t = cc in
       subst (λ (x : Recorded). IsCalled target ret s x) state is_called
 
-  from_check : (b : Bool) → step_of s.regs (memory_of s) ≡ (Call target ret, regs, m) → onward p s (checked p s b) input ≡ Goes t text left → IsCalled target ret s t
+  from_check : (b : Bool) → step_for (profile_in p) s.regs (memory_of s) ≡ (Call target ret, regs, m) → onward p s (checked p s b) input ≡ Goes t text left → IsCalled target ret s t
   from_check true e f = from_test (tests p s (Call target ret) regs) (sym (ap (λ o. onward p s (stepped p s o) input) e) ∙ f)
   from_check false e f = absurd (cc)
 

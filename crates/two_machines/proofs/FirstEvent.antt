@@ -16,7 +16,7 @@ use Rattle.eh_cxa.specs.Runs.{nothing}
 use Rattle.eh_cxa.specs.Words.{Write, word, put, put_all, wrote, object, block_slot, object_slot}
 use Rattle.eh_cxa.specs.declared.layout.TheConstants.{STATE}
 use Rattle.eh_cxa.specs.declared.state.TheConstants.{FREE}
-use Rattle.thumb_core.specs.Step.{step_of}
+use Rattle.thumb_core.specs.Step.{step_for}
 use Rattle.thumb_core.specs.declared.regs.Stepped.{Stepped}
 use Rattle.thumb_core.specs.declared.regs.Stepped.TheVariants.{Done, Call, Return, Gate, Trap}
 use Rattle.eh_gates.specs.declared.gates.TheConstants.{ALLOCATE_GATE, FREE_GATE, THROW_GATE, BEGIN_CATCH_GATE, END_CATCH_GATE, RETHROW_GATE, END_CLEANUP_GATE, UNEXPECTED_GATE, TERMINATE_GATE, UNCAUGHT_GATE}
@@ -26,7 +26,7 @@ use Rattle.eh_gates.specs.CallGates.{allocated, allocate_gate, free_gate, begin_
 use Rattle.eh_gates.specs.Throwing.{throw_gate, rethrow_gate}
 use Rattle.eh_gates.specs.Resuming.{end_cleanup_gate}
 use Rattle.eh_gates.specs.Gates.{gate_of}
-use Rattle.two_machines.specs.Program.{Program, program_tables}
+use Rattle.two_machines.specs.Program.{Program, program_tables, profile_in}
 use Rattle.two_machines.specs.Start.{start_of}
 use Rattle.two_machines.specs.Machine as bytes
 use Rattle.two_machines.specs.Activations.{words_in, with_lists, recorded_start}
@@ -125,7 +125,7 @@ module _ (p : Program) where
       go true = outcome_event (gate_of (program_tables p) number regs.pc (start_of p)) (acts.gate_of (program_tables p) number regs.pc (recorded_start p)) input (gates_match p regs.pc number)
       go false = in_state_alike p (recorded_start p) (start_knows p) (gate_event number (start_of p).regs regs input)
 
-  can_match : (what : Stepped) → IsNoReturn (recorded_start p) what → CanMatch p (recorded_start p) what
+  can_match : (what : Stepped) → IsNoReturn p (recorded_start p) what → CanMatch p (recorded_start p) what
   can_match Done h = tt
   can_match (Call target ret) h = tt
   can_match (Return to) h = h
@@ -135,5 +135,5 @@ module _ (p : Program) where
 pub start_alike : (p : Program) → StartsAlike p
 start_alike p = record {
   same = same_start p;
-  first = λ input h. events_match p (recorded_start p) input (start_knows p) (can_match p (step_of (start_of p).regs (start_of p).memory).0 h);
+  first = λ input h. events_match p (recorded_start p) input (start_knows p) (can_match p (step_for (profile_in p) (start_of p).regs (start_of p).memory).0 h);
 }

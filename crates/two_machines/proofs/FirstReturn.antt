@@ -12,18 +12,19 @@ use Rattle.eh_bus.specs.declared.fault.BusFault.TheVariants.{Unmapped, Unaligned
 use Rattle.eh_bus.specs.declared.map.TheConstants.{STACK_END}
 use Rattle.guest_gates.specs.declared.gates.TheConstants.{NO_CALLER}
 use Rattle.image_memory.specs.Start.{start_regs}
+use Rattle.thumb_isa.specs.declared.profile.Profile.{Profile}
 use Rattle.thumb_core.specs.Laws.{AreWords, Leaves, Returned, PcStands}
 use Rattle.thumb_core.specs.Lists.{bytes_of, load_list}
 use Rattle.thumb_core.specs.Words.{listed, numbers, loads_from, load_words}
 use Rattle.thumb_core.specs.Outcome.{Outcome as Stepping}
 use Rattle.thumb_core.specs.Registers.{operand, pc_read, with_pc, all_of}
-use Rattle.thumb_core.specs.Step.{step_of, instr_at, instr_of_first}
+use Rattle.thumb_core.specs.Step.{step_for, instr_for, instr_of_first}
 use Rattle.thumb_core.proofs.Acts.{step_acts}
 use Rattle.thumb_core.proofs.Follows.{step_follows}
 use Rattle.thumb_core.specs.declared.regs.TheConstants.{SP, PC}
 use Rattle.thumb_core.specs.declared.regs.Regs.{Regs}
 use Rattle.thumb_core.specs.declared.regs.Stepped.TheVariants.{Done, Call, Return, Gate, Trap}
-use Rattle.two_machines.specs.Program.{Program}
+use Rattle.two_machines.specs.Program.{Program, profile_in}
 use Rattle.two_machines.specs.Start.{start_of}
 use Rattle.two_machines.specs.Machine.{machine_event}
 use Rattle.two_machines.specs.Activations.{Activation, Recorded, reg_in, memory_of, recorded_start, no_caller}
@@ -46,10 +47,10 @@ even_fetch (s ∷ more) a e = go (holds s a 2) (a % 2 == 0) refl (even_fetch mor
     go true false f i g = absurd (cc)
     go false b f i g = i g
 
-some_even : (m : Memory) (a : ℕ) → is_some (instr_at m a) ≡ true → a % 2 ≡ 0
-some_even m a e = go (fault_in (λ (s : Segment). fetch_fault s a) 2 m.segments a) refl e
+some_even : (p : Profile) (m : Memory) (a : ℕ) → is_some (instr_for p m a) ≡ true → a % 2 ≡ 0
+some_even p m a e = go (fault_in (λ (s : Segment). fetch_fault s a) 2 m.segments a) refl e
   where
-    go : (o : Option BusFault) → fault_in (λ (s : Segment). fetch_fault s a) 2 m.segments a ≡ o → is_some (instr_of_first (or_fault o (number_in 2 m.segments a)) m a) ≡ true → a % 2 ≡ 0
+    go : (o : Option BusFault) → fault_in (λ (s : Segment). fetch_fault s a) 2 m.segments a ≡ o → is_some (instr_of_first p (or_fault o (number_in 2 m.segments a)) m a) ≡ true → a % 2 ≡ 0
     go None f g = even_fetch m.segments a f
     go (Some fault) f g = absurd (cc)
 
@@ -131,8 +132,8 @@ module _ (p : Program) (map : IsMap (start_of p).memory) where
   first_load : (list k : ℕ) (more : List ℕ) → popped state list (load_words state.segments (reg_in state SP) (loads_from 0 (k ∷ more)) (all_of state.regs)) ≡ None
   first_load list k more = rw (above state.segments STACK_END (omega arith) (all_low state.segments map.segments) (λ (s : Segment). load_fault 4 STACK_END)) refl
 
-  no_pop : pops_back state ≡ None
-  no_pop = go (pops_some (instr_at (memory_of state) state.regs.pc))
+  no_pop : pops_back p state ≡ None
+  no_pop = go (pops_some (instr_for (profile_in p) (memory_of state) state.regs.pc))
     where
       go : (o : Option ℕ) → popped_back state o ≡ None
       go None = refl
@@ -146,7 +147,7 @@ module _ (p : Program) (map : IsMap (start_of p).memory) where
 
 -- ---- the first event
 
-module _ (p : Program) (map : IsMap (start_of p).memory) (to : ℕ) (regs : Regs) (m : Memory) (e : step_of (start_of p).regs (start_of p).memory ≡ (Return to, regs, m)) where
+module _ (p : Program) (map : IsMap (start_of p).memory) (to : ℕ) (regs : Regs) (m : Memory) (e : step_for (profile_in p) (start_of p).regs (start_of p).memory ≡ (Return to, regs, m)) where
   words : AreWords 15 (start_of p).regs.r
   words = record { count = refl; small = all_small (start_of p).regs.r (omega arith, (omega arith, (omega arith, (omega arith, (omega arith, (omega arith, (omega arith, (omega arith, (omega arith, (omega arith, (omega arith, (omega arith, (omega arith, (omega arith, (omega arith, tt))))))))))))))); aligned = refl }
     where
@@ -155,20 +156,20 @@ module _ (p : Program) (map : IsMap (start_of p).memory) (to : ℕ) (regs : Regs
       all_small (x ∷ xs) a zero = a.0
       all_small (x ∷ xs) a (suc k) = all_small xs a.1 k
 
-  acting : Returned (instr_at (start_of p).memory (start_of p).regs.pc) to (start_of p).regs (start_of p).memory regs
+  acting : Returned (instr_for (profile_in p) (start_of p).memory (start_of p).regs.pc) to (start_of p).regs (start_of p).memory regs
   acting =
-      subst (λ (o : Stepping). Leaves (instr_at (start_of p).memory (start_of p).regs.pc) o.0 (start_of p).regs (start_of p).memory o.1) e
-      (step_acts (start_of p).regs (start_of p).memory (record { count = words.count; words = words.small })).leaves
+      subst (λ (o : Stepping). Leaves (instr_for (profile_in p) (start_of p).memory (start_of p).regs.pc) o.0 (start_of p).regs (start_of p).memory o.1) e
+      (step_acts (profile_in p) (start_of p).regs (start_of p).memory (record { count = words.count; words = words.small })).leaves
 
   odd : to % 2 ≡ 1
-  odd = (subst (λ (o : Stepping). PcStands o.0 o.1) e ((step_follows (start_of p).regs (start_of p).memory).stands refl)).1
+  odd = (subst (λ (o : Stepping). PcStands o.0 o.1) e ((step_follows (profile_in p) (start_of p).regs (start_of p).memory).stands refl)).1
 
-  by_register : (k : ℕ) → is_some (instr_at (start_of p).memory (start_of p).regs.pc) ≡ true → to ≡ operand (start_of p).regs k % 2 ^ 32 → to ≡ NO_CALLER
+  by_register : (k : ℕ) → is_some (instr_for (profile_in p) (start_of p).memory (start_of p).regs.pc) ≡ true → to ≡ operand (start_of p).regs k % 2 ^ 32 → to ≡ NO_CALLER
   by_register k at is = go (k == PC) refl is
     where
       go : (b : Bool) → (k == PC) ≡ b → to ≡ cond b (pc_read (start_of p).regs) (slice_index (start_of p).regs.r k) % 2 ^ 32 → to ≡ NO_CALLER
       go true f i =
-          let even = some_even (start_of p).memory (start_of p).regs.pc at in
+          let even = some_even (profile_in p) (start_of p).memory (start_of p).regs.pc at in
           let o = odd in
           absurd (omega arith)
       go false f i =
@@ -178,7 +179,7 @@ module _ (p : Program) (map : IsMap (start_of p).memory) (to : ℕ) (regs : Regs
   nobody : (regs ≡ with_pc (start_of p).regs to) × (to ≡ NO_CALLER)
   nobody = go acting
     where
-      go : Returned (instr_at (start_of p).memory (start_of p).regs.pc) to (start_of p).regs (start_of p).memory regs → (regs ≡ with_pc (start_of p).regs to) × (to ≡ NO_CALLER)
+      go : Returned (instr_for (profile_in p) (start_of p).memory (start_of p).regs.pc) to (start_of p).regs (start_of p).memory regs → (regs ≡ with_pc (start_of p).regs to) × (to ≡ NO_CALLER)
       go (inl (k, size, at, is, after)) = (after, by_register k (ap is_some at) is)
       go (inr (mask, size, at, popped)) =
           let few = few_listed mask in
@@ -195,12 +196,12 @@ module _ (p : Program) (map : IsMap (start_of p).memory) (to : ℕ) (regs : Regs
       }
 
 pub first_match : FirstEventsMatch
-first_match p input map = go (step_of (start_of p).regs (start_of p).memory) refl
+first_match p input map = go (step_for (profile_in p) (start_of p).regs (start_of p).memory) refl
   where
-    plain : (o : Stepping) → step_of (start_of p).regs (start_of p).memory ≡ o → IsNoReturn (recorded_start p) o.0 → Matches (machine_event p (start_of p) input) (recorded_event p (recorded_start p) input)
-    plain o e h = (start_alike p).first input (subst (λ (q : Stepping). IsNoReturn (recorded_start p) q.0) (sym e) h)
+    plain : (o : Stepping) → step_for (profile_in p) (start_of p).regs (start_of p).memory ≡ o → IsNoReturn p (recorded_start p) o.0 → Matches (machine_event p (start_of p) input) (recorded_event p (recorded_start p) input)
+    plain o e h = (start_alike p).first input (subst (λ (q : Stepping). IsNoReturn p (recorded_start p) q.0) (sym e) h)
 
-    go : (o : Stepping) → step_of (start_of p).regs (start_of p).memory ≡ o → Matches (machine_event p (start_of p) input) (recorded_event p (recorded_start p) input)
+    go : (o : Stepping) → step_for (profile_in p) (start_of p).regs (start_of p).memory ≡ o → Matches (machine_event p (start_of p) input) (recorded_event p (recorded_start p) input)
     go (Done, regs, m) e = plain (Done, regs, m) e tt
     go (Call target ret, regs, m) e = plain (Call target ret, regs, m) e tt
     go (Gate number, regs, m) e = plain (Gate number, regs, m) e tt

@@ -15,13 +15,13 @@ use Rattle.eh_phase.specs.Phases.{Frames}
 use Rattle.eh_phase.specs.declared.walk.Covered.{Covered}
 use Rattle.thumb_core.specs.declared.ends.Cause.TheVariants.{NoHandler, LeavesCleanup}
 use Rattle.thumb_core.specs.Outcome.{Outcome as Stepping}
-use Rattle.thumb_core.specs.Step.{step_of}
+use Rattle.thumb_core.specs.Step.{step_for}
 use Rattle.thumb_core.specs.declared.regs.CoreTrap.{CoreTrap}
 use Rattle.thumb_core.specs.declared.regs.TheConstants.{SP}
 use Rattle.thumb_core.specs.declared.regs.Regs.{Regs}
 use Rattle.thumb_core.specs.declared.regs.Stepped.TheVariants.{Done, Call, Return, Gate, Trap}
 use Rattle.thumb_core.specs.declared.ends.End.{End}
-use Rattle.two_machines.specs.Program.{Program}
+use Rattle.two_machines.specs.Program.{Program, profile_in}
 use Rattle.two_machines.specs.Activations.{Caller, Activation, Recorded, memory_of, callee, registers_of, ends_at, where_unwound, framed_at, outside}
 use Rattle.two_machines.specs.ActivationMachine.{returned, tested, tests, recorded_after, checked, passed, stepped, pops_back, trapped_by, onward, recorded_event, left_by, reguarded_at}
 use Rattle.two_machines.specs.ActivationLaws.{IsBack, IsWhole, IsReturn, AreWhole, ReturnsGiveBack, site_and_sp, recorded_places, FramesAreActivations}
@@ -61,15 +61,15 @@ module _ (p : Program) (s t : Recorded) (input text left : List ℕ) (whole : Is
   from_trap trap None h e = absurd (cc)
   from_trap trap (Some regs) h e = from_test s.first.caller.back regs (memory_of s) (tests p s (Return s.first.caller.back) (returned s.first.caller regs)) e
 
-  from_step : (o : Stepping) → IsReturn s o.0 → onward p s (stepped p s o) input ≡ Goes t text left → IsBack s.first.caller t
+  from_step : (o : Stepping) → IsReturn p s o.0 → onward p s (stepped p s o) input ≡ Goes t text left → IsBack s.first.caller t
   from_step (Return to, regs, m) h e = from_test to regs m (tests p s (Return to) (returned s.first.caller regs)) e
-  from_step (Trap trap, regs, m) h e = from_trap trap (pops_back s) h e
+  from_step (Trap trap, regs, m) h e = from_trap trap (pops_back p s) h e
   from_step (Done, regs, m) h e = absurd h
   from_step (Call target ret, regs, m) h e = absurd h
   from_step (Gate number, regs, m) h e = absurd h
 
-  from_check : (b : Bool) → IsReturn s (step_of s.regs (memory_of s)).0 → onward p s (checked p s b) input ≡ Goes t text left → IsBack s.first.caller t
-  from_check true h e = from_step (step_of s.regs (memory_of s)) h e
+  from_check : (b : Bool) → IsReturn p s (step_for (profile_in p) s.regs (memory_of s)).0 → onward p s (checked p s b) input ≡ Goes t text left → IsBack s.first.caller t
+  from_check true h e = from_step (step_for (profile_in p) s.regs (memory_of s)) h e
   from_check false h e = absurd (cc)
 
 pub gives_back : ReturnsGiveBack

@@ -13,13 +13,13 @@ use Rattle.eh_cxa.specs.declared.layout.TheConstants.{SLOTS, CLOSED_WORDS}
 use Rattle.eh_cxa.proofs.Kept.{still_stands}
 use Rattle.thumb_core.specs.Laws.{KeepsMap}
 use Rattle.thumb_core.specs.Outcome.{Outcome as Stepping}
-use Rattle.thumb_core.specs.Step.{step_of}
+use Rattle.thumb_core.specs.Step.{step_for}
 use Rattle.thumb_core.proofs.Follows.{step_follows}
 use Rattle.thumb_core.specs.declared.regs.Regs.{Regs}
 use Rattle.thumb_core.specs.declared.regs.Stepped.{Stepped}
 use Rattle.thumb_core.specs.declared.regs.Stepped.TheVariants.{Done, Call, Return, Gate, Trap}
 use Rattle.thumb_core.specs.declared.ends.End.{End}
-use Rattle.two_machines.specs.Program.{Program, program_tables}
+use Rattle.two_machines.specs.Program.{Program, program_tables, profile_in}
 use Rattle.two_machines.specs.Activations.{Activation, Recorded, memory_of, heads, lists_of}
 use Rattle.two_machines.specs.ActivationMachine.{left_by, reguarded_at, recorded_after, tested, tests, stepped, checked, passed, onward, gated, in_state, event_of, gate_of, registers_after, returned, pops_back, trapped_by, recorded_event}
 use Rattle.two_machines.specs.Corresponds.{IsNoCall, KeepLists, ListsAreKept}
@@ -91,7 +91,7 @@ module _ (s : Recorded) (x : Stands (word (memory_of s)) (heads (lists_of s)) (l
     by_test (Trap trap) h regs m k None = kept (recorded_after p s (Trap trap) regs m) m k refl refl refl
 
     by_step : (o : Stepping) → IsNoCall o.0 → KeepsMap (memory_of s) o.2 → KeptBy (onward p s (stepped p s o) input)
-    by_step (Trap trap, regs, m) h k = go (pops_back s)
+    by_step (Trap trap, regs, m) h k = go (pops_back p s)
       where
         go : (o : Option Regs) → KeptBy (onward p s (trapped_by p s trap o) input)
         go None = tt
@@ -103,11 +103,11 @@ module _ (s : Recorded) (x : Stands (word (memory_of s)) (heads (lists_of s)) (l
         by_test (Return to) h (registers_after s.first.caller (Return to) regs) m k (tests p s (Return to) (registers_after s.first.caller (Return to) regs))
     by_step (Gate number, regs, m) h k = by_test (Gate number) h regs m k (tests p s (Gate number) regs)
 
-    by_check : (b : Bool) → IsNoCall (step_of s.regs (memory_of s)).0 → KeptBy (onward p s (checked p s b) input)
-    by_check true h = by_step (step_of s.regs (memory_of s)) h (step_follows s.regs (memory_of s)).memory
+    by_check : (b : Bool) → IsNoCall (step_for (profile_in p) s.regs (memory_of s)).0 → KeptBy (onward p s (checked p s b) input)
+    by_check true h = by_step (step_for (profile_in p) s.regs (memory_of s)) h (step_follows (profile_in p) s.regs (memory_of s)).memory
     by_check false h = tt
 
-    by_event : IsNoCall (step_of s.regs (memory_of s)).0 → KeptBy (recorded_event p s input)
+    by_event : IsNoCall (step_for (profile_in p) s.regs (memory_of s)).0 → KeptBy (recorded_event p s input)
     unfolding recorded_event passed
     by_event h = by_check (p.look s.regs.pc).is_instr h
 

@@ -5,7 +5,7 @@ use Rattle.eh_bus.specs.Memory.{Memory}
 use Rattle.guest_gates.specs.declared.gates.TheConstants.{EXIT_GATE, OUTPUT_GATE, INPUT_GATE}
 use Rattle.guest_gates.specs.Gates.{gate_event}
 use Rattle.thumb_core.specs.Outcome.{Outcome as Stepping}
-use Rattle.thumb_core.specs.Step.{step_of}
+use Rattle.thumb_core.specs.Step.{step_for}
 use Rattle.thumb_core.specs.declared.regs.Regs.{Regs}
 use Rattle.thumb_core.specs.declared.regs.Stepped.{Stepped}
 use Rattle.thumb_core.specs.declared.regs.Stepped.TheVariants.{Done, Call, Return, Gate, Trap}
@@ -15,7 +15,7 @@ use Rattle.eh_gates.specs.State.{State, Outcome}
 use Rattle.eh_gates.specs.Gates.{gate_of}
 use Rattle.eh_gates.specs.Laws.{IsLeft}
 use Rattle.eh_gates.proofs.Leaving.{Leaves, gate_left}
-use Rattle.two_machines.specs.Program.{Program, program_tables}
+use Rattle.two_machines.specs.Program.{Program, program_tables, profile_in}
 use Rattle.two_machines.specs.Machine.{Passed, tests, tested, stepped, checked, passed, event_of, in_state, gated, acted, onward, machine_event}
 
 abbrev pub EventLeaves : State → Event State End → Type 0
@@ -46,7 +46,7 @@ stepped_same p s (Return to, regs, m) = tested_same p s (Return to) regs m (test
 stepped_same p s (Gate number, regs, m) = tested_same p s (Gate number) regs m (tests p s (Gate number) regs)
 
 checked_same : (p : Program) (s : State) (b : Bool) → Same s (checked p s b)
-checked_same p s true = stepped_same p s (step_of s.regs s.memory)
+checked_same p s true = stepped_same p s (step_for (profile_in p) s.regs s.memory)
 checked_same p s false = refl
 
 passed_same : (p : Program) (s : State) → Same s (passed p s)

@@ -4,6 +4,7 @@ pub use Rattle.frame_check.proofs.frame_graph
 pub use Rattle.frame_check.proofs.frame_reach
 pub use Rattle.frame_check.proofs.frame_flow
 pub mod eh_bus
+pub mod thumb_isa
 pub mod thumb_core
 pub mod event_runs
 pub mod eh_cxa

@@ -10,7 +10,7 @@ use Rattle.guest_gates.specs.Gates.{gate_event}
 use Rattle.step_ahead.specs.Ahead.{branches_some, pushes_some}
 use Rattle.thumb_core.specs.Laws.{KeepsMap}
 use Rattle.thumb_core.specs.Outcome.{Outcome as Stepping}
-use Rattle.thumb_core.specs.Step.{step_of, instr_at}
+use Rattle.thumb_core.specs.Step.{step_for, instr_for}
 use Rattle.thumb_core.proofs.Follows.{step_follows}
 use Rattle.thumb_core.specs.declared.regs.TheConstants.{SP}
 use Rattle.thumb_core.specs.declared.regs.Regs.{Regs}
@@ -19,7 +19,7 @@ use Rattle.thumb_core.specs.declared.regs.Stepped.TheVariants.{Done, Call, Retur
 use Rattle.thumb_core.specs.declared.ends.End.{End}
 use Rattle.eh_gates.specs.State.{State}
 use Rattle.eh_gates.specs.Gates.{gate_of}
-use Rattle.two_machines.specs.Program.{Program, program_tables}
+use Rattle.two_machines.specs.Program.{Program, program_tables, profile_in}
 use Rattle.two_machines.specs.Start.{start_of}
 use Rattle.two_machines.specs.Machine as bytes
 use Rattle.two_machines.specs.Activations.{Recorded, memory_of, bytes_of, recorded_start}
@@ -33,7 +33,7 @@ CanMatch p s Done = Unit {0}
 CanMatch p s (Call target ret) = Unit {0}
 CanMatch p s (Return to) = ⊥
 CanMatch p s (Gate number) = (regs : Regs) (input : List ℕ) → Matches (bytes.gated p number (bytes_of s) regs input) (acts.gated p number s regs input)
-CanMatch p s (Trap trap) = acts.pops_back s ≡ None
+CanMatch p s (Trap trap) = acts.pops_back p s ≡ None
 
 -- alike up to the gates
 abbrev Alike : Program → Recorded → bytes.Passed → acts.Passed → Type 0
@@ -54,7 +54,7 @@ module _ (p : Program) (s : Recorded) (knows : KnowsLanding s) where
       → record (bytes_of s) { regs = regs; memory = bytes.reguarded_at p (bytes_of s) regs m } ≡ bytes_of (acts.reguarded_at p s regs (record s { regs = regs; segments = m.segments }))
   reguards regs m k =
       let saves = (p.look s.regs.pc).saves in
-      let count = pushes_some (instr_at (memory_of s) s.regs.pc) in
+      let count = pushes_some (instr_for (profile_in p) (memory_of s) s.regs.pc) in
       let old = slice_index s.regs.r SP in
       let new = slice_index regs.r SP in
       let one : Memory → State = λ n. record (bytes_of s) { regs = regs; memory = n } in
@@ -62,13 +62,13 @@ module _ (p : Program) (s : Recorded) (knows : KnowsLanding s) where
 
   module _ (regs : Regs) (m : Memory) (k : KeepsMap (memory_of s) m) where
     tests_done : bytes.tests p (bytes_of s) Done regs ≡ acts.tests p s Done regs
-    tests_done = ap (λ (l : Option ℕ). option_or (bytes.sp_end l s.home.0 s.regs.pc (slice_index s.regs.r SP) (slice_index regs.r SP)) (bytes.control_flow_trap p (branches_some (instr_at (memory_of s) s.regs.pc) s.regs) s.regs.pc Done regs)) knows
+    tests_done = ap (λ (l : Option ℕ). option_or (bytes.sp_end (p.look s.regs.pc).lowers l s.home.0 s.regs.pc (slice_index s.regs.r SP) (slice_index regs.r SP)) (bytes.control_flow_trap p (branches_some (instr_for (profile_in p) (memory_of s) s.regs.pc) s.regs) s.regs.pc Done regs)) knows
 
     tests_call : (target ret : ℕ) → bytes.tests p (bytes_of s) (Call target ret) regs ≡ acts.tests p s (Call target ret) regs
-    tests_call target ret = ap (λ (l : Option ℕ). option_or (bytes.sp_end l s.home.0 s.regs.pc (slice_index s.regs.r SP) (slice_index regs.r SP)) (bytes.control_flow_trap p (branches_some (instr_at (memory_of s) s.regs.pc) s.regs) s.regs.pc (Call target ret) regs)) knows
+    tests_call target ret = ap (λ (l : Option ℕ). option_or (bytes.sp_end (p.look s.regs.pc).lowers l s.home.0 s.regs.pc (slice_index s.regs.r SP) (slice_index regs.r SP)) (bytes.control_flow_trap p (branches_some (instr_for (profile_in p) (memory_of s) s.regs.pc) s.regs) s.regs.pc (Call target ret) regs)) knows
 
     tests_gate : (number : ℕ) → bytes.tests p (bytes_of s) (Gate number) regs ≡ acts.tests p s (Gate number) regs
-    tests_gate number = ap (λ (l : Option ℕ). option_or (bytes.sp_end l s.home.0 s.regs.pc (slice_index s.regs.r SP) (slice_index regs.r SP)) (bytes.control_flow_trap p (branches_some (instr_at (memory_of s) s.regs.pc) s.regs) s.regs.pc (Gate number) regs)) knows
+    tests_gate number = ap (λ (l : Option ℕ). option_or (bytes.sp_end (p.look s.regs.pc).lowers l s.home.0 s.regs.pc (slice_index s.regs.r SP) (slice_index regs.r SP)) (bytes.control_flow_trap p (branches_some (instr_for (profile_in p) (memory_of s) s.regs.pc) s.regs) s.regs.pc (Gate number) regs)) knows
 
     done_alike : (o : Option End) → Alike p s (bytes.tested p (bytes_of s) Done regs m o) (acts.tested p s Done regs m o)
     done_alike (Some end) = (refl, refl)
@@ -93,11 +93,11 @@ module _ (p : Program) (s : Recorded) (knows : KnowsLanding s) where
       subst (λ (t : Option End). Alike p s (bytes.tested p (bytes_of s) (Gate number) regs m t) (acts.with_tests p s (Gate number) regs m)) (sym (tests_gate regs m k number)) (gate_alike regs m k number h (acts.tests p s (Gate number) regs))
   stepped_alike (Return to, regs, m) k h = absurd h
 
-  checked_alike : (b : Bool) → CanMatch p s (step_of s.regs (memory_of s)).0 → Alike p s (bytes.checked p (bytes_of s) b) (acts.checked p s b)
-  checked_alike true h = stepped_alike (step_of s.regs (memory_of s)) (step_follows s.regs (memory_of s)).memory h
+  checked_alike : (b : Bool) → CanMatch p s (step_for (profile_in p) s.regs (memory_of s)).0 → Alike p s (bytes.checked p (bytes_of s) b) (acts.checked p s b)
+  checked_alike true h = stepped_alike (step_for (profile_in p) s.regs (memory_of s)) (step_follows (profile_in p) s.regs (memory_of s)).memory h
   checked_alike false h = (refl, refl)
 
-  passed_alike : CanMatch p s (step_of s.regs (memory_of s)).0 → Alike p s (bytes.passed p (bytes_of s)) (acts.passed p s)
+  passed_alike : CanMatch p s (step_for (profile_in p) s.regs (memory_of s)).0 → Alike p s (bytes.passed p (bytes_of s)) (acts.passed p s)
   unfolding bytes.passed acts.passed
   passed_alike h = checked_alike (p.look s.regs.pc).is_instr h
 
@@ -131,21 +131,21 @@ module _ (p : Program) (s : Recorded) (knows : KnowsLanding s) where
   onward_alike (Err end, b) (Ok done, t) input a = absurd a
   onward_alike (Ok what, b) (Err why, t) input a = absurd a
 
-pub events_match : (p : Program) (s : Recorded) (input : List ℕ) → KnowsLanding s → CanMatch p s (step_of s.regs (memory_of s)).0
+pub events_match : (p : Program) (s : Recorded) (input : List ℕ) → KnowsLanding s → CanMatch p s (step_for (profile_in p) s.regs (memory_of s)).0
     → Matches (bytes.machine_event p (bytes_of s) input) (acts.recorded_event p s input)
 unfolding bytes.machine_event acts.recorded_event
 events_match p s input knows h = onward_alike p s knows (bytes.passed p (bytes_of s)) (acts.passed p s) input (passed_alike p s knows h)
 
-plain_can : (p : Program) (s : Recorded) (knows : KnowsLanding s) (what : Stepped) → IsPlain s what → CanMatch p s what
+plain_can : (p : Program) (s : Recorded) (knows : KnowsLanding s) (what : Stepped) → IsPlain p s what → CanMatch p s what
 plain_can p s knows Done h = tt
 plain_can p s knows (Call target ret) h = tt
 plain_can p s knows (Return to) h = h
 plain_can p s knows (Gate number) h = λ regs input. gated_alike p s knows number regs input h
 plain_can p s knows (Trap trap) h = h
 
-pub plain_match : (p : Program) (s : Recorded) (input : List ℕ) → KnowsLanding s → IsPlain s (step_of s.regs (memory_of s)).0
+pub plain_match : (p : Program) (s : Recorded) (input : List ℕ) → KnowsLanding s → IsPlain p s (step_for (profile_in p) s.regs (memory_of s)).0
     → Matches (bytes.machine_event p (bytes_of s) input) (acts.recorded_event p s input)
-plain_match p s input knows h = events_match p s input knows (plain_can p s knows (step_of s.regs (memory_of s)).0 h)
+plain_match p s input knows h = events_match p s input knows (plain_can p s knows (step_for (profile_in p) s.regs (memory_of s)).0 h)
 
 pub same_start : (p : Program) → bytes_of (recorded_start p) ≡ start_of p
 same_start p = refl

@@ -9,9 +9,10 @@ use Rattle.eh_bus.specs.Memory.{Memory, stays_guarded}
 use Rattle.guest_gates.specs.declared.gates.TheConstants.{NO_CALLER}
 use Rattle.guest_gates.specs.Gates.{r0}
 use Rattle.step_ahead.specs.Ahead.{branches_some, pushes_some}
+use Rattle.thumb_isa.specs.declared.instr.Instr.{Instr}
 use Rattle.thumb_core.specs.Laws.{KeepsMap, Leaves, Returned}
 use Rattle.thumb_core.specs.Outcome.{Outcome as Stepping}
-use Rattle.thumb_core.specs.Step.{step_of, instr_at}
+use Rattle.thumb_core.specs.Step.{step_for, instr_for}
 use Rattle.thumb_core.proofs.Acts.{step_acts}
 use Rattle.thumb_core.proofs.Follows.{step_follows}
 use Rattle.eh_cxa.specs.ListCalls.{innermost_in}
@@ -21,7 +22,7 @@ use Rattle.thumb_core.specs.declared.regs.Stepped.TheVariants.{Return}
 use Rattle.thumb_core.specs.declared.ends.End.{End}
 use Rattle.thumb_core.specs.declared.ends.End.TheVariants as the_end
 use Rattle.eh_gates.specs.State.{State}
-use Rattle.two_machines.specs.Program.{Program}
+use Rattle.two_machines.specs.Program.{Program, profile_in}
 use Rattle.two_machines.specs.Machine as bytes
 use Rattle.two_machines.specs.Machine.{saved_words, fell_off, sp_end}
 use Rattle.two_machines.specs.Activations.{Activation, Recorded, reg_in, guarded_of, freed_in, with_slots, memory_of, heads, bytes_of, lists_of, cleanups_in}
@@ -32,9 +33,9 @@ use Rattle.two_machines.proofs.Matching.{reguards}
 
 -- ---- a return pushes nothing
 
-pushes_none : (pc to : ℕ) (regs after : Regs) (m : Memory) → Returned (instr_at m pc) to regs m after → pushes_some (instr_at m pc) ≡ 0
-pushes_none pc to regs after m (inl (k, size, e, f, g)) = ap pushes_some e
-pushes_none pc to regs after m (inr (mask, size, e, f)) = ap pushes_some e
+pushes_none : (there : Option (Instr × ℕ)) (to : ℕ) (regs after : Regs) (m : Memory) → Returned there to regs m after → pushes_some there ≡ 0
+pushes_none there to regs after m (inl (k, size, e, f, g)) = ap pushes_some e
+pushes_none there to regs after m (inr (mask, size, e, f)) = ap pushes_some e
 
 -- ---- and its activation keeps no slot that stays
 
@@ -50,7 +51,7 @@ pub leaves_home : (low new g : ℕ) → low ≤ g → g < new → (nat_le new g 
 leaves_home low new g h l = rw (lt-leb new g l, le-ltb g low h) refl
 
 module _ (p : Program) (s : Recorded) (knows : KnowsLanding s) (to : ℕ) (regs : Regs) (m : Memory) (k : KeepsMap (memory_of s) m)
-    (pushes : pushes_some (instr_at (memory_of s) s.regs.pc) ≡ 0) (finds : FindsCaller s to regs) where
+    (pushes : pushes_some (instr_for (profile_in p) (memory_of s) s.regs.pc) ≡ 0) (finds : FindsCaller s to regs) where
   abbrev new : ℕ
   new = slice_index regs.r SP
 
@@ -86,8 +87,8 @@ module _ (p : Program) (s : Recorded) (knows : KnowsLanding s) (to : ℕ) (regs 
 
   same_tests : bytes.tests p (bytes_of s) (Return to) regs ≡ acts.tests p s (Return to) regs
   same_tests =
-      ap (λ (l : Option ℕ). option_or (sp_end l s.home.0 s.regs.pc (reg_in s SP) new) (bytes.control_flow_trap p (branches_some (instr_at (memory_of s) s.regs.pc) s.regs) s.regs.pc (Return to) regs)) knows
-      ∙ ap (λ (w : Option End). option_or (sp_end (innermost_in (cleanups_in s.cleanups)) s.home.0 s.regs.pc (reg_in s SP) new) w) (same_way s.outer refl)
+      ap (λ (l : Option ℕ). option_or (sp_end (p.look s.regs.pc).lowers l s.home.0 s.regs.pc (reg_in s SP) new) (bytes.control_flow_trap p (branches_some (instr_for (profile_in p) (memory_of s) s.regs.pc) s.regs) s.regs.pc (Return to) regs)) knows
+      ∙ ap (λ (w : Option End). option_or (sp_end (p.look s.regs.pc).lowers (innermost_in (cleanups_in s.cleanups)) s.home.0 s.regs.pc (reg_in s SP) new) w) (same_way s.outer refl)
 
   module _ (input : List ℕ) where
     abbrev Match : bytes.Passed → acts.Passed → Type 0
@@ -103,18 +104,18 @@ module _ (p : Program) (s : Recorded) (knows : KnowsLanding s) (to : ℕ) (regs 
         (subst (λ (o : Option End). Match (bytes.tested p (bytes_of s) (Return to) regs m o) (acts.with_tests p s (Return to) regs m)) (sym same_tests)
         (tested_match (acts.tests p s (Return to) regs)))
 
-    checked_match : step_of s.regs (memory_of s) ≡ (Return to, regs, m) → (b : Bool) → Match (bytes.checked p (bytes_of s) b) (acts.checked p s b)
+    checked_match : step_for (profile_in p) s.regs (memory_of s) ≡ (Return to, regs, m) → (b : Bool) → Match (bytes.checked p (bytes_of s) b) (acts.checked p s b)
     checked_match e false = (refl, refl)
     checked_match e true = subst (λ (o : Stepping). Match (bytes.stepped p (bytes_of s) o) (acts.stepped p s o)) (sym e) stepped_match
 
-    event_match : step_of s.regs (memory_of s) ≡ (Return to, regs, m) → Matches (bytes.machine_event p (bytes_of s) input) (acts.recorded_event p s input)
+    event_match : step_for (profile_in p) s.regs (memory_of s) ≡ (Return to, regs, m) → Matches (bytes.machine_event p (bytes_of s) input) (acts.recorded_event p s input)
     unfolding bytes.machine_event acts.recorded_event bytes.passed acts.passed
     event_match e = checked_match e (p.look s.regs.pc).is_instr
 
 pub returns_match : ReturnsMatch
 returns_match p s input to regs m knows words e finds =
-    let acting = step_acts s.regs (memory_of s) (record { count = words.count; words = words.small }) in
-    let left : Returned (instr_at (memory_of s) s.regs.pc) to s.regs (memory_of s) regs =
-    subst (λ (o : Stepping). Leaves (instr_at (memory_of s) s.regs.pc) o.0 s.regs (memory_of s) o.1) e acting.leaves in
-    let k : KeepsMap (memory_of s) m = subst (λ (o : Stepping). KeepsMap (memory_of s) o.2) e (step_follows s.regs (memory_of s)).memory in
-    event_match p s knows to regs m k (pushes_none s.regs.pc to s.regs regs (memory_of s) left) finds input e
+    let acting = step_acts (profile_in p) s.regs (memory_of s) (record { count = words.count; words = words.small }) in
+    let left : Returned (instr_for (profile_in p) (memory_of s) s.regs.pc) to s.regs (memory_of s) regs =
+    subst (λ (o : Stepping). Leaves (instr_for (profile_in p) (memory_of s) s.regs.pc) o.0 s.regs (memory_of s) o.1) e acting.leaves in
+    let k : KeepsMap (memory_of s) m = subst (λ (o : Stepping). KeepsMap (memory_of s) o.2) e (step_follows (profile_in p) s.regs (memory_of s)).memory in
+    event_match p s knows to regs m k (pushes_none (instr_for (profile_in p) (memory_of s) s.regs.pc) to s.regs regs (memory_of s) left) finds input e

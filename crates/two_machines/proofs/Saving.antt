@@ -8,12 +8,12 @@ use Rattle.eh_bus.specs.Lists.{Has}
 use Rattle.eh_bus.specs.Memory.{Memory, stays_guarded}
 use Rattle.eh_bus.proofs.GuardLaws.{has_filter, in_filter, has_inserted, in_inserted, still_inserted}
 use Rattle.eh_bus.proofs.PartLaws.{guarded_refused}
-use Rattle.thumb_core.specs.Step.{step_of}
+use Rattle.thumb_core.specs.Step.{step_for}
 use Rattle.thumb_core.specs.declared.regs.TheConstants.{SP}
 use Rattle.thumb_core.specs.declared.regs.Regs.{Regs}
 use Rattle.thumb_core.specs.declared.regs.Stepped.TheVariants.{Done}
 use Rattle.thumb_core.specs.declared.ends.End.{End}
-use Rattle.two_machines.specs.Program.{Program}
+use Rattle.two_machines.specs.Program.{Program, profile_in}
 use Rattle.two_machines.specs.Activations.{Caller, Activation, Recorded, memory_of, slots_of, guarded_of, reg_in, freed_in}
 use Rattle.two_machines.specs.ActivationMachine.{tested, tests, recorded_after, checked, passed, stepped, onward, recorded_event}
 use Rattle.two_machines.specs.RecordedSlots.{SlotsAreGuarded, saves_of, KeepSlots, AreSaved, SavesBecomeSlots}
@@ -108,7 +108,7 @@ module _ (p : Program) (s t : Recorded) (input text left : List ℕ) (regs : Reg
       let state : recorded_after p s Done regs m ≡ t = cc in
       subst (λ (x : Recorded). AreSaved p s x) state (saved p s regs m)
 
-  from_check : (b : Bool) → step_of s.regs (memory_of s) ≡ (Done, regs, m) → onward p s (checked p s b) input ≡ Goes t text left → AreSaved p s t
+  from_check : (b : Bool) → step_for (profile_in p) s.regs (memory_of s) ≡ (Done, regs, m) → onward p s (checked p s b) input ≡ Goes t text left → AreSaved p s t
   from_check true e f = from_test (tests p s Done regs) (sym (ap (λ o. onward p s (stepped p s o) input) e) ∙ f)
   from_check false e f = absurd (cc)
 

@@ -17,15 +17,15 @@ use Rattle.thumb_core.specs.Branch.{return_to}
 use Rattle.thumb_core.specs.Lists.{bytes_of, load_list, pop_end, pop_to}
 use Rattle.thumb_core.specs.Outcome.{Outcome as Stepping, with_memory}
 use Rattle.thumb_core.specs.Registers.{operand, put, word_in, all_of, with_all, with_pc}
-use Rattle.thumb_core.specs.Step.{step_of, instr_at, instr_of_first, instr_of_second, instr_of}
-use Rattle.thumb_isa.specs.Rows.{decoded_of}
+use Rattle.thumb_core.specs.Step.{step_for, instr_for, instr_of_first, instr_of_second, instr_of}
+use Rattle.thumb_isa.specs.Rows.{decoded_for}
 use Rattle.thumb_core.specs.Words.{Load, listed, loads_from, load_words}
 use Rattle.thumb_core.specs.declared.ends.End.{End}
 use Rattle.thumb_core.specs.declared.regs.CoreTrap.TheVariants as trap
 use Rattle.thumb_core.specs.declared.regs.Regs.{Regs}
 use Rattle.thumb_core.specs.declared.regs.Stepped.TheVariants.{Return, Trap}
 use Rattle.thumb_core.specs.declared.regs.TheConstants.{SP, LR, PC}
-use Rattle.two_machines.specs.Program.{Program}
+use Rattle.two_machines.specs.Program.{Program, profile_in}
 use Rattle.two_machines.specs.Activations.{Activation, Caller, Recorded, reg_in, slots_of, memory_of, with_caller}
 use Rattle.two_machines.specs.ActivationMachine.{returned, activations_after, left_by, reguarded_in, recorded_after, tests, tested, with_tests, popped, popped_back, pops_some, pops_back, trapped_by, stepped, checked, passed, onward, recorded_event}
 use Rattle.two_machines.specs.SlotWords.{over, event_over, is_free, LoadNoSlot, DifferInSlots, ReturnsReadNoSlot}
@@ -117,11 +117,11 @@ module _ (p : Program) (u : Recorded) (input : List ℕ) where
       onward p u (with_tests p u (Return u.first.caller.back) (returned u.first.caller (with_all u.regs (put words SP (reg_in u SP + bytes_of list)))) (memory_of u)) input
   by_load list (Err why) = Ends (trap_end (trap.Memory why) u.regs.pc) u
 
-  module _ (list size : ℕ) (at : instr_at (memory_of u) u.regs.pc ≡ Some (Pop list, size)) (takes : (bit_at list PC == 1) ≡ true) where
+  module _ (list size : ℕ) (at : instr_for (profile_in p) (memory_of u) u.regs.pc ≡ Some (Pop list, size)) (takes : (bit_at list PC == 1) ≡ true) where
     abbrev loaded : Result (List ℕ) BusFault
     loaded = load_list list (reg_in u SP) u.regs (memory_of u)
 
-    goes_back : (o : Result (List ℕ) BusFault) → loaded ≡ o → pops_back u ≡ popped u list o
+    goes_back : (o : Result (List ℕ) BusFault) → loaded ≡ o → pops_back p u ≡ popped u list o
     goes_back o e = ap (λ (q : Option (Instr × ℕ)). popped_back u (pops_some q)) at ∙ ap (λ (b : Bool). cond b (popped u list loaded) None) takes ∙ ap (popped u list) e
 
     abbrev after : List ℕ → Regs
@@ -136,8 +136,8 @@ module _ (p : Program) (u : Recorded) (input : List ℕ) where
         go true = ap (λ (q : Option Regs). onward p u (trapped_by p u (trap.EvenTarget (slice_index words PC)) q) input) (goes_back (Ok words) e)
         go false = any_target ((slice_index words PC) % 2 ^ 32) u.first.caller.back (returned u.first.caller (after words)) (memory_of u)
 
-    pop_event : onward p u (stepped p u (step_of u.regs (memory_of u))) input ≡ by_load list loaded
-    pop_event = ap (λ (o : Stepping). onward p u (stepped p u o) input) (step_is u.regs (memory_of u) (Pop list) size at) ∙ by_end loaded refl
+    pop_event : onward p u (stepped p u (step_for (profile_in p) u.regs (memory_of u))) input ≡ by_load list loaded
+    pop_event = ap (λ (o : Stepping). onward p u (stepped p u o) input) (step_is (profile_in p) u.regs (memory_of u) (Pop list) size at) ∙ by_end loaded refl
 
 -- ---- the event
 
@@ -145,12 +145,12 @@ module _ (p : Program) (s : Recorded) (segments : List Segment) (input : List �
   abbrev t : Recorded
   t = over segments s
 
-  same_instr : instr_at (memory_of t) s.regs.pc ≡ instr_at (memory_of s) s.regs.pc
-  same_instr = ap (λ (o : Result ℕ BusFault). instr_of_first o (memory_of t) s.regs.pc) (d.code s.regs.pc) ∙ go (fetch (memory_of s) s.regs.pc)
+  same_instr : instr_for (profile_in p) (memory_of t) s.regs.pc ≡ instr_for (profile_in p) (memory_of s) s.regs.pc
+  same_instr = ap (λ (o : Result ℕ BusFault). instr_of_first (profile_in p) o (memory_of t) s.regs.pc) (d.code s.regs.pc) ∙ go (fetch (memory_of s) s.regs.pc)
     where
-      go : (o : Result ℕ BusFault) → instr_of_first o (memory_of t) s.regs.pc ≡ instr_of_first o (memory_of s) s.regs.pc
+      go : (o : Result ℕ BusFault) → instr_of_first (profile_in p) o (memory_of t) s.regs.pc ≡ instr_of_first (profile_in p) o (memory_of s) s.regs.pc
       go (Ok first) =
-          ap (λ (o : Result ℕ BusFault). cond (nat_le 0xe800 first) (instr_of_second o first) (instr_of (decoded_of first 0))) (d.code ((s.regs.pc + 2) % 2 ^ 32))
+          ap (λ (o : Result ℕ BusFault). cond (nat_le 0xe800 first) (instr_of_second (profile_in p) o first) (instr_of (decoded_for (profile_in p) first 0))) (d.code ((s.regs.pc + 2) % 2 ^ 32))
       go (Err why) = refl
 
   left_over : (acts : List Activation) (u : Recorded) → left_by acts (over segments u) ≡ over segments (left_by acts u)
@@ -161,7 +161,7 @@ module _ (p : Program) (s : Recorded) (segments : List Segment) (input : List �
   moved_same to regs =
       let base : ℕ → Recorded = λ n. reguarded_in (p.look s.regs.pc).saves n (reg_in s SP) (slice_index regs.r SP) (record s { regs = regs }) in
       ap (λ (n : ℕ). activations_after (Return to) (over segments (base n))) (ap pushes_some same_instr)
-      ∙ left_over (base (pushes_some (instr_at (memory_of s) s.regs.pc))).outer (base (pushes_some (instr_at (memory_of s) s.regs.pc)))
+      ∙ left_over (base (pushes_some (instr_for (profile_in p) (memory_of s) s.regs.pc))).outer (base (pushes_some (instr_for (profile_in p) (memory_of s) s.regs.pc)))
 
   back_same : (to : ℕ) (regs : Regs) → onward p t (with_tests p t (Return to) regs (memory_of t)) input ≡ event_over segments (onward p s (with_tests p s (Return to) regs (memory_of s)) input)
   back_same to regs = go (tests p s (Return to) regs)
@@ -171,7 +171,7 @@ module _ (p : Program) (s : Recorded) (segments : List Segment) (input : List �
       go None = ap (λ (u : Recorded). Goes u [] input) (moved_same to regs)
 
   abbrev Same : Type 0
-  Same = onward p t (stepped p t (step_of s.regs (memory_of t))) input ≡ event_over segments (onward p s (stepped p s (step_of s.regs (memory_of s))) input)
+  Same = onward p t (stepped p t (step_for (profile_in p) s.regs (memory_of t))) input ≡ event_over segments (onward p s (stepped p s (step_for (profile_in p) s.regs (memory_of s))) input)
 
   event_same : Same → recorded_event p t input ≡ event_over segments (recorded_event p s input)
   unfolding recorded_event passed
@@ -181,13 +181,13 @@ module _ (p : Program) (s : Recorded) (segments : List Segment) (input : List �
       go true = h
       go false = refl
 
-  bx_same : (k size : ℕ) → instr_at (memory_of s) s.regs.pc ≡ Some (Bx k, size) → Same
+  bx_same : (k size : ℕ) → instr_for (profile_in p) (memory_of s) s.regs.pc ≡ Some (Bx k, size) → Same
   bx_same k size e =
-      ap (λ (o : Stepping). onward p t (stepped p t o) input) (step_is s.regs (memory_of t) (Bx k) size (same_instr ∙ e))
+      ap (λ (o : Stepping). onward p t (stepped p t o) input) (step_is (profile_in p) s.regs (memory_of t) (Bx k) size (same_instr ∙ e))
       ∙ go (operand s.regs k % 2 == 0)
-      ∙ ap (λ (o : Stepping). event_over segments (onward p s (stepped p s o) input)) (sym (step_is s.regs (memory_of s) (Bx k) size e))
+      ∙ ap (λ (o : Stepping). event_over segments (onward p s (stepped p s o) input)) (sym (step_is (profile_in p) s.regs (memory_of s) (Bx k) size e))
     where
-      no_pop : (u : Recorded) → instr_at (memory_of u) u.regs.pc ≡ Some (Bx k, size) → pops_back u ≡ None
+      no_pop : (u : Recorded) → instr_for (profile_in p) (memory_of u) u.regs.pc ≡ Some (Bx k, size) → pops_back p u ≡ None
       no_pop u f = ap (λ (q : Option (Instr × ℕ)). popped_back u (pops_some q)) f
 
       go : (b : Bool) → onward p t (stepped p t (with_memory (cond b (Trap (trap.EvenTarget (operand s.regs k)), s.regs) (return_to (operand s.regs k) s.regs)) (memory_of t))) input
@@ -210,7 +210,7 @@ module _ (p : Program) (s : Recorded) (segments : List Segment) (input : List �
       let lr = at LR (omega arith) refl (λ e. absurd (omega (arith, e))) in
       rw (e0, e1, e2, e3, e12, lr) refl
 
-  pop_same : (list size : ℕ) → instr_at (memory_of s) s.regs.pc ≡ Some (Pop list, size) → bit_at list PC ≡ 1 → LoadNoSlot (slots_of (s.first ∷ s.outer)) (reg_in s SP) (loads_from 0 (listed list)) → Same
+  pop_same : (list size : ℕ) → instr_for (profile_in p) (memory_of s) s.regs.pc ≡ Some (Pop list, size) → bit_at list PC ≡ 1 → LoadNoSlot (slots_of (s.first ∷ s.outer)) (reg_in s SP) (loads_from 0 (listed list)) → Same
   pop_same list size e b n =
       let takes : (bit_at list PC == 1) ≡ true = ap (λ (x : ℕ). x == 1) b in
       pop_event p t input list size (same_instr ∙ e) takes

@@ -13,14 +13,14 @@ use Rattle.eh_phase.specs.declared.phase2.Entered.{Entered}
 use Rattle.eh_phase.specs.declared.phase2.Entered.TheVariants as enters
 use Rattle.eh_phase.specs.declared.phase2.Goal.{Goal}
 use Rattle.thumb_core.specs.Registers.{even}
-use Rattle.thumb_core.specs.Step.{step_of}
+use Rattle.thumb_core.specs.Step.{step_for}
 use Rattle.thumb_core.specs.declared.regs.TheConstants.{SP}
 use Rattle.thumb_core.specs.declared.regs.Regs.{Regs}
 use Rattle.thumb_core.specs.declared.regs.Stepped.{Stepped}
 use Rattle.thumb_core.specs.declared.regs.Stepped.TheVariants.{Done, Call, Return, Gate, Trap}
 use Rattle.thumb_core.specs.declared.ends.End.{End}
 use Rattle.eh_gates.specs.State.{State}
-use Rattle.two_machines.specs.Program.{Program}
+use Rattle.two_machines.specs.Program.{Program, profile_in}
 use Rattle.two_machines.specs.Machine.{machine_event}
 use Rattle.two_machines.specs.Start.{start_of}
 use Rattle.two_machines.specs.Activations.{Caller, Activation, Recorded, memory_of, heads, bytes_of, callee, registers_of, frames_at, recorded_start, lists_of, cleanups_in}
@@ -36,12 +36,12 @@ Matches (Goes b text left) (Ends why s) = ⊥
 Matches (Ends end b) (Goes s said rest) = ⊥
 
 -- all that instructions do but a return and the gates of exceptions; a POP into pc is a return, whatever word it finds
-abbrev pub IsPlain : Recorded → Stepped → Type 0
-IsPlain s Done = Unit {0}
-IsPlain s (Call target ret) = Unit {0}
-IsPlain s (Return to) = ⊥
-IsPlain s (Gate number) = number ≤ INPUT_GATE
-IsPlain s (Trap trap) = pops_back s ≡ None
+abbrev pub IsPlain : Program → Recorded → Stepped → Type 0
+IsPlain p s Done = Unit {0}
+IsPlain p s (Call target ret) = Unit {0}
+IsPlain p s (Return to) = ⊥
+IsPlain p s (Gate number) = number ≤ INPUT_GATE
+IsPlain p s (Trap trap) = pops_back p s ≡ None
 
 -- the landing sp of the innermost cleanup stands in the pool as in the list
 abbrev pub KnowsLanding : Recorded → Type 0
@@ -50,22 +50,22 @@ KnowsLanding s = innermost_of (word (memory_of s)) (heads (lists_of s)) ≡ inne
 -- an instruction that is no return and no gate of exceptions does the same in both machines
 abbrev pub PlainEventsMatch : Type 0
 PlainEventsMatch =
-    (p : Program) (s : Recorded) (input : List ℕ) → KnowsLanding s → IsPlain s (step_of s.regs (memory_of s)).0
+    (p : Program) (s : Recorded) (input : List ℕ) → KnowsLanding s → IsPlain p s (step_for (profile_in p) s.regs (memory_of s)).0
     → Matches (machine_event p (bytes_of s) input) (recorded_event p s input)
 
 -- ---- the start
 
-abbrev pub IsNoReturn : Recorded → Stepped → Type 0
-IsNoReturn s Done = Unit {0}
-IsNoReturn s (Call target ret) = Unit {0}
-IsNoReturn s (Return to) = ⊥
-IsNoReturn s (Gate number) = Unit {0}
-IsNoReturn s (Trap trap) = pops_back s ≡ None
+abbrev pub IsNoReturn : Program → Recorded → Stepped → Type 0
+IsNoReturn p s Done = Unit {0}
+IsNoReturn p s (Call target ret) = Unit {0}
+IsNoReturn p s (Return to) = ⊥
+IsNoReturn p s (Gate number) = Unit {0}
+IsNoReturn p s (Trap trap) = pops_back p s ≡ None
 
 -- both start in the same state, and with an instruction that is no return both do the same first event
 pub record StartsAlike (p : Program) : Type 0 where
   pub same : bytes_of (recorded_start p) ≡ start_of p
-  pub first : (input : List ℕ) → IsNoReturn (recorded_start p) (step_of (start_of p).regs (start_of p).memory).0
+  pub first : (input : List ℕ) → IsNoReturn p (recorded_start p) (step_for (profile_in p) (start_of p).regs (start_of p).memory).0
       → Matches (machine_event p (start_of p) input) (recorded_event p (recorded_start p) input)
 
 abbrev pub MachinesStartAlike : Type 0
@@ -88,17 +88,17 @@ pub record IsBack (c : Caller) (t : Recorded) : Type 0 where
   pub saved : callee t.regs.r ≡ c.saved
 
 -- what an instruction does is a return; a POP into pc whose words can be loaded is one whatever they are
-abbrev pub IsReturn : Recorded → Stepped → Type 0
-IsReturn s (Return to) = Unit {0}
-IsReturn s (Trap trap) = IsSome (pops_back s)
-IsReturn s Done = ⊥
-IsReturn s (Call target ret) = ⊥
-IsReturn s (Gate number) = ⊥
+abbrev pub IsReturn : Program → Recorded → Stepped → Type 0
+IsReturn p s (Return to) = Unit {0}
+IsReturn p s (Trap trap) = IsSome (pops_back p s)
+IsReturn p s Done = ⊥
+IsReturn p s (Call target ret) = ⊥
+IsReturn p s (Gate number) = ⊥
 
 -- a return that goes on gives back what was recorded, whatever the stack holds
 abbrev pub ReturnsGiveBack : Type 0
 ReturnsGiveBack =
-    (p : Program) (s t : Recorded) (input text left : List ℕ) → IsReturn s (step_of s.regs (memory_of s)).0
+    (p : Program) (s t : Recorded) (input text left : List ℕ) → IsReturn p s (step_for (profile_in p) s.regs (memory_of s)).0
     → recorded_event p s input ≡ Goes t text left → IsWhole s.first → IsBack s.first.caller t
 
 -- ---- a call
@@ -122,7 +122,7 @@ pub record IsCalled (target ret : ℕ) (s t : Recorded) : Type 0 where
 abbrev pub CallsRecord : Type 0
 CallsRecord =
     (p : Program) (s t : Recorded) (input text left : List ℕ) (target ret : ℕ) (regs : Regs) (m : Memory)
-    → step_of s.regs (memory_of s) ≡ (Call target ret, regs, m) → recorded_event p s input ≡ Goes t text left → IsCalled target ret s t
+    → step_for (profile_in p) s.regs (memory_of s) ≡ (Call target ret, regs, m) → recorded_event p s input ≡ Goes t text left → IsCalled target ret s t
 
 -- ---- the frames of a throw
 

@@ -49,7 +49,7 @@ use Rattle.thumb_isa.specs.declared.instr.Instr.TheVariants.{Pop}
 use Rattle.thumb_core.specs.Lists.{bytes_of, load_list}
 use Rattle.thumb_core.specs.Outcome.{Outcome as Stepping}
 use Rattle.thumb_core.specs.Registers.{all_of, even, put, with_all}
-use Rattle.thumb_core.specs.Step.{step_of, instr_at}
+use Rattle.thumb_core.specs.Step.{step_for, instr_for}
 use Rattle.thumb_core.specs.declared.regs.CoreTrap.{CoreTrap}
 use Rattle.thumb_core.specs.declared.regs.TheConstants.{SP, PC}
 use Rattle.thumb_core.specs.declared.regs.Regs.{Regs}
@@ -69,7 +69,7 @@ use Rattle.eh_gates.specs.CallGates.{fault_end, with_r1}
 use Rattle.eh_gates.specs.Landing.{landed, pad_event, words_of}
 use Rattle.eh_gates.specs.Throwing.{handed, barrier_words, throw_event, barrier_in, rethrow_end}
 use Rattle.eh_gates.specs.Resuming.{goal_in}
-use Rattle.two_machines.specs.Program.{Program, program_tables}
+use Rattle.two_machines.specs.Program.{Program, program_tables, profile_in}
 use Rattle.two_machines.specs.Machine.{sp_end, control_flow_trap, fell_off, saved_words}
 use Rattle.two_machines.specs.Activations.{Caller, Activation, InProgress, Recorded, callee, with_caller, registers_of, released_in, freed_in, staying, with_slots, lists_of, reg_in, memory_of, words_in, heads, with_words, with_lists, first_place, frames_at, cleanups_in}
 
@@ -369,8 +369,8 @@ control_flow_trap_of p s branches (Trap trap) regs = None
 
 abbrev pub tests : Program → Recorded → Stepped → Regs → Option End
 tests p s what regs =
-    option_or (sp_end (innermost_in (cleanups_in s.cleanups)) s.home.0 s.regs.pc (reg_in s SP) (slice_index regs.r SP))
-    (control_flow_trap_of p s (branches_some (instr_at (memory_of s) s.regs.pc) s.regs) what regs)
+    option_or (sp_end (p.look s.regs.pc).lowers (innermost_in (cleanups_in s.cleanups)) s.home.0 s.regs.pc (reg_in s SP) (slice_index regs.r SP))
+    (control_flow_trap_of p s (branches_some (instr_for (profile_in p) (memory_of s) s.regs.pc) s.regs) what regs)
 
 -- the slots after an instruction: a push adds those of its words that are saves to the first activation's, and where sp rose those below
 -- it leave
@@ -383,7 +383,7 @@ reguarded_in saves count old new s = record s {
 
 abbrev pub reguarded_at : Program → Recorded → Regs → Recorded → Recorded
 reguarded_at p s regs t =
-    reguarded_in (p.look s.regs.pc).saves (pushes_some (instr_at (memory_of s) s.regs.pc)) (reg_in s SP) (slice_index regs.r SP) t
+    reguarded_in (p.look s.regs.pc).saves (pushes_some (instr_for (profile_in p) (memory_of s) s.regs.pc)) (reg_in s SP) (slice_index regs.r SP) t
 
 -- the activations after it: a call has a new one in front, and a return takes the first off
 abbrev pub called : ℕ → ℕ → Recorded → Recorded
@@ -436,8 +436,8 @@ popped_back s (Some list) = if bit_at list PC == 1 then popped s list (load_list
 popped_back s None = None
 
 -- .. where it stands at pc
-abbrev pub pops_back : Recorded → Option Regs
-pops_back s = popped_back s (pops_some (instr_at (memory_of s) s.regs.pc))
+abbrev pub pops_back : Program → Recorded → Option Regs
+pops_back p s = popped_back s (pops_some (instr_for (profile_in p) (memory_of s) s.regs.pc))
 
 -- a trap ends the run; but a POP into pc returns whatever word it finds for pc, which may be a saved one
 abbrev pub trapped_by : Program → Recorded → CoreTrap → Option Regs → Passed
@@ -445,11 +445,11 @@ trapped_by p s trap None = (Err (trap_end trap s.regs.pc), s)
 trapped_by p s trap (Some regs) = with_tests p s (Return s.first.caller.back) (returned s.first.caller regs) (memory_of s)
 
 abbrev pub stepped : Program → Recorded → Stepping → Passed
-stepped p s (Trap trap, regs, m) = trapped_by p s trap (pops_back s)
+stepped p s (Trap trap, regs, m) = trapped_by p s trap (pops_back p s)
 stepped p s (what, regs, m) = with_tests p s what (registers_after s.first.caller what regs) m
 
 abbrev pub checked : Program → Recorded → Bool → Passed
-checked p s true = stepped p s (step_of s.regs (memory_of s))
+checked p s true = stepped p s (step_for (profile_in p) s.regs (memory_of s))
 checked p s false = (Err (the_end.Trap kind.FellOff s.regs.pc s.regs.pc), s)
 
 unfoldable pub passed : Program → Recorded → Passed

@@ -9,5 +9,10 @@ abbrev pub program_of : Accepted → Program
 program_of a = record {
   image = a.image;
   types = a.types;
-  look = λ x. record { is_instr = (look a.roles x).is_instr; is_function = begins_function a.image.functions x; saves = (look a.roles x).saves };
+  look = λ x. record {
+    is_instr = (look a.roles x).is_instr;
+    lowers = (look a.roles x).lowers;
+    is_function = begins_function a.image.functions x;
+    saves = (look a.roles x).saves;
+  };
 }

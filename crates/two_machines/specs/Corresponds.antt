@@ -5,14 +5,14 @@ use Rattle.guest_gates.specs.declared.gates.TheConstants.{INPUT_GATE}
 use Rattle.eh_bus.specs.Map.{IsMap}
 use Rattle.eh_cxa.specs.Stands.{Stands}
 use Rattle.eh_cxa.specs.Words.{word}
-use Rattle.thumb_core.specs.Step.{step_of}
+use Rattle.thumb_core.specs.Step.{step_for}
 use Rattle.thumb_core.specs.declared.regs.Stepped.{Stepped}
 use Rattle.thumb_core.specs.declared.regs.Stepped.TheVariants.{Done, Call, Return, Gate, Trap}
 use Rattle.eh_gates.specs.declared.gates.TheConstants.{THROW_GATE, RETHROW_GATE, END_CLEANUP_GATE}
 use Rattle.eh_gates.specs.declared.state.Turned.TheVariants.{Went, Ended}
 use Rattle.eh_gates.specs.State.{Tables, Outcome}
 use Rattle.eh_gates.specs.Gates.{gate_of}
-use Rattle.two_machines.specs.Program.{Program}
+use Rattle.two_machines.specs.Program.{Program, profile_in}
 use Rattle.two_machines.specs.Machine.{machine_event}
 use Rattle.two_machines.specs.Start.{start_of}
 use Rattle.two_machines.specs.Activations.{Recorded, reg_in, memory_of, heads, bytes_of, recorded_start, lists_of}
@@ -43,12 +43,12 @@ pub record GateMatches (o : Outcome) (q : acts.Outcome) : Type 0 where
   pub still : Corresponds q.1
 
 -- all that instructions do but a return, a throw, a rethrow and the end of a cleanup
-abbrev pub IsInPlace : Recorded → Stepped → Type 0
-IsInPlace s Done = Unit {0}
-IsInPlace s (Call target ret) = Unit {0}
-IsInPlace s (Return to) = ⊥
-IsInPlace s (Gate number) = WalksNone number
-IsInPlace s (Trap trap) = acts.pops_back s ≡ None
+abbrev pub IsInPlace : Program → Recorded → Stepped → Type 0
+IsInPlace p s Done = Unit {0}
+IsInPlace p s (Call target ret) = Unit {0}
+IsInPlace p s (Return to) = ⊥
+IsInPlace p s (Gate number) = WalksNone number
+IsInPlace p s (Trap trap) = acts.pops_back p s ≡ None
 
 pub record CallsMatch : Type 0 where
   pub start : (p : Program) → IsMap (start_of p).memory → Corresponds (recorded_start p)
@@ -57,7 +57,8 @@ pub record CallsMatch : Type 0 where
       (g : Tables) (number next : ℕ) (s : Recorded) → Corresponds s → reg_in s 0 < 2 ^ 32 → WalksNone number
       → GateMatches (gate_of g number next (bytes_of s)) (acts.gate_of g number next s)
   pub events :
-      (p : Program) (s : Recorded) (input : List ℕ) → Corresponds s → reg_in s 0 < 2 ^ 32 → IsInPlace s (step_of s.regs (memory_of s)).0
+      (p : Program) (s : Recorded) (input : List ℕ) → Corresponds s → reg_in s 0 < 2 ^ 32
+      → IsInPlace p s (step_for (profile_in p) s.regs (memory_of s)).0
       → Matches (machine_event p (bytes_of s) input) (acts.recorded_event p s input)
 
 -- all but gates of exceptions
@@ -77,5 +78,6 @@ pub record KeepLists (s t : Recorded) : Type 0 where
 
 abbrev pub ListsAreKept : Type 0
 ListsAreKept =
-    (p : Program) (s t : Recorded) (input text left : List ℕ) → Stands (word (memory_of s)) (heads (lists_of s)) (lists_of s) → IsNoCall (step_of s.regs (memory_of s)).0
+    (p : Program) (s t : Recorded) (input text left : List ℕ) → Stands (word (memory_of s)) (heads (lists_of s)) (lists_of s)
+    → IsNoCall (step_for (profile_in p) s.regs (memory_of s)).0
     → acts.recorded_event p s input ≡ Goes t text left → KeepLists s t

@@ -17,7 +17,7 @@ use Rattle.eh_gates.specs.State.{State, Outcome, reg}
 use Rattle.eh_gates.specs.Gates.{gate_of}
 use Rattle.step_ahead.specs.Ahead.{branches_some, pushes_some}
 use Rattle.thumb_core.specs.Outcome.{Outcome as Stepping}
-use Rattle.thumb_core.specs.Step.{step_of, instr_at}
+use Rattle.thumb_core.specs.Step.{step_for, instr_for}
 use Rattle.thumb_core.specs.declared.regs.TheConstants.{SP}
 use Rattle.thumb_core.specs.declared.regs.Regs.{Regs}
 use Rattle.thumb_core.specs.declared.regs.Stepped.{Stepped}
@@ -25,9 +25,13 @@ use Rattle.thumb_core.specs.declared.regs.Stepped.TheVariants.{Done, Call, Retur
 use Rattle.thumb_core.specs.declared.ends.TrapKind.TheVariants as kind
 use Rattle.thumb_core.specs.declared.ends.End.{End}
 use Rattle.thumb_core.specs.declared.ends.End.TheVariants as the_end
-use Rattle.two_machines.specs.Program.{Program, program_tables}
+use Rattle.two_machines.specs.Program.{Program, program_tables, profile_in}
 
 -- ---- the tests of sp
+
+-- at a lowering place sp rises
+abbrev pub raises : Bool → ℕ → ℕ → Bool
+raises lowers old new = lowers && nat_lt old new
 
 -- sp rises above the landing sp of the innermost cleanup in progress
 abbrev pub leaves_cleanup : Option ℕ → ℕ → ℕ → Bool
@@ -35,10 +39,11 @@ leaves_cleanup None old new = false
 leaves_cleanup (Some landing) old new = nat_lt old new && nat_lt landing new
 
 -- and it stays at or above the start of the running stack
-abbrev pub sp_end : Option ℕ → ℕ → ℕ → ℕ → ℕ → Option End
-sp_end landing low pc old new =
-    if leaves_cleanup landing old new then Some (the_end.Trap kind.SpInCleanup new pc)
-    else (if nat_lt new low then Some (the_end.Trap kind.StackLimit new pc) else None)
+abbrev pub sp_end : Bool → Option ℕ → ℕ → ℕ → ℕ → ℕ → Option End
+sp_end lowers landing low pc old new =
+    if raises lowers old new then Some (the_end.Trap kind.SpRaised new pc)
+    else (if leaves_cleanup landing old new then Some (the_end.Trap kind.SpInCleanup new pc)
+    else (if nat_lt new low then Some (the_end.Trap kind.StackLimit new pc) else None))
 
 -- ---- the tests of where the run goes on
 
@@ -64,12 +69,12 @@ control_flow_trap p branches pc (Trap trap) regs = None
 -- the end by a test: first of sp, by the landing sp of the innermost cleanup, the start of the running stack, and pc and sp before the
 -- instruction; then of where the run goes on
 abbrev pub refusal : Program → Option ℕ × ℕ → ℕ × ℕ → Bool → Stepped → Regs → Option End
-refusal p stack at branches what regs = option_or (sp_end stack.0 stack.1 at.0 at.1 (slice_index regs.r SP)) (control_flow_trap p branches at.0 what regs)
+refusal p stack at branches what regs = option_or (sp_end (p.look at.0).lowers stack.0 stack.1 at.0 at.1 (slice_index regs.r SP)) (control_flow_trap p branches at.0 what regs)
 
 -- .. of what was done in a state and the registers after it
 abbrev pub tests : Program → State → Stepped → Regs → Option End
 tests p s what regs =
-    refusal p (innermost_of (word s.memory) s.globals, s.memory.home.0) (s.regs.pc, reg s SP) (branches_some (instr_at s.memory s.regs.pc) s.regs) what regs
+    refusal p (innermost_of (word s.memory) s.globals, s.memory.home.0) (s.regs.pc, reg s SP) (branches_some (instr_for (profile_in p) s.memory s.regs.pc) s.regs) what regs
 
 -- ---- guards
 
@@ -87,7 +92,7 @@ reguarded saves count old new m = freed_below old new (guard_all (saved_words sa
 
 abbrev pub reguarded_at : Program → State → Regs → Memory → Memory
 reguarded_at p s regs m =
-    reguarded (p.look s.regs.pc).saves (pushes_some (instr_at s.memory s.regs.pc)) (reg s SP) (slice_index regs.r SP) m
+    reguarded (p.look s.regs.pc).saves (pushes_some (instr_for (profile_in p) s.memory s.regs.pc)) (reg s SP) (slice_index regs.r SP) m
 
 -- ---- up to the gates: the end, which leaves the state as it was, or what was done and the state after it
 
@@ -103,7 +108,7 @@ stepped p s (Trap trap, regs, m) = (Err (trap_end trap s.regs.pc), s)
 stepped p s (what, regs, m) = tested p s what regs m (tests p s what regs)
 
 abbrev pub checked : Program → State → Bool → Passed
-checked p s true = stepped p s (step_of s.regs s.memory)
+checked p s true = stepped p s (step_for (profile_in p) s.regs s.memory)
 checked p s false = (Err (the_end.Trap kind.FellOff s.regs.pc s.regs.pc), s)
 
 unfoldable pub passed : Program → State → Passed

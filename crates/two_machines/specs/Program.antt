@@ -3,11 +3,15 @@
 use Rattle.std.specs.Prelude.{ℕ, Bool, List}
 use Rattle.elf_image.specs.Image.{Image}
 use Rattle.eh_types.specs.Graph.{Row}
+use Rattle.thumb_isa.specs.declared.profile.Profile.{Profile}
+use Rattle.image_memory.specs.Profiles.{profile_of}
 use Rattle.eh_gates.specs.State.{Tables, tables_of}
 
--- at an address: an instruction that the checker reached, the start of a function, and which words of the push there are saves, as bits
+-- at an address: an instruction that the checker reached, whether it is a lowering place, the start of a function, and which words of the push
+-- there are saves, as bits
 pub record Role : Type 0 where
   pub is_instr : Bool
+  pub lowers : Bool
   pub is_function : Bool
   pub saves : ℕ
 
@@ -15,6 +19,10 @@ pub record Program : Type 0 where
   pub image : Image
   pub types : List Row
   pub look : ℕ → Role
+
+-- the profile whose rows its instructions are decoded by
+abbrev pub profile_in : Program → Profile
+profile_in p = profile_of p.image
 
 abbrev pub program_tables : Program → Tables
 program_tables p = tables_of p.image p.types

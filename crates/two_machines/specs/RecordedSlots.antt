@@ -9,12 +9,12 @@ use Rattle.eh_bus.specs.declared.fault.BusFault.TheVariants.{SavedSlot}
 use Rattle.guest_gates.specs.declared.gates.TheConstants.{NO_CALLER}
 use Rattle.step_ahead.specs.Ahead.{pushes_some}
 use Rattle.thumb_core.specs.Laws.{AreWords}
-use Rattle.thumb_core.specs.Step.{step_of, instr_at}
+use Rattle.thumb_core.specs.Step.{step_for, instr_for}
 use Rattle.thumb_core.specs.declared.regs.TheConstants.{SP}
 use Rattle.thumb_core.specs.declared.regs.Regs.{Regs}
 use Rattle.thumb_core.specs.declared.regs.Stepped.TheVariants.{Done, Return}
 use Rattle.thumb_core.specs.declared.ends.End.{End}
-use Rattle.two_machines.specs.Program.{Program}
+use Rattle.two_machines.specs.Program.{Program, profile_in}
 use Rattle.two_machines.specs.Machine.{machine_event, saved_words}
 use Rattle.two_machines.specs.Start.{start_of}
 use Rattle.two_machines.specs.Activations.{Activation, Recorded, slots_of, reg_in, memory_of, bytes_of, recorded_start}
@@ -35,7 +35,7 @@ SlotsAreGuarded = (s : Recorded) → AreGuarded s
 
 -- the words of the instruction at pc that are saves: of those that it pushes, from the sp after it on
 abbrev pub saves_of : Program → Recorded → ℕ → List ℕ
-saves_of p s new = saved_words (p.look s.regs.pc).saves (pushes_some (instr_at (memory_of s) s.regs.pc)) new
+saves_of p s new = saved_words (p.look s.regs.pc).saves (pushes_some (instr_for (profile_in p) (memory_of s) s.regs.pc)) new
 
 -- where sp goes to, a slot stays at it and above, and below the running stack; where sp didn't rise each stays
 abbrev pub Stays : Recorded → ℕ → ℕ → Type 0
@@ -59,7 +59,7 @@ pub record AreSaved (p : Program) (s t : Recorded) : Type 0 where
 abbrev pub SavesBecomeSlots : Type 0
 SavesBecomeSlots =
     (p : Program) (s t : Recorded) (input text left : List ℕ) (regs : Regs) (m : Memory)
-    → step_of s.regs (memory_of s) ≡ (Done, regs, m) → recorded_event p s input ≡ Goes t text left → AreSaved p s t
+    → step_for (profile_in p) s.regs (memory_of s) ≡ (Done, regs, m) → recorded_event p s input ≡ Goes t text left → AreSaved p s t
 
 -- ---- words beyond the running stack
 
@@ -89,7 +89,8 @@ pub record FindsCaller (s : Recorded) (to : ℕ) (regs : Regs) : Type 0 where
 abbrev pub ReturnsMatch : Type 0
 ReturnsMatch =
     (p : Program) (s : Recorded) (input : List ℕ) (to : ℕ) (regs : Regs) (m : Memory) → KnowsLanding s → AreWords 15 s.regs.r
-    → step_of s.regs (memory_of s) ≡ (Return to, regs, m) → FindsCaller s to regs → Matches (machine_event p (bytes_of s) input) (recorded_event p s input)
+    → step_for (profile_in p) s.regs (memory_of s) ≡ (Return to, regs, m) → FindsCaller s to regs
+    → Matches (machine_event p (bytes_of s) input) (recorded_event p s input)
 
 -- the first event of a run, a return too, is the same in both
 abbrev pub FirstEventsMatch : Type 0

@@ -10,14 +10,14 @@ use Rattle.eh_cxa.specs.ListCalls.{rethrow_list}
 use Rattle.eh_cxa.specs.Words.{block_slot}
 use Rattle.eh_phase.specs.declared.verdict.Thrown.{Thrown}
 use Rattle.thumb_isa.specs.declared.instr.Instr.TheVariants.{Bx, Pop}
-use Rattle.thumb_core.specs.Step.{instr_at}
+use Rattle.thumb_core.specs.Step.{instr_for}
 use Rattle.thumb_core.specs.Words.{Load, listed, loads_from}
 use Rattle.thumb_core.specs.declared.ends.End.{End}
 use Rattle.thumb_core.specs.declared.regs.TheConstants.{SP, LR, PC}
 use Rattle.eh_gates.specs.declared.gates.TheConstants.{THROW_GATE, RETHROW_GATE}
 use Rattle.eh_gates.specs.State.{Tables}
 use Rattle.eh_gates.specs.Throwing.{bytes_of}
-use Rattle.two_machines.specs.Program.{Program}
+use Rattle.two_machines.specs.Program.{Program, profile_in}
 use Rattle.two_machines.specs.Activations.{Recorded, slots_of, reg_in, memory_of, lists_of}
 use Rattle.two_machines.specs.ActivationMachine.{Outcome, gate_of, searched, thrown_first, thrown_of_slot, recorded_event}
 
@@ -48,10 +48,10 @@ LoadNoSlot slots base (w ∷ more) = (is_free w.reg ≡ true → Has slots ((bas
 -- that it loads there is data, as for LDR.
 pub record ReadsNoSlot (p : Program) (s : Recorded) (segments : List Segment) (input : List ℕ) : Type 0 where
   pub bx :
-      (m size : ℕ) → instr_at (memory_of s) s.regs.pc ≡ Some (Bx m, size)
+      (m size : ℕ) → instr_for (profile_in p) (memory_of s) s.regs.pc ≡ Some (Bx m, size)
       → recorded_event p (over segments s) input ≡ event_over segments (recorded_event p s input)
   pub pop :
-      (list size : ℕ) → instr_at (memory_of s) s.regs.pc ≡ Some (Pop list, size) → bit_at list PC ≡ 1
+      (list size : ℕ) → instr_for (profile_in p) (memory_of s) s.regs.pc ≡ Some (Pop list, size) → bit_at list PC ≡ 1
       → LoadNoSlot (slots_of (s.first ∷ s.outer)) (reg_in s SP) (loads_from 0 (listed list))
       → recorded_event p (over segments s) input ≡ event_over segments (recorded_event p s input)
 

@@ -10,13 +10,13 @@ pub returns-then-fast_path-clause-told : goal.returns-then-fast_path-clause-told
 returns-then-fast_path-clause-told g c =
     let p = program_of c.args.a.now in
     plain_turned _ _ p (state_of c.args.core.now (g.B.Bus.memory c.args.shared.now.bus) c.args.events.now) Done _
-    (((c.if-fast_path.ensures p c.requires.roles).done refl).does c.args.events.now) (λ number e. absurd (cc))
+    (((c.if-fast_path.ensures p c.requires).done refl).does c.args.events.now) (λ number e. absurd (cc))
 
 -- ---- the others, from where nothing was changed
 
 pub slow_path-requires : goal.slow_path-requires
 slow_path-requires g c =
-    let same = (c.if-fast_path.ensures (program_of c.args.a.now) c.requires.roles).left refl in
+    let same = (c.if-fast_path.ensures (program_of c.args.a.now) c.requires).left refl in
     record {
       fetched = same_fetched (program_of c.args.a.now) _ _ _ _ c.args.at.now same c.requires;
       told = same_told c.args.at.now.instr c.look_ahead-ahead.result _ _ same.0 c.look_ahead-ahead.ensures;
@@ -25,12 +25,12 @@ slow_path-requires g c =
 pub returns-clause-told : goal.returns-clause-told
 returns-clause-told g c =
     let p = program_of c.args.a.now in
-    turned_as_before _ _ _ _ p _ _ _ _ (same_state _ _ _ _ c.args.events.now ((c.if-fast_path.ensures p c.requires.roles).left refl)) c.slow_path.ensures.told
+    turned_as_before _ _ _ _ p _ _ _ _ (same_state _ _ _ _ c.args.events.now ((c.if-fast_path.ensures p c.requires).left refl)) c.slow_path.ensures.told
 
 pub returns-clause-given : goal.returns-clause-given
 returns-clause-given g c =
     let p = program_of c.args.a.now in
-    given_as_before _ _ p _ _ _ _ (same_state _ _ _ _ c.args.events.now ((c.if-fast_path.ensures p c.requires.roles).left refl)) c.slow_path.ensures.given
+    given_as_before _ _ p _ _ _ _ (same_state _ _ _ _ c.args.events.now ((c.if-fast_path.ensures p c.requires).left refl)) c.slow_path.ensures.given
 
 -- ---- on bytes that were given
 
@@ -38,4 +38,4 @@ pub returns-then-fast_path-clause-given : goal.returns-then-fast_path-clause-giv
 returns-then-fast_path-clause-given g c =
     let p = program_of c.args.a.now in
     let s : State = state_of c.args.core.now (g.B.Bus.memory c.args.shared.now.bus) c.args.events.now in
-    given_plain (g.O.Sink.written c.args.out.now) p s Done _ (((c.if-fast_path.ensures p c.requires.roles).done refl).does c.args.events.now) (λ number e. absurd (cc))
+    given_plain (g.O.Sink.written c.args.out.now) p s Done _ (((c.if-fast_path.ensures p c.requires).done refl).does c.args.events.now) (λ number e. absurd (cc))

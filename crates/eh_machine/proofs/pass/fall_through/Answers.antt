@@ -1,6 +1,7 @@
 use Rattle.std.proofs.Common.{ℕ, refl, sym, ap, ◌∙◌, arith}
 use Rattle.thumb_core.specs.declared.regs.Stepped.TheVariants.{Done}
 use Rattle.eh_gates.specs.State.{State, state_of}
+use Rattle.machines_agree.specs.two_machines.Program.{profile_in}
 use Rattle.eh_machine.specs.Passes.{at_of}
 use Rattle.eh_machine.proofs.Passing.{went_on, was_done, tested_passes, guarded_is, at_step, pushes_there, in_stack, straight, no_test, as_done}
 use Rattle.eh_machine.proofs.pass.fall_through.Goals as goal
@@ -12,9 +13,8 @@ guard_pushed-requires g c =
     let m = g.B.Bus.memory c.execute-what.new.bus in
     let what = c.execute-what.result in
     let regs = c.execute-what.new.regs in
-    let did = at_step c.args.core.now.regs old at (what, regs, m) c.requires.there c.execute-what.ensures.effect in
-    let stack = in_stack c.args.core.now.regs old at c.args.pushes what regs m (g.met.B.Bus.is_map c.args.bus.now) (omega arith) c.requires.there c.requires.told.count
-    did c.in_default.not-Trap in
+    let stack = in_stack c.args.core.now.regs old at c.args.pushes what regs m (g.met.B.Bus.is_map c.args.bus.now) (omega arith) c.requires.told.count
+    c.execute-what.ensures.effect c.in_default.not-Trap in
     let on = straight c.args.core.now.regs old at c.args.pushes what regs m c.requires.told c.requires.range (omega arith) c.are_words.ensures (c.if-not-has_room.ensures.room refl)
     c.execute-what.ensures.effect c.in_default.not-Trap in
     let home = (g.met.B.Bus.is_map c.args.bus.now).home.low in
@@ -27,7 +27,7 @@ guard_pushed-requires g c =
     }
 
 pub returns : goal.returns
-returns g c = λ p roles.
+returns g c = λ p is.
     let at = at_of c.args.at.now in
     let old = g.B.Bus.memory c.args.bus.now in
     let what = c.execute-what.result in
@@ -38,9 +38,9 @@ returns g c = λ p roles.
     c.execute-what.ensures.effect c.in_default.not-Trap in
     was_done p c.args.core.now old _ _ (went_on p c.args.core.now old _ _ Done (λ events.
     let s : State = state_of c.args.core.now old events in
-    let did = at_step s.regs old at (what, regs, m) c.requires.there c.execute-what.ensures.effect in
-    let t = no_test p s at c.args.pushes c.home-low.result.0 what regs c.requires.there c.requires.told (ap (λ (h : ℕ × ℕ). h.0) c.home-low.ensures) on
-    (c.if-not-has_room.ensures.low refl) (sym roles.last ∙ c.if-at.false) in
-    as_done p s _ what on.done (tested_passes p s what regs m roles.reached did c.in_default.not-Trap new t
-    (guarded_is p s regs m new _ c.args.pushes _ roles.saves (pushes_there s.regs old at c.args.pushes c.requires.there c.requires.told.count) refl on.high c.guard_pushed.ensures)))
-    (λ number events is. absurd (cc)))
+    let did = at_step (profile_in p) s.regs old at (what, regs, m) is.there c.execute-what.ensures.effect in
+    let t = no_test p s at c.args.pushes c.home-low.result.0 what regs is.there c.requires.told (ap (λ (h : ℕ × ℕ). h.0) c.home-low.ensures) on
+    (c.if-not-has_room.ensures.low refl) (sym is.roles.last ∙ c.if-at.false) in
+    as_done p s _ what on.done (tested_passes p s what regs m is.roles.reached did c.in_default.not-Trap new t
+    (guarded_is p s regs m new _ c.args.pushes _ is.roles.saves (pushes_there (profile_in p) s.regs old at c.args.pushes is.there c.requires.told.count) refl on.high c.guard_pushed.ensures)))
+    (λ number events gate. absurd (cc)))

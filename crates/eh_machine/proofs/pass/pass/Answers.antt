@@ -1,6 +1,8 @@
 use Rattle.std.proofs.Common.{subst}
 use Rattle.step_ahead.specs.Ahead.{IsAhead}
 use Rattle.step_ahead.specs.declared.instruction.Ahead.{Ahead as Told}
+use Rattle.machines_agree.specs.two_machines.Program.{profile_in}
+use Rattle.machines_agree.specs.two_machines.Checked.{program_of}
 use Rattle.eh_machine.specs.Passes.{at_of}
 use Rattle.eh_machine.proofs.Passing.{none_stored}
 use Rattle.eh_machine.proofs.pass.pass.Goals as goal
@@ -8,4 +10,4 @@ use Rattle.eh_machine.proofs.pass.pass.Goals as goal
 pub pass_with-requires-clause-restores : goal.pass_with-requires-clause-restores
 pass_with-requires-clause-restores g c =
     let told = subst (λ (t : Told). IsAhead c.args.at.now.instr c.args.core.now.regs t) c.in-Other.is c.requires.told in
-    none_stored c.args.core.now.regs (g.B.Bus.memory c.args.bus.now) (at_of c.args.at.now) c.are_words.ensures c.requires.fetched.there told.stores
+    none_stored (profile_in (program_of c.args.a.now)) c.args.core.now.regs (g.B.Bus.memory c.args.bus.now) (at_of c.args.at.now) c.are_words.ensures c.requires.fetched.there told.stores

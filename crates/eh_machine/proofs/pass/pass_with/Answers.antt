@@ -1,5 +1,6 @@
 use Rattle.std.proofs.Common.{ℕ, slice_index, refl, sym, ap, ◌∙◌, arith}
 use Rattle.eh_gates.specs.State.{State, state_of}
+use Rattle.machines_agree.specs.two_machines.Program.{profile_in}
 use Rattle.machines_agree.specs.two_machines.Checked.{program_of}
 use Rattle.eh_machine.specs.Passes.{at_of}
 use Rattle.eh_machine.proofs.Passing.{ended, went_on, by_trap, trap_passes, stopped, tested_passes, restored, left_as_it_was, tests_are, reguarded_is, gate_done, gate_passes, above_low, at_step, branches_there, pushes_there, leaves_there, in_stack}
@@ -13,7 +14,7 @@ returns-in-Trap g c =
     record {
       passes = ended (program_of c.args.a.now) c.args.core.now m _ _ c.trap_end.result
           (λ events. trap_passes (program_of c.args.a.now) (state_of c.args.core.now m events) c.in-Trap.trap c.execute-what.new.regs
-          (g.B.Bus.memory c.execute-what.new.bus) c.trap_end.result c.requires.fetched.roles.reached (at_step c.args.core.now.regs m at _ c.requires.fetched.there c.in-Trap.ensures.effect)
+          (g.B.Bus.memory c.execute-what.new.bus) c.trap_end.result c.requires.fetched.roles.reached (at_step (profile_in (program_of c.args.a.now)) c.args.core.now.regs m at _ c.requires.fetched.there c.in-Trap.ensures.effect)
           c.in-Trap.ensures.trap.0 c.in-Trap.ensures.trap.1 c.trap_end.ensures)
           (by_trap c.in-Trap.trap _ c.trap_end.result c.trap_end.ensures);
     }
@@ -29,7 +30,7 @@ returns-in-Done g c =
     record {
       passes = ended p c.args.core.now old _ _ c.in-Some.end (λ events.
           let s : State = state_of c.args.core.now old events in
-          let did = at_step s.regs old at (c.execute-what.result, c.execute-what.new.regs, m) c.requires.fetched.there c.execute-what.ensures.effect in
+          let did = at_step (profile_in p) s.regs old at (c.execute-what.result, c.execute-what.new.regs, m) c.requires.fetched.there c.execute-what.ensures.effect in
           stopped p s at c.execute-what.result c.execute-what.new.regs m back c.innermost_sp-landing.result c.home-low.result.0 c.told_of-branches.result.0 c.refusal.result c.in-Some.end
           c.requires.fetched.roles.reached c.requires.fetched.there c.execute-what.ensures.effect c.in_default.not-Trap c.innermost_sp-landing.ensures.words (ap (λ (h : ℕ × ℕ). h.0) c.home-low.ensures) tells.taken
           c.refusal.ensures.is c.in-Some.is
@@ -47,7 +48,7 @@ returns-in_default-what g c =
     record {
       passes = ended p c.args.core.now old _ _ c.in-Some.end (λ events.
           let s : State = state_of c.args.core.now old events in
-          let did = at_step s.regs old at (c.execute-what.result, c.execute-what.new.regs, m) c.requires.fetched.there c.execute-what.ensures.effect in
+          let did = at_step (profile_in p) s.regs old at (c.execute-what.result, c.execute-what.new.regs, m) c.requires.fetched.there c.execute-what.ensures.effect in
           stopped p s at c.execute-what.result c.execute-what.new.regs m m c.innermost_sp-landing.result c.home-low.result.0 c.told_of-branches.result.0 c.refusal.result c.in-Some.end
           c.requires.fetched.roles.reached c.requires.fetched.there c.execute-what.ensures.effect c.in_default.not-Trap c.innermost_sp-landing.ensures.words (ap (λ (h : ℕ × ℕ). h.0) c.home-low.ensures) tells.taken
           c.refusal.ensures.is c.in-Some.is
@@ -63,9 +64,8 @@ reguard-requires g c =
     let old = g.B.Bus.memory c.args.bus.now in
     let m = g.B.Bus.memory c.execute-what.new.bus in
     let regs = c.execute-what.new.regs in
-    let did = at_step c.args.core.now.regs old at (c.execute-what.result, regs, m) c.requires.fetched.there c.execute-what.ensures.effect in
-    let stack = in_stack c.args.core.now.regs old at c.told_of-branches.result.1 c.execute-what.result regs m (g.met.B.Bus.is_map c.args.bus.now) (omega arith) c.requires.fetched.there tells.count
-    did c.in_default.not-Trap in
+    let stack = in_stack c.args.core.now.regs old at c.told_of-branches.result.1 c.execute-what.result regs m (g.met.B.Bus.is_map c.args.bus.now) (omega arith) tells.count
+    c.execute-what.ensures.effect c.in_default.not-Trap in
     let home = (g.met.B.Bus.is_map c.args.bus.now).home.low in
     let low = ap (λ (h : ℕ × ℕ). h.0) c.home-low.ensures in
     let above = above_low p c.innermost_sp-landing.result c.home-low.result.0 (c.args.core.now.regs.pc, slice_index c.args.core.now.regs.r 13)
@@ -90,14 +90,14 @@ returns g c =
     record {
       passes = went_on p c.args.core.now old _ _ what (λ events.
           let s : State = state_of c.args.core.now old events in
-          let did = at_step s.regs old at (what, regs, m) c.requires.fetched.there c.execute-what.ensures.effect in
+          let did = at_step (profile_in p) s.regs old at (what, regs, m) c.requires.fetched.there c.execute-what.ensures.effect in
           let t = tests_are p s what regs c.innermost_sp-landing.result c.home-low.result.0 c.told_of-branches.result.0 c.refusal.result
-          c.innermost_sp-landing.ensures.words (ap (λ (h : ℕ × ℕ). h.0) c.home-low.ensures) (branches_there s.regs old at c.told_of-branches.result.0 c.requires.fetched.there tells.taken) c.refusal.ensures.is in
+          c.innermost_sp-landing.ensures.words (ap (λ (h : ℕ × ℕ). h.0) c.home-low.ensures) (branches_there (profile_in p) s.regs old at c.told_of-branches.result.0 c.requires.fetched.there tells.taken) c.refusal.ensures.is in
           tested_passes p s what regs m c.requires.fetched.roles.reached did c.in_default.not-Trap new (t ∙ c.in_default-refusal.is)
-          (reguarded_is p s regs m new c.args.at.now.saves c.told_of-branches.result.1 _ _ c.requires.fetched.roles.saves (pushes_there s.regs old at c.told_of-branches.result.1 c.requires.fetched.there tells.count) refl refl c.reguard.ensures))
+          (reguarded_is p s regs m new c.args.at.now.saves c.told_of-branches.result.1 _ _ c.requires.fetched.roles.saves (pushes_there (profile_in p) s.regs old at c.told_of-branches.result.1 c.requires.fetched.there tells.count) refl refl c.reguard.ensures))
           (λ number events is.
           let s : State = state_of c.args.core.now old events in
-          gate_passes what c.args.at.now.saves c.told_of-branches.result.1 _ _ number s regs m new
-          (gate_done what number is) (leaves_there s.regs old at what regs c.requires.fetched.there c.execute-what.ensures.leaves) c.execute-what.ensures.leaves_memory
-          (pushes_there s.regs old at c.told_of-branches.result.1 c.requires.fetched.there tells.count) refl refl c.reguard.ensures);
+          gate_passes p what c.args.at.now.saves c.told_of-branches.result.1 _ _ number s regs m new
+          (gate_done what number is) (leaves_there (profile_in p) s.regs old at what regs c.requires.fetched.there c.execute-what.ensures.leaves) c.execute-what.ensures.leaves_memory
+          (pushes_there (profile_in p) s.regs old at c.told_of-branches.result.1 c.requires.fetched.there tells.count) refl refl c.reguard.ensures);
     }

@@ -25,6 +25,9 @@ stretch_on-requires-clause-place c =
     let end = c.end.ensures ∙ ap (λ (a : Parts). a.flow_graph.end) c.x.view_is in
     omega (arith, start, end, c.end.type_inv, (place_within x c.loop-place.facts c.pop.new.self.items c.in-Some.place sound).0)
 
+pub visit-requires-clause-sound : goal.visit-requires-clause-sound
+visit-requires-clause-sound c = subst (λ (w : List ℕ). IsSound (framed_of c.args.x.now) c.loop-place.facts w []) c.in-Some.ensures.items c.loop-place.invariant.sound
+
 pub visit-requires-clause-tells : goal.visit-requires-clause-tells
 visit-requires-clause-tells c = subst (λ (a : Parts). TellsOn a.flow_graph c.in-Ok-stretch_on.next c.in-Some.place) c.x.view_is c.in-Ok-stretch_on.ensures.tells
 

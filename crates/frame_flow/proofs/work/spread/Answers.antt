@@ -1,6 +1,10 @@
-use Rattle.std.proofs.Common.{get_or, arith}
+use Rattle.std.proofs.Common.{ℕ, ◌≡◌, List, [], map, drop, get_or, ap, subst, arith}
+use Rattle.std.proofs.lemmas.List.{drop_all}
+use Rattle.frame_facts.specs.declared.facts.Fact.{Fact}
 use Rattle.frame_graph.specs.declared.edges.Edge.{Edge}
 use Rattle.frame_flow.specs.Framed.{framed_of}
+use Rattle.frame_flow.specs.Flows.{along_edge}
+use Rattle.frame_flow.specs.Work.{IsSound}
 use Rattle.frame_flow.proofs.Merging.{next_transfer, transfer_within, merged_keeps}
 use Rattle.frame_flow.proofs.work.spread.Goals as goal
 
@@ -25,3 +29,12 @@ loop-edge-preserved c =
     let s = next_transfer x c.loop-edge.facts c.loop-edge.work.items c.args.fact.now c.args.edges.now c.loop-edge.edge-index none c.clobber-next.result c.loop-edge-test.true c.clobber-next.ensures c.loop-edge.invariant.sound in
     let k = merged_keeps x _ _ _ _ _ _ _ _ c.in-Ok.ensures s in
     record { sound = k.0; lighter = omega (arith, k.1, c.loop-edge.invariant.lighter) }
+
+pub returns : goal.returns
+returns c =
+    let done : map (along_edge c.args.fact.now) (drop c.loop-edge.edge-index c.args.edges.now) ≡ [] =
+    ap (map (along_edge c.args.fact.now)) (drop_all c.loop-edge.edge-index c.args.edges.now c.loop-edge-test.false)
+    in (
+      subst (λ (todo : List (ℕ × Fact)). IsSound (framed_of c.args.x.now) c.loop-edge.facts c.loop-edge.work.items todo) done c.loop-edge.invariant.sound,
+      c.loop-edge.invariant.lighter,
+    )

@@ -1,0 +1,23 @@
+@ v begins at 800C. At 8014 it would raise sp by 16.
+.global main
+.type main, %function
+main: .fnstart
+.save {r4, lr}
+push {r4, lr}
+movs r0, #16
+rsbs r0, r0, #0
+bl v
+pop {r4, pc}
+.fnend
+.type v, %function
+v: .fnstart
+.save {r4, r7, lr}
+push {r4, r7, lr}
+.setfp r7, sp, #0
+add r7, sp, #0
+mov r3, sp
+subs r3, r3, r0
+mov sp, r3
+mov sp, r7
+pop {r4, r7, pc}
+.fnend

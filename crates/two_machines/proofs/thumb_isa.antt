@@ -1,0 +1,2 @@
+-- What the crates above cite of thumb_isa.
+pub use Rattle.thumb_isa.proofs.LateFields

@@ -1,0 +1,23 @@
+@ main begins at 8000 and calls v, which begins at 800A and lowers sp by 16. v asks at its gate at 8014.
+.global main
+.type main, %function
+main: .fnstart
+.save {r4, lr}
+push {r4, lr}
+movs r0, #16
+bl v
+pop {r4, pc}
+.fnend
+.type v, %function
+v: .fnstart
+.save {r4, r7, lr}
+push {r4, r7, lr}
+.setfp r7, sp, #0
+add r7, sp, #0
+mov r3, sp
+subs r3, r3, r0
+mov sp, r3
+svc #25
+mov sp, r7
+pop {r4, r7, pc}
+.fnend
