@@ -4,6 +4,9 @@ use thumb_encode::encode::encode;
 use thumb_isa::encode_fault::EncodeFault;
 use thumb_isa::instr::Instr;
 
+/// The least number that an immediate of 16 bits doesn't hold.
+const PAST_SIXTEEN_BITS: u32 = 65536;
+
 /// The codes are those of LLVM 14's assembler for thumbv6m.
 static CODES: [(Instr, Code); 66] = [
     (
@@ -806,22 +809,34 @@ static LATE_FAULTS: [(Instr, EncodeFault); 28] = [
     (Instr::BWide { off: 3 }, EncodeFault::TargetRange),
     (Instr::MovW { d: 13, imm: 0 }, EncodeFault::RegisterRange),
     (
-        Instr::MovW { d: 15, imm: 65536 },
+        Instr::MovW {
+            d: 15,
+            imm: PAST_SIXTEEN_BITS,
+        },
         EncodeFault::RegisterRange,
     ),
     (Instr::MovW { d: 16, imm: 0 }, EncodeFault::RegisterRange),
     (
-        Instr::MovT { d: 13, imm: 65536 },
+        Instr::MovT {
+            d: 13,
+            imm: PAST_SIXTEEN_BITS,
+        },
         EncodeFault::RegisterRange,
     ),
     (Instr::MovT { d: 15, imm: 0 }, EncodeFault::RegisterRange),
     (Instr::MovT { d: 255, imm: 0 }, EncodeFault::RegisterRange),
     (
-        Instr::MovW { d: 0, imm: 65536 },
+        Instr::MovW {
+            d: 0,
+            imm: PAST_SIXTEEN_BITS,
+        },
         EncodeFault::ImmediateRange,
     ),
     (
-        Instr::MovT { d: 14, imm: 65536 },
+        Instr::MovT {
+            d: 14,
+            imm: PAST_SIXTEEN_BITS,
+        },
         EncodeFault::ImmediateRange,
     ),
     (
