@@ -1,5 +1,5 @@
 -- The fields of whatever the checker decoded are within their bounds: each row of the table cuts them so.
-use Rattle.std.proofs.Common.{◌≡◌, ℕ, Bool, true, false, cond, List, [], ◌∷◌, inl, inr, ◌+◌, ◌==◌, nat_le, Option, Some, None, refl, subst}
+use Rattle.std.proofs.Common.{◌≡◌, ℕ, Bool, true, false, cond, List, [], ◌∷◌, inl, inr, ◌+◌, ◌==◌, nat_le, Option, Some, None, refl, sym, subst, ◌<◌, arith}
 use Rattle.machine_parts.specs.thumb_isa.declared.profile.Profile.{Profile}
 use Rattle.machine_parts.specs.thumb_isa.Rows.{Row, fits, first_fit, rows, decoded_of, decoded_for}
 use Rattle.machine_parts.specs.thumb_isa.Range.{InRange}
@@ -7,7 +7,8 @@ use Rattle.machine_parts.specs.thumb_isa.Laws.{is_late}
 use Rattle.machine_parts.proofs.thumb_isa.LateFields.{first_or_late}
 use Rattle.machine_parts.specs.image_memory.Profiles.{profile_of}
 use Rattle.machine_parts.specs.thumb_isa.declared.instr.Instr.{Instr}
-use Rattle.machine_parts.specs.thumb_isa.declared.instr.Instr.TheVariants.{ShiftImm, AddSubReg, AddSubImm3, Imm8, Alu, AddHigh, CmpHigh, MovHigh, Bx, Blx, LdrLit, MemReg, MemImm, MemSp, Adr, AddRdSp, AddSp, SubSp, Extend, Rev, Push, Pop, Hint, Stm, Ldm, BCond, Svc, B, Bl, Barrier, Cbz, BWide, MovW, MovT, Div}
+use Rattle.machine_parts.specs.thumb_isa.Nature.{Works, nature, WritesWell}
+use Rattle.machine_parts.proofs.thumb_isa.Natures.{all_write_well}
 use Rattle.machine_parts.specs.thumb_isa.declared.instr.Decoded.TheVariants.{Is, Undefined, Unpredictable, NotInProfile}
 use Rattle.machine_parts.specs.thumb_isa.declared.instr.Decoded.{Decoded}
 use Rattle.machine_parts.specs.frame_graph.declared.places.Standing.TheVariants.{Instruction, Udf}
@@ -15,7 +16,7 @@ use Rattle.machine_parts.specs.frame_graph.FlowGraph.{FlowGraph}
 use Rattle.machine_parts.specs.frame_graph.Places.{of_decoded, wide_of, standing_by, standing_at, is_udf, halfword_of}
 use Rattle.machine_parts.specs.frame_check.Accepts.{Accepted}
 use Rattle.machine_parts.specs.frame_check.Roots.{flow_graph_of}
-use Rattle.accepted_code.specs.Bounds.{Bounds, AreInRange}
+use Rattle.accepted_code.specs.Bounds.{NatureBounds, BoundsWhere, Bounds, AreInRange}
 use Rattle.accepted_code.proofs.RowBounds.{AllMean, rows_mean}
 
 found : (rs : List Row) → AllMean rs → (f s : ℕ) (i : Instr) (n : ℕ) → first_fit rs f s ≡ Is i n → Bounds i
@@ -32,41 +33,15 @@ decoded_bounds f s i n e = found rows rows_mean f s i n e
 
 -- those that only the second profile has
 late_bounds : (i : Instr) → is_late i ≡ true → InRange i → Bounds i
-late_bounds (ShiftImm op d m n) l r = absurd cc
-late_bounds (AddSubReg sub d n m) l r = absurd cc
-late_bounds (AddSubImm3 sub d n imm) l r = absurd cc
-late_bounds (Imm8 op d imm) l r = absurd cc
-late_bounds (Alu op d m) l r = absurd cc
-late_bounds (AddHigh d m) l r = absurd cc
-late_bounds (CmpHigh n m) l r = absurd cc
-late_bounds (MovHigh d m) l r = absurd cc
-late_bounds (Bx m) l r = absurd cc
-late_bounds (Blx m) l r = absurd cc
-late_bounds (LdrLit t off) l r = absurd cc
-late_bounds (MemReg op t n m) l r = absurd cc
-late_bounds (MemImm op t n off) l r = absurd cc
-late_bounds (MemSp load t off) l r = absurd cc
-late_bounds (Adr d off) l r = absurd cc
-late_bounds (AddRdSp d off) l r = absurd cc
-late_bounds (AddSp off) l r = absurd cc
-late_bounds (SubSp off) l r = absurd cc
-late_bounds (Extend op d m) l r = absurd cc
-late_bounds (Rev op d m) l r = absurd cc
-late_bounds (Push list) l r = absurd cc
-late_bounds (Pop list) l r = absurd cc
-late_bounds (Hint n) l r = absurd cc
-late_bounds (Stm n list) l r = absurd cc
-late_bounds (Ldm n list) l r = absurd cc
-late_bounds (BCond cond off) l r = absurd cc
-late_bounds (Svc imm) l r = absurd cc
-late_bounds (B off) l r = absurd cc
-late_bounds (Bl off) l r = absurd cc
-late_bounds (Barrier op option) l r = absurd cc
-late_bounds (Cbz nonzero n off) l r = r
-late_bounds (BWide off) l r = r
-late_bounds (MovW d imm) l r = r
-late_bounds (MovT d imm) l r = r
-late_bounds (Div signed d n m) l r = r
+late_bounds i l r = subst (λ b. BoundsWhere b i) (sym l) r
+
+-- what works on a register works on none that is sp
+pub works_apart : (i : Instr) (d : ℕ) → nature i ≡ Works d → Bounds i → d ≡ 13 → ⊥
+works_apart i d e r = go (is_late i) r
+  where
+    go : (b : Bool) → BoundsWhere b i → d ≡ 13 → ⊥
+    go true r same = (subst WritesWell e (all_write_well i r)).1 same
+    go false r same = let low : d < 8 = subst NatureBounds e r in omega (arith, low, same)
 
 bounds_for : (p : Profile) (f s : ℕ) (i : Instr) (n : ℕ) → decoded_for p f s ≡ Is i n → Bounds i
 bounds_for p f s i n e = elim (first_or_late p f s i n e) [

@@ -1,42 +1,50 @@
 -- What the fields of a decoded instruction may be, whichever its halfwords: so much of thumb_isa's InRange as is told by the fields alone.
-use Rattle.std.specs.Prelude.{◌%◌, ◌<◌, ◌≤◌, ◌^◌, ◌≡◌, ℕ, Contains}
-use Rattle.machine_parts.specs.thumb_isa.Range.{IsForward, IsBranch, IsGeneral}
+use Rattle.std.specs.Prelude.{◌%◌, ◌<◌, ◌≤◌, ◌^◌, ◌≡◌, ℕ, Bool, true, false, Contains}
+use Rattle.machine_parts.specs.thumb_isa.Range.{IsForward, InRange}
 use Rattle.machine_parts.specs.thumb_isa.declared.instr.Instr.{Instr}
-use Rattle.machine_parts.specs.thumb_isa.declared.instr.Instr.TheVariants.{ShiftImm, AddSubReg, AddSubImm3, Imm8, Alu, AddHigh, MovHigh, LdrLit, MemReg, MemImm, MemSp, Adr, AddRdSp, AddSp, SubSp, Extend, Rev, Push, Pop, Stm, Ldm, Cbz, BWide, MovW, MovT, Div}
+use Rattle.machine_parts.specs.thumb_isa.Laws.{is_late}
+use Rattle.machine_parts.specs.thumb_isa.Nature.{Derived, Shifts, AddsThree, AddsEight, Combines, AddsToSp, Transfer, NearPc, AtSum, AtOffset, AtSp, Nature, Works, Idles, Derives, AddsHigh, MovesHigh, Transfers, StoresList, LoadsList, RaisesSp, LowersSp, PushesList, PopsList, Goes, nature}
 use Rattle.machine_parts.specs.elf_image.Functions.{Function}
 use Rattle.machine_parts.specs.frame_graph.declared.places.Standing.TheVariants.{Instruction}
 use Rattle.machine_parts.specs.frame_graph.Places.{standing_at}
 use Rattle.machine_parts.specs.frame_check.Accepts.{Accepted}
 use Rattle.machine_parts.specs.frame_check.Roots.{flow_graph_of}
 
+abbrev pub DerivedBounds : Derived → Type 0
+DerivedBounds (Shifts op d m n) = d < 8
+DerivedBounds (AddsThree sub d n imm) = d < 8
+DerivedBounds (AddsEight op d imm) = d < 8
+DerivedBounds (Combines op d m) = d < 8
+DerivedBounds (AddsToSp d off) = (d < 8) × IsForward 4 1024 off
+
+abbrev pub TransferBounds : Transfer → Type 0
+TransferBounds (NearPc t off) = (t < 8) × IsForward 4 1024 off
+TransferBounds (AtSum op t n m) = (op < 8) × (t < 8)
+TransferBounds (AtOffset op t n off) = (op < 6) × (t < 8)
+TransferBounds (AtSp load t off) = (t < 8) × IsForward 4 1024 off
+
+abbrev pub NatureBounds : Nature → Type 0
+NatureBounds (Works d) = d < 8
+NatureBounds Idles = Unit {0}
+NatureBounds (Derives v) = DerivedBounds v
+NatureBounds (AddsHigh d m) = d < 16
+NatureBounds (MovesHigh d m) = (d < 16) × (m < 16)
+NatureBounds (Transfers t) = TransferBounds t
+NatureBounds (StoresList n list) = (n < 8) × (0 ≤ list) × (list < 2 ^ 8)
+NatureBounds (LoadsList n list) = (n < 8) × (0 ≤ list) × (list < 2 ^ 8)
+NatureBounds (RaisesSp off) = IsForward 4 512 off
+NatureBounds (LowersSp off) = IsForward 4 512 off
+NatureBounds (PushesList list) = (0 ≤ list) × (list < 2 ^ 15) × (list % 2 ^ 14 < 2 ^ 8)
+NatureBounds (PopsList list) = (0 ≤ list) × (list < 2 ^ 16) × (list % 2 ^ 15 < 2 ^ 8)
+NatureBounds (Goes b) = Unit {0}
+
+-- of one that the second profile alone has all is told that InRange says
+abbrev pub BoundsWhere : (late : Bool) → Instr → Type 0
+BoundsWhere true i = InRange i
+BoundsWhere false i = NatureBounds (nature i)
+
 abbrev pub Bounds : Instr → Type 0
-Bounds (ShiftImm op d m n) = d < 8
-Bounds (AddSubReg sub d n m) = d < 8
-Bounds (AddSubImm3 sub d n imm) = d < 8
-Bounds (Imm8 op d imm) = d < 8
-Bounds (Alu op d m) = d < 8
-Bounds (AddHigh d m) = d < 16
-Bounds (MovHigh d m) = (d < 16) × (m < 16)
-Bounds (LdrLit t off) = (t < 8) × IsForward 4 1024 off
-Bounds (MemReg op t n m) = (op < 8) × (t < 8)
-Bounds (MemImm op t n off) = (op < 6) × (t < 8)
-Bounds (MemSp load t off) = (t < 8) × IsForward 4 1024 off
-Bounds (Adr d off) = d < 8
-Bounds (AddRdSp d off) = (d < 8) × IsForward 4 1024 off
-Bounds (AddSp off) = IsForward 4 512 off
-Bounds (SubSp off) = IsForward 4 512 off
-Bounds (Extend op d m) = d < 8
-Bounds (Rev op d m) = d < 8
-Bounds (Push list) = (0 ≤ list) × (list < 2 ^ 15) × (list % 2 ^ 14 < 2 ^ 8)
-Bounds (Pop list) = (0 ≤ list) × (list < 2 ^ 16) × (list % 2 ^ 15 < 2 ^ 8)
-Bounds (Stm n list) = (n < 8) × (0 ≤ list) × (list < 2 ^ 8)
-Bounds (Ldm n list) = (n < 8) × (0 ≤ list) × (list < 2 ^ 8)
-Bounds (Cbz nonzero n off) = (n < 8) × IsForward 2 128 off
-Bounds (BWide off) = IsBranch (2 ^ 24) off
-Bounds (MovW d imm) = IsGeneral d × (imm < 2 ^ 16)
-Bounds (MovT d imm) = IsGeneral d × (imm < 2 ^ 16)
-Bounds (Div signed d n m) = IsGeneral d × IsGeneral n × IsGeneral m
-Bounds i = Unit {0}
+Bounds i = BoundsWhere (is_late i) i
 
 -- every instruction that the checker decoded has its fields in range
 abbrev pub AreInRange : Accepted → Type 0

@@ -1,13 +1,15 @@
 -- What each statement is to the assembler (docs/source-language.md; Armv6-M Architecture Reference Manual, DDI 0419, and Armv8-M, DDI 0553).
 -- Every form of a statement has its own line in `sort_of`. Its bytes, its names and its code are said of sorts, and of each sort.
-use Rattle.std.specs.Prelude.{ℕ, ◌^◌, ◌==◌, ◌&&◌, ℤ, pos, negsuc, Bool, true, false, nat_lt, if◌then◌else◌, List, Option, Some, None}
+use Rattle.std.specs.Prelude.{ℕ, ℤ, Bool, true, false, List, Option, Some, None}
 use Rattle.asm_statements.specs.declared.statement.Expr.{Expr}
 use Rattle.asm_statements.specs.declared.statement.StmtKind.{StmtKind}
 use Rattle.asm_statements.specs.declared.statement.StmtKind.TheVariants as stmt
 use Rattle.thumb_isa.specs.declared.instr.Instr.{Instr}
-use Rattle.thumb_isa.specs.declared.instr.Instr.TheVariants.{ShiftImm, AddSubReg, AddSubImm3, Imm8, Alu, AddHigh, CmpHigh, MovHigh, Bx, Blx, MemReg, MemImm, MemSp, AddRdSp, AddSp, SubSp, Extend, Rev, Push, Pop, Hint, Stm, Ldm, Svc, Barrier, MovW, MovT, Div}
+use Rattle.thumb_isa.specs.declared.instr.Instr.TheVariants.{Alu, Bx, Blx, MemReg, MemImm, MemSp, AddRdSp, AddSp, SubSp, Push, Pop, Hint, Stm, Ldm, Svc, Barrier}
+use Rattle.asm_statements.specs.declared.computation.SizedInstr.{SizedInstr}
 use Rattle.asm_layout.specs.declared.given.Width.TheVariants.{Byte, Half, Word}
 use Rattle.asm_layout.specs.Given.{Given, FieldsOf, TextOf, ZerosOf}
+use Rattle.asm_statements.specs.Computations.{unsigned, offset, of_two_registers, of_three_registers, of_register_number, of_two_registers_number}
 
 -- an instruction of a source
 pub data Operation : Type 0 where
@@ -43,32 +45,6 @@ pub data Sort : Type 0 where
   -- a statement that gives no bytes and uses no name
   Bare : Sort
 
--- a number as a field without sign takes it; one too large for every field where it isn't one of 32 bits
-abbrev pub unsigned : ℤ → ℕ
-unsigned (pos n) = if nat_lt n (2 ^ 32) then n else 0xffffffff
-unsigned (negsuc n) = 0xffffffff
-
--- a number as an offset's field takes it; one too large for every field where it isn't one of 32 bits
-abbrev pub offset : ℤ → ℤ
-offset (pos n) = if nat_lt n (2 ^ 31) then pos n else pos 0x7fffffff
-offset (negsuc n) = if nat_lt n (2 ^ 31) then negsuc n else pos 0x7fffffff
-
--- `cmp` of two registers: the form of low registers where both are
-abbrev pub compare : ℕ → ℕ → Instr
-compare n m = if nat_lt n 8 && nat_lt m 8 then Alu 10 n m else CmpHigh n m
-
--- `adds` and `subs` with eight bits
-abbrev pub add_eight : Bool → ℕ → ℤ → Instr
-add_eight sub d imm = Imm8 (if sub then 3 else 2) d (unsigned imm)
-
-abbrev pub is_above_seven : ℤ → Bool
-is_above_seven (pos n) = nat_lt 7 n
-is_above_seven (negsuc n) = false
-
--- `adds` and `subs` of three operands: with three bits up to 7, and above with eight where both registers are one
-abbrev pub add_three : Bool → ℕ → ℕ → ℤ → Instr
-add_three sub d n imm = if is_above_seven imm && (d == n) then add_eight sub d imm else AddSubImm3 sub d n (unsigned imm)
-
 -- an instruction of one halfword that names nothing
 abbrev pub half : Instr → Sort
 half i = CodeOf 2 (Nameless i)
@@ -77,26 +53,20 @@ half i = CodeOf 2 (Nameless i)
 abbrev pub wide : Instr → Sort
 wide i = CodeOf 4 (Nameless i)
 
+-- an instruction of the computations
+abbrev pub computed : SizedInstr → Sort
+computed c = CodeOf c.bytes (Nameless c.instr)
+
 abbrev pub sort_of : StmtKind → Sort
 sort_of (stmt.Label _) = Bare
-sort_of (stmt.MovsImm d imm) = half (Imm8 0 d (unsigned imm))
-sort_of (stmt.MovsReg d m) = half (ShiftImm 0 d m 0)
-sort_of (stmt.Mov d m) = half (MovHigh d m)
-sort_of (stmt.CmpImm n imm) = half (Imm8 1 n (unsigned imm))
-sort_of (stmt.CmpReg n m) = half (compare n m)
-sort_of (stmt.AddSubTwo sub d imm) = half (add_eight sub d imm)
-sort_of (stmt.AddSubReg sub d n m) = half (AddSubReg sub d n m)
-sort_of (stmt.AddSubThree sub d n imm) = half (add_three sub d n imm)
-sort_of (stmt.AddReg d m) = half (AddHigh d m)
+sort_of (stmt.TwoRegisters what d m) = computed (of_two_registers what d m)
+sort_of (stmt.ThreeRegisters what d n m) = computed (of_three_registers what d n m)
+sort_of (stmt.RegisterNumber what d imm) = computed (of_register_number what d imm)
+sort_of (stmt.TwoRegistersNumber what d n imm) = computed (of_two_registers_number what d n imm)
 sort_of (stmt.AddRdSp d off) = half (AddRdSp d (offset off))
 sort_of (stmt.AddSp off) = half (AddSp (offset off))
 sort_of (stmt.SubSp off) = half (SubSp (offset off))
-sort_of (stmt.ShiftImm op d m n) = half (ShiftImm op d m (unsigned n))
-sort_of (stmt.Alu op d m) = half (Alu op d m)
 sort_of (stmt.Rsbs d m) = half (Alu 9 d m)
-sort_of (stmt.MovW d imm) = wide (MovW d (unsigned imm))
-sort_of (stmt.MovT d imm) = wide (MovT d (unsigned imm))
-sort_of (stmt.Div signed d n m) = wide (Div signed d n m)
 sort_of (stmt.Adr d name) = CodeOf 2 (AdrOf d name)
 sort_of (stmt.LdrLabel t name) = CodeOf 2 (LdrOf t name)
 sort_of (stmt.LdrPool t value) = CodeOf 2 (LdrValue t value)
@@ -108,8 +78,6 @@ sort_of (stmt.Pop list) = half (Pop list)
 sort_of (stmt.Stm n list) = half (Stm n list)
 sort_of (stmt.LdmBack n list) = half (Ldm n list)
 sort_of (stmt.Ldm n list) = half (Ldm n list)
-sort_of (stmt.Extend op d m) = half (Extend op d m)
-sort_of (stmt.Rev op d m) = half (Rev op d m)
 sort_of (stmt.B name) = CodeOf 2 (BTo name)
 sort_of (stmt.BCond cond name) = CodeOf 2 (BCondTo cond name)
 sort_of (stmt.Bl name) = CodeOf 4 (BlTo name)

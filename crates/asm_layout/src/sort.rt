@@ -6,27 +6,30 @@ ghost use Rattle.asm_layout.specs.Given.{given_by};
 ghost use Rattle.asm_layout.specs.Sorts.{given};
 
 use crate::given::{Data, Width};
-use crate::{bare_form, branch_form, local_form, name_form, nameless_form, reader_form, wide_form};
+use crate::{
+    bare_form, branch_form, computed_form, local_form, name_form, nameless_form, reader_form,
+    wide_form,
+};
 use asm_statements::StmtKind;
 
-/// An instruction of one halfword that names nothing, but for `udf`.
+/// An instruction that computes of registers and numbers (`computation` of asm_statements).
+#[macro_export]
+macro_rules! computed_form {
+    () => {
+        StmtKind::TwoRegisters { .. }
+            | StmtKind::ThreeRegisters { .. }
+            | StmtKind::RegisterNumber { .. }
+            | StmtKind::TwoRegistersNumber { .. }
+    };
+}
+
+/// Another instruction of one halfword that names nothing, but for `udf`.
 #[macro_export]
 macro_rules! nameless_form {
     () => {
-        StmtKind::MovsImm { .. }
-            | StmtKind::MovsReg { .. }
-            | StmtKind::Mov { .. }
-            | StmtKind::CmpImm { .. }
-            | StmtKind::CmpReg { .. }
-            | StmtKind::AddSubTwo { .. }
-            | StmtKind::AddSubReg { .. }
-            | StmtKind::AddSubThree { .. }
-            | StmtKind::AddReg { .. }
-            | StmtKind::AddRdSp { .. }
+        StmtKind::AddRdSp { .. }
             | StmtKind::AddSp { .. }
             | StmtKind::SubSp { .. }
-            | StmtKind::ShiftImm { .. }
-            | StmtKind::Alu { .. }
             | StmtKind::Rsbs { .. }
             | StmtKind::MemImm { .. }
             | StmtKind::MemReg { .. }
@@ -36,8 +39,6 @@ macro_rules! nameless_form {
             | StmtKind::Stm { .. }
             | StmtKind::LdmBack { .. }
             | StmtKind::Ldm { .. }
-            | StmtKind::Extend { .. }
-            | StmtKind::Rev { .. }
             | StmtKind::Bx { .. }
             | StmtKind::Blx { .. }
             | StmtKind::Svc { .. }
@@ -45,14 +46,11 @@ macro_rules! nameless_form {
     };
 }
 
-/// An instruction of two halfwords that names nothing.
+/// Another instruction of two halfwords that names nothing.
 #[macro_export]
 macro_rules! wide_form {
     () => {
         StmtKind::Barrier { .. }
-            | StmtKind::MovW { .. }
-            | StmtKind::MovT { .. }
-            | StmtKind::Div { .. }
     };
 }
 
@@ -142,7 +140,8 @@ pub fn given(kind: &StmtKind) -> Option<Data<'_>>
             closed: true,
         }),
         StmtKind::Space(n) => Some(Data::Zeros(*n)),
-        nameless_form!()
+        computed_form!()
+        | nameless_form!()
         | reader_form!()
         | wide_form!()
         | branch_form!()

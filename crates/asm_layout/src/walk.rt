@@ -13,7 +13,11 @@ use crate::placed::{PlacedFunction, PlacedPool, PlacedStmt, Puts};
 use crate::sort::given;
 use crate::word::{Word, Words, word_of};
 use crate::{
-    bare_form, branch_form, data_form, local_form, name_form, nameless_form, reader_form, wide_form,
+    bare_form, branch_form, computed_form, data_form, local_form, name_form, nameless_form,
+    reader_form, wide_form,
+};
+use asm_statements::computation::{
+    of_register_number, of_three_registers, of_two_registers, of_two_registers_number,
 };
 use asm_statements::{Stmt, StmtKind};
 use asm_unwind::EntryWords;
@@ -59,9 +63,9 @@ impl Sizes {
         }
     }
 
-    /// With more bytes in a section.
-    pub fn grown(mut self, section: Section, by: u64) -> Sizes
-        ensures { result ≡ sizes_grown self section by }
+    /// Adds bytes to a section.
+    fn grow(&mut self, section: Section, by: u64)
+        ensures { self.new ≡ sizes_grown self.old section by }
     {
         match section {
             Section::Text => self.text = self.text.saturating_add(by),
@@ -70,6 +74,13 @@ impl Sizes {
             Section::Init => self.init = self.init.saturating_add(by),
             Section::Bss => self.bss = self.bss.saturating_add(by),
         }
+    }
+
+    /// With more bytes in a section.
+    pub fn grown(mut self, section: Section, by: u64) -> Sizes
+        ensures { result ≡ sizes_grown self section by }
+    {
+        self.grow(section, by);
         self
     }
 
@@ -118,8 +129,8 @@ fn data_size(given: Data<'_>) -> u64
     }
 }
 
-/// The bytes of a statement at a place: `bl`, `b.w`, the barriers and the moves and quotients of a second profile have two halfwords, the
-/// other instructions one; `.align` fills up to a multiple.
+/// The bytes of a statement at a place: an instruction that computes says how many it has; `bl`, `b.w` and the barriers have two halfwords,
+/// the other instructions one; `.align` fills up to a multiple.
 fn size_at(place: u64, kind: &StmtKind) -> u64
     ensures { result ≡ size_at place kind.now }
 {
@@ -127,6 +138,12 @@ fn size_at(place: u64, kind: &StmtKind) -> u64
         return data_size(found);
     }
     match kind {
+        StmtKind::TwoRegisters { what, d, m } => of_two_registers(*what, *d, *m).bytes,
+        StmtKind::ThreeRegisters { what, d, n, m } => of_three_registers(*what, *d, *n, *m).bytes,
+        StmtKind::RegisterNumber { what, d, imm } => of_register_number(*what, *d, *imm).bytes,
+        StmtKind::TwoRegistersNumber { what, d, n, imm } => of_two_registers_number(
+            *what, *d, *n, *imm,
+        ).bytes,
         nameless_form!()
         | reader_form!()
         | StmtKind::B(_)
@@ -144,7 +161,8 @@ pub fn is_instruction(kind: &StmtKind) -> bool
     ensures { result ≡ is_instruction kind.now }
 {
     match kind {
-        nameless_form!()
+        computed_form!()
+        | nameless_form!()
         | reader_form!()
         | wide_form!()
         | branch_form!()
@@ -215,55 +233,50 @@ pub fn entry_at(entries: &[Option<EntryWords>], function: usize) -> Option<&Entr
 }
 
 impl Cursor {
-    /// After the start of a function: its table stands in the exception tables.
-    fn started(mut self, entries: &[Option<EntryWords>]) -> Cursor
-        ensures { result ≡ started entries.now self }
+    /// Goes past the start of a function: its table stands in the exception tables.
+    fn start(&mut self, entries: &[Option<EntryWords>])
+        ensures { self.new ≡ started entries.now self.old }
     {
         if !self.inside && self.functions < usize::MAX {
             let size = match entry_at(entries, self.functions) {
                 Some(entry) => table_size(self.sizes.extab, entry),
                 None => 0,
             };
-            self.sizes = self.sizes.grown(Section::Extab, size);
+            self.sizes.grow(Section::Extab, size);
             self.inside = true;
             self.functions += 1;
         }
-        self
     }
 
-    /// After the end of a function.
-    fn ended(mut self) -> Cursor
-        ensures { result ≡ ended self }
+    /// Goes past the end of a function.
+    fn end(&mut self)
+        ensures { self.new ≡ ended self.old }
     {
         self.section = self.left.unwrap_or(self.section);
         self.left = None;
         self.inside = false;
-        self
     }
 
-    /// In the exception tables, from another section on.
-    fn handling(mut self) -> Cursor
-        ensures { result ≡ handling self }
+    /// Goes to the exception tables, from another section on.
+    fn handle(&mut self)
+        ensures { self.new ≡ handling self.old }
     {
         if self.section != Section::Extab {
             self.left = Some(self.section);
             self.section = Section::Extab;
         }
-        self
     }
 
-    fn in_section(mut self, section: Section) -> Cursor
-        ensures { result ≡ in_section self section }
+    fn enter(&mut self, section: Section)
+        ensures { self.new ≡ in_section self.old section }
     {
         self.section = section;
-        self
     }
 
-    fn grown(mut self, by: u64) -> Cursor
-        ensures { result ≡ grown self by }
+    fn grow(&mut self, by: u64)
+        ensures { self.new ≡ grown self.old by }
     {
-        self.sizes = self.sizes.grown(self.section, by);
-        self
+        self.sizes.grow(self.section, by);
     }
 
     /// The function that begins with a statement.
@@ -285,19 +298,22 @@ impl Cursor {
         }
     }
 
-    /// After a statement, but for what a pool adds.
-    pub fn after(self, kind: &StmtKind, entries: &[Option<EntryWords>]) -> Cursor
-        ensures { result ≡ cursor_after entries.now self kind.now }
+    /// Goes past a statement, but for what a pool adds.
+    fn pass(&mut self, kind: &StmtKind, entries: &[Option<EntryWords>])
+        ensures { self.new ≡ cursor_after entries.now self.old kind.now }
     {
         match kind {
-            StmtKind::Text => self.in_section(Section::Text),
-            StmtKind::Data => self.in_section(Section::Init),
-            StmtKind::Bss => self.in_section(Section::Bss),
-            StmtKind::Rodata => self.in_section(Section::Rodata),
-            StmtKind::FnStart => self.started(entries),
-            StmtKind::FnEnd => self.ended(),
-            StmtKind::HandlerData => self.handling(),
-            _ => self.grown(size_at(self.place(), kind)),
+            StmtKind::Text => self.enter(Section::Text),
+            StmtKind::Data => self.enter(Section::Init),
+            StmtKind::Bss => self.enter(Section::Bss),
+            StmtKind::Rodata => self.enter(Section::Rodata),
+            StmtKind::FnStart => self.start(entries),
+            StmtKind::FnEnd => self.end(),
+            StmtKind::HandlerData => self.handle(),
+            _ => {
+                let size = size_at(self.place(), kind);
+                self.grow(size);
+            }
         }
     }
 }
@@ -463,7 +479,7 @@ impl Walk {
             kind => {
                 let puts = self.at.function_puts(kind);
                 let word = self.put_word(alloc, kind)?;
-                self.at = self.at.after(kind, entries);
+                self.at.pass(kind, entries);
                 let placed = PlacedStmt::new(alloc, stmt, at, word, puts)?;
                 Ok(placed)
             }

@@ -7,3 +7,4 @@ pub mod ObjectLaws
 pub mod LabelLaws
 pub mod LoadLaws
 pub mod ByteLemmas
+pub mod RefusalLemmas

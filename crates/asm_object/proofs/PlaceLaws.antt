@@ -1,5 +1,5 @@
 -- Where a statement stands is the number of bytes of its section before it.
-use Rattle.std.proofs.Common.{◌≡◌, ℕ, pos, negsuc, ◌-ℤ◌, zero, suc, ◌+◌, ◌-◌, ◌*◌, ◌/◌, ◌%◌, ◌^◌, ◌≤◌, ◌<◌, min, not, nat_lt, Bool, true, false, cond, List, [], ◌∷◌, ◌++◌, length, map, flat_map, replicate, Option, Some, None, is_some, option_map, unwrap_or, Result, Ok, Err, refl, sym, ap, ◌∙◌, arith, append_assoc, length-append}
+use Rattle.std.proofs.Common.{◌≡◌, ℕ, ℤ, pos, negsuc, ◌-ℤ◌, zero, suc, ◌+◌, ◌-◌, ◌*◌, ◌/◌, ◌%◌, ◌^◌, ◌≤◌, ◌<◌, min, not, nat_lt, Bool, true, false, cond, List, [], ◌∷◌, ◌++◌, length, map, flat_map, replicate, Option, Some, None, is_some, option_map, unwrap_or, Result, Ok, Err, refl, sym, ap, ◌∙◌, arith, append_assoc, length-append}
 use Rattle.std.specs.Result.{result_err}
 use Rattle.std.specs.List.{position_or_len}
 use Rattle.std.proofs.lemmas.Bool.{le-ltb}
@@ -9,6 +9,14 @@ use Rattle.std.proofs.lemmas.Grind.{flat_map-append}
 use Rattle.std.proofs.Math.Seq.{drop-append_seam}
 use Rattle.std.proofs.lemmas.List.{length-map, length-replicate}
 use Rattle.asm_statements.specs.declared.statement.Stmt.{Stmt}
+use Rattle.asm_statements.specs.declared.computation.OfTwoRegisters.{OfTwoRegisters}
+use Rattle.asm_statements.specs.declared.computation.OfTwoRegisters.TheVariants as two
+use Rattle.asm_statements.specs.declared.computation.OfThreeRegisters.{OfThreeRegisters}
+use Rattle.asm_statements.specs.declared.computation.OfThreeRegisters.TheVariants as three
+use Rattle.asm_statements.specs.declared.computation.OfRegisterNumber.{OfRegisterNumber}
+use Rattle.asm_statements.specs.declared.computation.OfRegisterNumber.TheVariants as of_number
+use Rattle.asm_statements.specs.declared.computation.OfTwoRegistersNumber.{OfTwoRegistersNumber}
+use Rattle.asm_statements.specs.declared.computation.OfTwoRegistersNumber.TheVariants as two_number
 use Rattle.asm_statements.specs.declared.statement.StmtKind.{StmtKind}
 use Rattle.asm_statements.specs.declared.statement.StmtKind.TheVariants as stmt
 use Rattle.asm_unwind.specs.declared.entry.EntryWords.{EntryWords}
@@ -41,7 +49,8 @@ use Rattle.asm_object.specs.Bytes.{byte_bytes, half_bytes, word_bytes, code_byte
 use Rattle.asm_object.specs.Values.{number, held, low_or_zero}
 use Rattle.asm_layout.specs.declared.given.Width.TheVariants as widths
 use Rattle.asm_layout.specs.Given.{FieldsOf, TextOf, ZerosOf}
-use Rattle.asm_layout.specs.Sorts.{Operation, Nameless, Undefined, LdrValue, BlTo, BWideTo, CbzTo, Sort, CodeOf, DataOf, offset, sort_of, operation_in, given_in}
+use Rattle.asm_statements.specs.Computations.{offset, of_two_registers, of_three_registers, of_register_number, of_two_registers_number}
+use Rattle.asm_layout.specs.Sorts.{Operation, Nameless, Undefined, LdrValue, BlTo, BWideTo, CbzTo, Sort, CodeOf, DataOf, computed, sort_of, operation_in, given_in}
 use Rattle.asm_object.specs.Instructions.{base, literal, literal_to, made, coded, operation_link}
 use Rattle.asm_object.specs.Pieces.{Piece, instruction_piece, data_piece, relocs_of, words_bytes, bytes_of_code, bytes_of_coded, bytes_of_instruction, bytes_of_half, undefined_half, given_bytes, given_relocs, filling_piece, pool_pieces, table_pieces, own_piece, bytes_in, pieces_of}
 use Rattle.asm_object.specs.PlaceLaw.{SectionsEndAfterTheirBytes, PlacesCountTheBytesBefore, BytesStandAtTheirPlaces}
@@ -143,10 +152,28 @@ abbrev pub IsSized : Sort → Type 0
 IsSized (CodeOf bytes operation) = operation_size operation ≡ bytes
 IsSized _ = zero ≡ zero
 
+two_sized : (what : OfTwoRegisters) (d m : ℕ) → IsSized (computed (of_two_registers what d m))
+two_sized two.CmpReg n m = grind arith
+two_sized _ d m = refl
+
+three_sized : (what : OfThreeRegisters) (d n m : ℕ) → IsSized (computed (of_three_registers what d n m))
+three_sized (three.Div signed) d n m = refl
+three_sized _ d n m = refl
+
+number_sized : (what : OfRegisterNumber) (d : ℕ) (imm : ℤ) → IsSized (computed (of_register_number what d imm))
+number_sized of_number.MovW d imm = refl
+number_sized _ d imm = refl
+
+two_number_sized : (what : OfTwoRegistersNumber) (d n : ℕ) (imm : ℤ) → IsSized (computed (of_two_registers_number what d n imm))
+two_number_sized (two_number.AddSubThree sub) d n imm = grind arith
+two_number_sized _ d n imm = refl
+
 -- as its line in the table says
 pub sized : (kind : StmtKind) → IsSized (sort_of kind)
-sized (stmt.CmpReg n m) = grind arith
-sized (stmt.AddSubThree sub d n imm) = grind arith
+sized (stmt.TwoRegisters what d m) = two_sized what d m
+sized (stmt.ThreeRegisters what d n m) = three_sized what d n m
+sized (stmt.RegisterNumber what d imm) = number_sized what d imm
+sized (stmt.TwoRegistersNumber what d n imm) = two_number_sized what d n imm
 sized _ = refl
 
 -- a statement's own piece, by its sort

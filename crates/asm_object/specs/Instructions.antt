@@ -6,7 +6,8 @@ use Rattle.thumb_isa.specs.declared.instr.Instr.TheVariants.{LdrLit, Adr, BCond,
 use Rattle.relocatable_object.specs.declared.place.Section.TheVariants.{Text}
 use Rattle.relocatable_object.specs.declared.place.Place.{Place}
 use Rattle.asm_layout.specs.Sizes.{sum_64}
-use Rattle.asm_layout.specs.Sorts.{Operation, Nameless, Undefined, AdrOf, LdrOf, LdrValue, BTo, BCondTo, BlTo, BWideTo, CbzTo, offset, operation}
+use Rattle.asm_statements.specs.Computations.{offset}
+use Rattle.asm_layout.specs.Sorts.{Operation, Nameless, Undefined, AdrOf, LdrOf, LdrValue, BTo, BCondTo, BlTo, BWideTo, CbzTo, operation}
 use Rattle.relocatable_object.specs.Sections.{same_section}
 use Rattle.asm_layout.specs.Labels.{Named, find}
 use Rattle.relocatable_object.specs.declared.relocation.TheConstants.{R_ARM_THM_CALL, R_ARM_THM_JUMP11, R_ARM_THM_JUMP8}

@@ -150,6 +150,20 @@ abbrev pub encode_or : Option EncodeFault → Option AsmWhat → Option AsmWhat
 encode_or (Some fault) later = Some (Encode fault)
 encode_or None later = later
 
+-- why the numbers of fields are refused: one isn't known, else one doesn't fit
+abbrev pub numbers_refusal : List Named → ℕ → List Expr → Option AsmWhat
+numbers_refusal labels most fields =
+    if list_all (λ field. is_some (number labels field)) fields then encode_or (fields_fault labels (Some most) fields) None else Some UndefinedLocal
+
+-- why data is refused
+abbrev pub data_refusal : List Named → Given → Option AsmWhat
+data_refusal labels d = if are_fields_known labels d then encode_or (data_fault labels d) None else Some UndefinedLocal
+
+-- why names and encodings are refused
+abbrev pub first_refusal : List Named → StmtKind → Option (Result Code EncodeFault) → Option AsmWhat
+first_refusal labels kind code =
+    if are_names_known labels kind then encode_or (encode_fault_by labels kind code) None else Some UndefinedLocal
+
 -- the lowest refusal of names, encodings, pools and places
 unfoldable pub refusal : List Named → StmtKind → Section → ℕ → Option ℕ → Option AsmWhat
 refusal labels kind section place word =

@@ -1,15 +1,20 @@
 //! The instructions of statements, and where their labels lead (docs/objects.md; DDI 0419, DDI 0553).
 ghost use Rattle.std.specs.Prelude.{◌≡◌, IfOk};
 ghost use Rattle.asm_layout.specs.Labels.{named_in};
-ghost use Rattle.asm_layout.specs.Sorts.{unsigned, offset, compare, add_eight, add_three};
+ghost use Rattle.asm_statements.specs.Computations.{of_two_registers, of_three_registers, of_register_number, of_two_registers_number};
 ghost use Rattle.asm_object.specs.Instructions.{pc, base, between, text_place, branch, literal, literal_to, label_literal, instruction, coded, branch_link};
 
 use crate::value::Link;
 use asm_layout::labels::Labels;
 use asm_layout::{
-    bare_form, data_form, local_form, name_form, nameless_form, reader_form, wide_form,
+    bare_form, computed_form, data_form, local_form, name_form, nameless_form, reader_form,
+    wide_form,
 };
 use asm_statements::StmtKind;
+use asm_statements::computation::{
+    of_register_number, of_three_registers, of_two_registers, of_two_registers_number, offset,
+    unsigned,
+};
 use eh_word::Name;
 use relocatable_object::name::copied;
 use relocatable_object::place::{Place, Section};
@@ -19,58 +24,6 @@ use thumb_encode::code::Code;
 use thumb_encode::encode::encode;
 use thumb_isa::encode_fault::EncodeFault;
 use thumb_isa::instr::Instr;
-
-/// A number as a field without sign takes it; one too large for every field where it is none of 32 bits.
-fn unsigned(n: i64) -> u32
-    ensures { result ≡ unsigned n }
-{
-    u32::try_from(n).unwrap_or(u32::MAX)
-}
-
-/// A number as an offset's field takes it; one too large for every field where it is none of 32 bits.
-fn offset(n: i64) -> i32
-    ensures { result ≡ offset n }
-{
-    i32::try_from(n).unwrap_or(i32::MAX)
-}
-
-/// `cmp` of two registers: the form of low registers where both are.
-fn compare(n: u8, m: u8) -> Instr
-    ensures { result ≡ compare n m }
-{
-    if n < 8 && m < 8 {
-        Instr::Alu { op: 10, d: n, m }
-    } else {
-        Instr::CmpHigh { n, m }
-    }
-}
-
-/// `adds` and `subs` with eight bits.
-fn add_eight(sub: bool, d: u8, imm: i64) -> Instr
-    ensures { result ≡ add_eight sub d imm }
-{
-    Instr::Imm8 {
-        op: if sub { 3 } else { 2 },
-        d,
-        imm: unsigned(imm),
-    }
-}
-
-/// `adds` and `subs` of three operands: with three bits up to 7, and with eight where both registers are one.
-fn add_three(sub: bool, d: u8, n: u8, imm: i64) -> Instr
-    ensures { result ≡ add_three sub d n imm }
-{
-    if imm > 7 && d == n {
-        add_eight(sub, d, imm)
-    } else {
-        Instr::AddSubImm3 {
-            sub,
-            d,
-            n,
-            imm: unsigned(imm),
-        }
-    }
-}
 
 /// The difference of two places as an offset's field takes it.
 fn between(to: u64, from: u64) -> i32
@@ -150,50 +103,18 @@ fn instruction(labels: &Labels, kind: &StmtKind, place: u64, word: Option<u64>) 
     ensures { result ≡ instruction (named_in labels.now) kind.now place word }
 {
     Some(match kind {
-        StmtKind::MovsImm { d, imm } => Instr::Imm8 {
-            op: 0,
-            d: *d,
-            imm: unsigned(*imm),
-        },
-        StmtKind::MovsReg { d, m } => Instr::ShiftImm {
-            op: 0,
-            d: *d,
-            m: *m,
-            n: 0,
-        },
-        StmtKind::Mov { d, m } => Instr::MovHigh { d: *d, m: *m },
-        StmtKind::CmpImm { n, imm } => Instr::Imm8 {
-            op: 1,
-            d: *n,
-            imm: unsigned(*imm),
-        },
-        StmtKind::CmpReg { n, m } => compare(*n, *m),
-        StmtKind::AddSubTwo { sub, d, imm } => add_eight(*sub, *d, *imm),
-        StmtKind::AddSubReg { sub, d, n, m } => Instr::AddSubReg {
-            sub: *sub,
-            d: *d,
-            n: *n,
-            m: *m,
-        },
-        StmtKind::AddSubThree { sub, d, n, imm } => add_three(*sub, *d, *n, *imm),
-        StmtKind::AddReg { d, m } => Instr::AddHigh { d: *d, m: *m },
+        StmtKind::TwoRegisters { what, d, m } => of_two_registers(*what, *d, *m).instr,
+        StmtKind::ThreeRegisters { what, d, n, m } => of_three_registers(*what, *d, *n, *m).instr,
+        StmtKind::RegisterNumber { what, d, imm } => of_register_number(*what, *d, *imm).instr,
+        StmtKind::TwoRegistersNumber { what, d, n, imm } => of_two_registers_number(
+            *what, *d, *n, *imm,
+        ).instr,
         StmtKind::AddRdSp { d, off } => Instr::AddRdSp {
             d: *d,
             off: offset(*off),
         },
         StmtKind::AddSp { off } => Instr::AddSp { off: offset(*off) },
         StmtKind::SubSp { off } => Instr::SubSp { off: offset(*off) },
-        StmtKind::ShiftImm { op, d, m, n } => Instr::ShiftImm {
-            op: *op,
-            d: *d,
-            m: *m,
-            n: unsigned(*n),
-        },
-        StmtKind::Alu { op, d, m } => Instr::Alu {
-            op: *op,
-            d: *d,
-            m: *m,
-        },
         StmtKind::Rsbs { d, m } => Instr::Alu {
             op: 9,
             d: *d,
@@ -221,16 +142,6 @@ fn instruction(labels: &Labels, kind: &StmtKind, place: u64, word: Option<u64>) 
         StmtKind::Stm { n, list } => Instr::Stm { n: *n, list: *list },
         StmtKind::LdmBack { n, list } => Instr::Ldm { n: *n, list: *list },
         StmtKind::Ldm { n, list } => Instr::Ldm { n: *n, list: *list },
-        StmtKind::Extend { op, d, m } => Instr::Extend {
-            op: *op,
-            d: *d,
-            m: *m,
-        },
-        StmtKind::Rev { op, d, m } => Instr::Rev {
-            op: *op,
-            d: *d,
-            m: *m,
-        },
         StmtKind::Bx { m } => Instr::Bx { m: *m },
         StmtKind::Blx { m } => Instr::Blx { m: *m },
         StmtKind::Svc { imm } => Instr::Svc {
@@ -240,20 +151,6 @@ fn instruction(labels: &Labels, kind: &StmtKind, place: u64, word: Option<u64>) 
         StmtKind::Barrier { op } => Instr::Barrier {
             op: *op,
             option: 15,
-        },
-        StmtKind::MovW { d, imm } => Instr::MovW {
-            d: *d,
-            imm: unsigned(*imm),
-        },
-        StmtKind::MovT { d, imm } => Instr::MovT {
-            d: *d,
-            imm: unsigned(*imm),
-        },
-        StmtKind::Div { signed, d, n, m } => Instr::Div {
-            signed: *signed,
-            d: *d,
-            n: *n,
-            m: *m,
         },
         StmtKind::Adr { d, name } => Instr::Adr {
             d: *d,
@@ -316,7 +213,8 @@ pub fn branch_link(
         StmtKind::Bl(name) => (R_ARM_THM_CALL, name),
         StmtKind::B(name) => (R_ARM_THM_JUMP11, name),
         StmtKind::BCond { name, .. } => (R_ARM_THM_JUMP8, name),
-        nameless_form!()
+        computed_form!()
+        | nameless_form!()
         | wide_form!()
         | reader_form!()
         | local_form!()

@@ -18,7 +18,8 @@ use asm_layout::labels::Labels;
 use asm_layout::sort::given;
 use asm_layout::word::{Word, Words, low_number, low_part, word_of};
 use asm_layout::{
-    bare_form, branch_form, data_form, local_form, name_form, nameless_form, reader_form, wide_form,
+    bare_form, branch_form, computed_form, data_form, local_form, name_form, nameless_form,
+    reader_form, wide_form,
 };
 use asm_statements::{Expr, StmtKind};
 use relocatable_object::object::{Octets, Reloc, Relocs};
@@ -62,7 +63,8 @@ fn udf_half(kind: &StmtKind) -> Option<u32>
 {
     match kind {
         StmtKind::Udf { imm } => Some(0xde00 + u32::from(u8::try_from(*imm).unwrap_or(0))),
-        nameless_form!()
+        computed_form!()
+        | nameless_form!()
         | reader_form!()
         | wide_form!()
         | branch_form!()

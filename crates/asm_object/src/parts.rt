@@ -14,7 +14,8 @@ use asm_layout::placed::{PlacedFunction, PlacedPool, Puts};
 use asm_layout::walk::{entry_at, is_instruction, multiple};
 use asm_layout::word::{Words, low_part};
 use asm_layout::{
-    bare_form, branch_form, data_form, local_form, name_form, nameless_form, reader_form, wide_form,
+    bare_form, branch_form, computed_form, data_form, local_form, name_form, nameless_form,
+    reader_form, wide_form,
 };
 use asm_statements::StmtKind;
 use asm_unwind::EntryWords;
@@ -258,7 +259,8 @@ impl Sections {
     {
         match kind {
             StmtKind::Align(n) => self.push_filling(at, multiple(*n)),
-            nameless_form!()
+            computed_form!()
+            | nameless_form!()
             | reader_form!()
             | wide_form!()
             | branch_form!()

@@ -1,10 +1,12 @@
 //! Why a statement is refused at its place (docs/objects.md, in the order of its table).
-ghost use Rattle.std.specs.Prelude.{◌≡◌};
-ghost use Rattle.asm_layout.specs.Given.{given_by};
-ghost use Rattle.asm_layout.specs.Labels.{named_in};
-ghost use Rattle.asm_object.specs.Values.{number};
+ghost use Rattle.std.specs.Prelude.{◌≡◌, None, Some, List};
+ghost use Rattle.std.specs.List.{list_all};
+ghost use Rattle.asm_layout.specs.Given.{given_by, FieldsOf};
+ghost use Rattle.asm_layout.specs.Sorts.{given};
+ghost use Rattle.asm_layout.specs.Labels.{Named, named_in};
+ghost use Rattle.asm_object.specs.Values.{is_word_known};
 ghost use Rattle.asm_object.specs.Instructions.{instruction, coded};
-ghost use Rattle.asm_object.specs.Refusals.{is_field_known, are_fields_known, are_names_known, fits, fault_unless, coded_fault, fields_fault, data_fault, encode_fault_by, is_pool_too_far, has_bytes, is_misplaced, refusal};
+ghost use Rattle.asm_object.specs.Refusals.{are_names_known, fits, fault_unless, coded_fault, encode_fault_by, encode_or, numbers_refusal, data_refusal, first_refusal, is_pool_too_far, has_bytes, is_misplaced, refusal};
 
 use crate::code::{Coded, base, text_place};
 use crate::value::{is_known, is_word_known, number};
@@ -14,7 +16,8 @@ use asm_layout::labels::Labels;
 use asm_layout::sort::given;
 use asm_layout::walk::is_instruction;
 use asm_layout::{
-    bare_form, branch_form, data_form, local_form, name_form, nameless_form, reader_form, wide_form,
+    bare_form, branch_form, computed_form, data_form, local_form, name_form, nameless_form,
+    reader_form, wide_form,
 };
 use asm_statements::{Expr, StmtKind};
 use relocatable_object::place::{Place, Section};
@@ -23,34 +26,23 @@ use thumb_isa::encode_fault::EncodeFault;
 /// The most bytes from a `ldr` to its pool word.
 pub const MOST_TO_POOL: u64 = 1020;
 
-/// Whether a field may be given: it is a number, or an address whose names may be used where its width takes one.
-fn is_field_known(labels: &Labels, width: Width, field: &Expr) -> bool
-    ensures { result ≡ is_field_known (named_in labels.now) width field.now }
+/// Whether the names of words may be used.
+fn are_words_known(labels: &Labels, words: &[Expr]) -> bool
+    ensures { result ≡ list_all (λ word. is_word_known (named_in labels.now) word) words.now }
 {
-    if width.takes_addresses() {
-        is_word_known(labels, field)
-    } else {
-        number(labels, field).is_some()
+    for word in words {
+        if !is_word_known(labels, word) {
+            return false;
+        }
     }
+    true
 }
 
-/// Whether the names of data may be used.
-fn are_fields_known(labels: &Labels, given: Data<'_>) -> bool
-    ensures { result ≡ are_fields_known (named_in labels.now) (given_by given.entry) }
-{
-    match given {
-        Data::Fields(width, fields) => fields.iter().all(|f| is_field_known(labels, width, f)),
-        Data::Text { .. } | Data::Zeros(_) => true,
-    }
-}
-
-/// Whether the names of a statement may be used.
+/// Whether the names of a statement that is no data may be used.
 fn are_names_known(labels: &Labels, kind: &StmtKind) -> bool
+    requires { given kind.now ≡ None }
     ensures { result ≡ are_names_known (named_in labels.now) kind.now }
 {
-    if let Some(found) = given(kind) {
-        return are_fields_known(labels, found);
-    }
     match kind {
         StmtKind::Adr { name, .. }
         | StmtKind::LdrLabel { name, .. }
@@ -64,7 +56,8 @@ fn are_names_known(labels: &Labels, kind: &StmtKind) -> bool
         | StmtKind::TypeFunction(name)
         | StmtKind::TypeObject(name)
         | StmtKind::Size(name) => is_known(labels, name),
-        nameless_form!()
+        computed_form!()
+        | nameless_form!()
         | wide_form!()
         | StmtKind::Udf { .. }
         | data_form!()
@@ -74,14 +67,11 @@ fn are_names_known(labels: &Labels, kind: &StmtKind) -> bool
 }
 
 /// Whether a number fits a field, from `-limit` to `2 * limit - 1`.
-fn fits(labels: &Labels, expr: &Expr, limit: u16) -> bool
-    ensures { result ≡ fits limit (number (named_in labels.now) expr.now) }
+fn fits(number: i128, limit: u16) -> bool
+    ensures { result ≡ fits limit (Some number) }
 {
     let limit = i128::from(limit);
-    match number(labels, expr) {
-        Some(n) => -limit <= n && n < 2 * limit,
-        None => true,
-    }
+    -limit <= number && number < 2 * limit
 }
 
 /// A fault where a test doesn't hold.
@@ -101,50 +91,99 @@ fn coded_fault(code: &Coded) -> Option<EncodeFault>
     }
 }
 
-/// Why a number doesn't fit its field, if there is a limit.
-fn fields_fault(labels: &Labels, limit: Option<u16>, fields: &[Expr]) -> Option<EncodeFault>
-    ensures { result ≡ fields_fault (named_in labels.now) limit fields.now }
+/// The refusal that a fault is.
+fn encoded(fault: Option<EncodeFault>) -> Option<AsmWhat>
+    ensures { result ≡ encode_or fault None }
 {
-    match limit {
-        Some(limit) => fault_unless(
-            fields.iter().all(|f| fits(labels, f, limit)),
-            EncodeFault::ImmediateRange,
-        ),
+    match fault {
+        Some(fault) => Some(AsmWhat::Encode(fault)),
         None => None,
     }
 }
 
-/// Why a number of data doesn't fit.
-fn data_fault(labels: &Labels, given: Data<'_>) -> Option<EncodeFault>
-    ensures { result ≡ data_fault (named_in labels.now) (given_by given.entry) }
+/// Why the numbers of fields are refused: one isn't known, else one doesn't fit.
+fn numbers_refusal(labels: &Labels, limit: u16, fields: &[Expr]) -> Option<AsmWhat>
+    ensures { result ≡ numbers_refusal (named_in labels.now) limit fields.now }
 {
-    match given {
-        Data::Fields(width, fields) => fields_fault(labels, width.limit(), fields),
-        Data::Text { .. } => None,
-        Data::Zeros(n) => fault_unless(n >= 0, EncodeFault::ImmediateRange),
+    let mut all_fit = true;
+    for field in fields {
+        let Some(n) = number(labels, field) else {
+            return Some(AsmWhat::UndefinedLocal);
+        };
+        all_fit = all_fit && fits(n, limit);
+    }
+    encoded(fault_unless(all_fit, EncodeFault::ImmediateRange))
+}
+
+/// Why fields of a width are refused.
+#[tactic(auto, using(crate::proofs::RefusalLemmas::numbered, crate::proofs::RefusalLemmas::addressed))]
+fn fields_refusal(labels: &Labels, width: Width, fields: &[Expr]) -> Option<AsmWhat>
+    ensures { result ≡ data_refusal (named_in labels.now) (FieldsOf width fields.now) }
+{
+    match width.limit() {
+        Some(limit) => numbers_refusal(labels, limit, fields),
+        None => {
+            if are_words_known(labels, fields) {
+                None
+            } else {
+                Some(AsmWhat::UndefinedLocal)
+            }
+        }
     }
 }
 
-/// Why `encode` refuses the instruction of a statement, or a number doesn't fit.
-fn encode_fault(labels: &Labels, kind: &StmtKind, code: &Coded) -> Option<EncodeFault>
-    ensures { result ≡ encode_fault_by (named_in labels.now) kind.now code.now }
+/// Why data is refused.
+fn data_refusal(labels: &Labels, given: Data<'_>) -> Option<AsmWhat>
+    ensures { result ≡ data_refusal (named_in labels.now) (given_by given.entry) }
 {
-    if let Some(found) = given(kind) {
-        return data_fault(labels, found);
+    match given {
+        Data::Fields(width, fields) => fields_refusal(labels, width, fields),
+        Data::Text { .. } => None,
+        Data::Zeros(n) => encoded(fault_unless(n >= 0, EncodeFault::ImmediateRange)),
     }
+}
+
+/// Why `encode` refuses the instruction of a statement that is no data.
+fn encode_fault(kind: &StmtKind, code: &Coded) -> Option<EncodeFault>
+    requires { given kind.now ≡ None }
+    ensures { (labels : List Named) → result ≡ encode_fault_by labels kind.now code.now }
+{
     match kind {
         StmtKind::Udf { imm } => fault_unless(
             0 <= *imm && *imm <= 255,
             EncodeFault::ImmediateRange,
         ),
         StmtKind::LdrPool { t, .. } => fault_unless(*t < 8, EncodeFault::RegisterRange),
-        nameless_form!()
+        computed_form!()
+        | nameless_form!()
         | wide_form!()
         | StmtKind::Adr { .. }
         | StmtKind::LdrLabel { .. }
         | branch_form!()
         | local_form!() => coded_fault(code),
         data_form!() | StmtKind::Align(_) | name_form!() | bare_form!() => None,
+    }
+}
+
+/// Why the names or the instruction of a statement that is no data are refused.
+fn instruction_refusal(labels: &Labels, kind: &StmtKind, code: &Coded) -> Option<AsmWhat>
+    requires { given kind.now ≡ None }
+    ensures { result ≡ first_refusal (named_in labels.now) kind.now code.now }
+{
+    if !are_names_known(labels, kind) {
+        return Some(AsmWhat::UndefinedLocal);
+    }
+    encoded(encode_fault(kind, code))
+}
+
+/// Why the names, the instruction or the numbers of a statement are refused.
+#[tactic(auto, using(crate::proofs::RefusalLemmas::of_data))]
+fn first_refusal(labels: &Labels, kind: &StmtKind, code: &Coded) -> Option<AsmWhat>
+    ensures { result ≡ first_refusal (named_in labels.now) kind.now code.now }
+{
+    match given(kind) {
+        Some(found) => data_refusal(labels, found),
+        None => instruction_refusal(labels, kind, code),
     }
 }
 
@@ -182,7 +221,7 @@ fn is_misplaced(kind: &StmtKind, section: Section) -> bool
 
 /// Why a statement is refused at a place, where `word` is the place of its pool word and `code` what the encoder says: the
 /// lowest refusal of an undefined name, an instruction or number, a pool and a section.
-#[tactic(auto, unfolding(crate::specs::Refusals::refusal))]
+#[tactic(auto, using(crate::proofs::RefusalLemmas::first_stays, crate::proofs::RefusalLemmas::then_rest), unfolding(crate::specs::Refusals::refusal))]
 pub fn refusal(
     labels: &Labels,
     kind: &StmtKind,
@@ -193,11 +232,9 @@ pub fn refusal(
     requires { code.now ≡ coded (instruction (named_in labels.now) kind.now at.offset word) }
     ensures { result ≡ refusal (named_in labels.now) kind.now at.section at.offset word }
 {
-    if !are_names_known(labels, kind) {
-        return Some(AsmWhat::UndefinedLocal);
-    }
-    if let Some(fault) = encode_fault(labels, kind, code) {
-        return Some(AsmWhat::Encode(fault));
+    let first = first_refusal(labels, kind, code);
+    if first.is_some() {
+        return first;
     }
     if is_pool_too_far(at.offset, word) {
         return Some(AsmWhat::PoolTooFar);

@@ -4,3 +4,6 @@ pub mod Fitting
 pub mod Rising
 pub mod Past
 pub mod Lines
+pub mod Bytes
+pub mod Marks
+pub mod Passing

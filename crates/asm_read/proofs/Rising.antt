@@ -1,12 +1,12 @@
 -- Forms whose words rise: those of one word stand together, and where they begin is found by halving.
-use Rattle.std.proofs.Common.{◌≡◌, ℕ, suc, zero, ◌+◌, ◌<◌, ◌≤◌, Bool, true, false, List, [], ◌∷◌, ◌++◌, length, drop, map, get_or, Option, Some, Result, Ok, Err, refl, ap, sym, arith}
+use Rattle.std.proofs.Common.{◌≡◌, ℕ, suc, zero, ◌+◌, ◌<◌, ◌≤◌, ◌==◌, nat_lt, not, min, ◌∙◌, Bool, true, false, List, [], ◌∷◌, ◌++◌, length, drop, map, get_or, Option, Result, Ok, Err, refl, ap, sym, arith}
 use Rattle.std.specs.List.{prefix_len, list_all}
+use Rattle.std.proofs.lemmas.Bool.Decides.{nat_tests}
 use Rattle.std.specs.List.Sorted.{IsPartitionedBy, IsPartitionPoint}
 use Rattle.std.proofs.lemmas.Bool.{cond_both}
-use Rattle.std.proofs.lemmas.List.{drop_more}
+use Rattle.std.proofs.lemmas.List.{drop_more, drop_all, length-drop}
 use Rattle.std.proofs.lemmas.List.Sums.{prefix_len_is}
-use Rattle.std.specs.Cmp.Lexicographic.{slice_partial_cmp, lists_agrees, nat_list_cmp_total, texts_ties, same_text}
-use Rattle.std.specs.Ordering.{nat_cmp, is_lt, is_some_and}
+use Rattle.std.specs.Cmp.Lexicographic.{nat_list_cmp_total, texts_ties, same_text}
 use Rattle.asm_read.specs.declared.line.Stop.{Stop}
 use Rattle.asm_read.specs.declared.choice.Statement.{Statement}
 use Rattle.asm_read.specs.Operands.{same}
@@ -15,6 +15,7 @@ use Rattle.asm_read.specs.declared.table.Group.{Group}
 use Rattle.asm_read.specs.declared.table.Group.TheVariants as group
 use Rattle.asm_read.specs.Patterns.{pieces_of}
 use Rattle.asm_read.specs.Forms.{CodeRow, row_of, TableRow, group_of, forms_in, directives, a_to_b, c_to_l, m_to_z, rows}
+use Rattle.asm_read.specs.Plans.{is_passed}
 use Rattle.asm_read.specs.Search.{is_before, rises, tried, try_form, otherwise, first_fit}
 
 -- ---- the order of words
@@ -25,9 +26,41 @@ before_further w v u h i =
     let o = nat_list_cmp_total in
     grind (arith, o.trans w v u, o.congr u v w, o.antisymm v u, o.antisymm w u, o.antisymm v w)
 
--- the code's test
-pub before_is : (v w : List ℕ) → is_some_and is_lt (slice_partial_cmp (λ x y. Some (nat_cmp x y)) v w) ≡ is_before v w
-before_is v w = ap (is_some_and is_lt) (lists_agrees (λ x y. refl) v w)
+-- byte by byte: two that are the same, two that differ, and the end of one word
+module _ (v w : List ℕ) (i : ℕ) where
+  pub before_more : i < length v → i < length w → get_or v i 0 ≡ get_or w i 0 → is_before (drop (i + 1) v) (drop (i + 1) w) ≡ is_before (drop i v) (drop i w)
+  before_more m n e = rw (drop_more v i 0 m, drop_more w i 0 n, e) (grind (arith, nat_tests))
+
+  pub before_here : i < length v → i < length w → (get_or v i 0 == get_or w i 0) ≡ false → nat_lt (get_or v i 0) (get_or w i 0) ≡ is_before (drop i v) (drop i w)
+  before_here m n e = rw (drop_more v i 0 m, drop_more w i 0 n) (grind (arith, nat_tests))
+
+  pub same_more : i < length v → i < length w → get_or v i 0 ≡ get_or w i 0 → same (drop (i + 1) v) (drop (i + 1) w) ≡ same (drop i v) (drop i w)
+  same_more m n e = rw (drop_more v i 0 m, drop_more w i 0 n, e) (grind (arith, nat_tests))
+
+  pub same_here : i < length v → i < length w → (get_or v i 0 == get_or w i 0) ≡ false → false ≡ same (drop i v) (drop i w)
+  same_here m n e = rw (drop_more v i 0 m, drop_more w i 0 n) (grind (arith, nat_tests))
+
+  pub same_end : length v ≤ i → length w ≤ i → true ≡ same (drop i v) (drop i w)
+  same_end m n = rw (drop_all i v m, drop_all i w n) refl
+
+pub same_lengths : (v w : List ℕ) → (length v == length w) ≡ false → false ≡ same v w
+same_lengths [] [] h = sym h
+same_lengths [] (b ∷ w) h = refl
+same_lengths (a ∷ v) [] h = refl
+same_lengths (a ∷ v) (b ∷ w) h = grind (arith, nat_tests, same_lengths v w)
+
+ended : (v w : List ℕ) → nat_lt 0 (length v) ≡ false → nat_lt 0 (length w) ≡ is_before v w
+ended [] [] h = refl
+ended [] (b ∷ w) h = grind (arith, nat_tests)
+ended (a ∷ v) w h = grind arith
+
+over : (v w : List ℕ) → nat_lt 0 (length w) ≡ false → false ≡ is_before v w
+over [] [] h = refl
+over (a ∷ v) [] h = refl
+over v (b ∷ w) h = grind arith
+
+pub before_end : (v w : List ℕ) (i : ℕ) → i ≡ min (length v) (length w) → nat_lt (length v) (length w) ≡ is_before (drop i v) (drop i w)
+before_end v w i h = grind (arith, nat_tests, ended (drop i v) (drop i w), over (drop i v) (drop i w), length-drop i v, length-drop i w)
 
 -- ---- forms whose words rise
 
@@ -76,6 +109,12 @@ group_holds : (g : Group) → list_all (λ f. is_group g (group_of f.word)) (for
 unfolding directives a_to_b c_to_l m_to_z
 group_holds group.Directives = refl
 group_holds _ = refl
+
+-- no word of a group is passed over
+passed_holds : (g : Group) → list_all (λ f. not (is_passed f.word)) (forms_in g) ≡ true
+unfolding directives a_to_b c_to_l m_to_z
+passed_holds group.Directives = refl
+passed_holds _ = refl
 
 module _ (w line : List ℕ) (from : ℕ) where
   -- a form of another word is passed over
@@ -147,3 +186,7 @@ module _ (w line : List ℕ) (from : ℕ) where
   -- a word's group has all its forms
   pub word_grouped : (best : Option Stop) → first_fit (forms_in (group_of w)) w line from best ≡ first_fit rows w line from best
   word_grouped best = grouped (group_of w) best (λ h n b. none_of (forms_in h) (λ v. is_group h (group_of v)) b (group_holds h) n)
+
+  -- a word that is passed over has none
+  pub passed_over : (best : Option Stop) → is_passed w ≡ true → first_fit rows w line from best ≡ Err best
+  passed_over best h = sym (word_grouped best) ∙ none_of (forms_in (group_of w)) (λ v. not (is_passed v)) best (passed_holds (group_of w)) (ap not h)

@@ -2,6 +2,7 @@ pub mod Fault
 pub mod Tokens
 pub mod Capped
 pub mod Operands
+pub mod Marks
 pub mod Expressions
 pub mod Fits
 pub mod Patterns

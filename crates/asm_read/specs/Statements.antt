@@ -16,7 +16,7 @@ use Rattle.asm_read.specs.declared.makes.Named.{Named}
 use Rattle.asm_read.specs.declared.makes.Named.TheVariants as named
 use Rattle.asm_read.specs.declared.choice.Statement.{Statement}
 use Rattle.asm_statements.specs.declared.statement.StmtKind.{StmtKind}
-use Rattle.asm_statements.specs.declared.statement.StmtKind.TheVariants.{MovsImm, MovsReg, Mov, CmpImm, CmpReg, AddSubTwo, AddSubReg, AddSubThree, AddReg, AddRdSp, AddSp, SubSp, ShiftImm, Alu, Rsbs, MovW, MovT, Div, Adr, LdrLabel, LdrPool, MemImm, MemReg, MemSp, Push, Pop, Stm, LdmBack, Ldm, Extend, Rev, B, BCond, Bl, Cbz, BWide, Bx, Blx, Svc, Udf, Hint, Barrier, Text, Data, Bss, Rodata, Global, TypeFunction, TypeObject, Size, Words, Halves, Bytes, Ascii, Asciz, Space, Align, Pool, FnStart, FnEnd, Save, Pad, SetFp, CantUnwind, PersonalityIndex, HandlerData}
+use Rattle.asm_statements.specs.declared.statement.StmtKind.TheVariants.{TwoRegisters, ThreeRegisters, RegisterNumber, TwoRegistersNumber, AddRdSp, AddSp, SubSp, Rsbs, Adr, LdrLabel, LdrPool, MemImm, MemReg, MemSp, Push, Pop, Stm, LdmBack, Ldm, B, BCond, Bl, Cbz, BWide, Bx, Blx, Svc, Udf, Hint, Barrier, Text, Data, Bss, Rodata, Global, TypeFunction, TypeObject, Size, Words, Halves, Bytes, Ascii, Asciz, Space, Align, Pool, FnStart, FnEnd, Save, Pad, SetFp, CantUnwind, PersonalityIndex, HandlerData}
 use Rattle.asm_read.specs.Tokens.{unescaped}
 use Rattle.asm_read.specs.Operands.{bytes_of}
 use Rattle.asm_read.specs.Expressions.{expr_from, expressions_at, exprs_of}
@@ -29,28 +29,12 @@ inside quoted = slice_range quoted 1 (length quoted - 1)
 abbrev pub text_of : List ℕ → Span → List ℕ
 text_of line s = unescaped false (inside (bytes_of line s))
 
--- moves, comparisons, sums, shifts and extensions of registers
+-- computations with an operand that is always the same
 abbrev pub computation_of : Computation → Operands → StmtKind
-computation_of computation.MovsImm o = MovsImm o.first o.number
-computation_of computation.MovsReg o = MovsReg o.first o.second
-computation_of computation.Mov o = Mov o.first o.second
-computation_of computation.CmpImm o = CmpImm o.first o.number
-computation_of computation.CmpReg o = CmpReg o.first o.second
-computation_of (computation.AddSubTwo sub) o = AddSubTwo sub o.first o.number
-computation_of (computation.AddSubReg sub) o = AddSubReg sub o.first o.second o.third
-computation_of (computation.AddSubThree sub) o = AddSubThree sub o.first o.second o.number
 computation_of computation.AddRdSp o = AddRdSp o.first o.number
 computation_of computation.AddSp o = AddSp o.number
-computation_of computation.AddReg o = AddReg o.first o.second
 computation_of computation.SubSp o = SubSp o.number
-computation_of (computation.ShiftImm op) o = ShiftImm op o.first o.second o.number
-computation_of (computation.Alu op) o = Alu op o.first o.second
 computation_of computation.Rsbs o = Rsbs o.first o.second
-computation_of computation.MovW o = MovW o.first o.number
-computation_of computation.MovT o = MovT o.first o.number
-computation_of (computation.Div signed) o = Div signed o.first o.second o.third
-computation_of (computation.Extend op) o = Extend op o.first o.second
-computation_of (computation.Rev op) o = Rev op o.first o.second
 
 -- loads, stores and register lists
 abbrev pub transfer_of : Transfer → Operands → StmtKind
@@ -111,6 +95,10 @@ named_of line named.Ascii o = Ascii (text_of line o.name)
 named_of line named.Asciz o = Asciz (text_of line o.name)
 
 abbrev pub made_of : List ℕ → Makes → Operands → StmtKind
+made_of line (makes.OfTwoRegisters what) o = TwoRegisters what o.first o.second
+made_of line (makes.OfThreeRegisters what) o = ThreeRegisters what o.first o.second o.third
+made_of line (makes.OfRegisterNumber what) o = RegisterNumber what o.first o.number
+made_of line (makes.OfTwoRegistersNumber what) o = TwoRegistersNumber what o.first o.second o.number
 made_of line (makes.Computes c) o = computation_of c o
 made_of line (makes.Transfers t) o = transfer_of t o
 made_of line (makes.Controls c) o = control_of c o

@@ -125,46 +125,20 @@ fn exprs_from(alloc: Global, word: bool, line: &[u8], from: usize) -> Result<Vec
     Ok(Vec::new(alloc))
 }
 
-/// Moves, comparisons, sums, shifts and extensions of registers.
+/// Computations with an operand that is always the same.
 fn computation_of(computation: Computation, operands: Operands) -> StmtKind
     ensures { result ≡ computation_of computation operands }
 {
     let d = operands.first;
-    let n = operands.second;
-    let m = operands.second;
-    let imm = operands.number;
     let off = operands.number;
     match computation {
-        Computation::MovsImm => StmtKind::MovsImm { d, imm },
-        Computation::MovsReg => StmtKind::MovsReg { d, m },
-        Computation::Mov => StmtKind::Mov { d, m },
-        Computation::CmpImm => StmtKind::CmpImm { n: d, imm },
-        Computation::CmpReg => StmtKind::CmpReg { n: d, m },
-        Computation::AddSubTwo(sub) => StmtKind::AddSubTwo { sub, d, imm },
-        Computation::AddSubReg(sub) => StmtKind::AddSubReg {
-            sub,
-            d,
-            n,
-            m: operands.third,
-        },
-        Computation::AddSubThree(sub) => StmtKind::AddSubThree { sub, d, n, imm },
         Computation::AddRdSp => StmtKind::AddRdSp { d, off },
         Computation::AddSp => StmtKind::AddSp { off },
-        Computation::AddReg => StmtKind::AddReg { d, m },
         Computation::SubSp => StmtKind::SubSp { off },
-        Computation::ShiftImm(op) => StmtKind::ShiftImm { op, d, m, n: imm },
-        Computation::Alu(op) => StmtKind::Alu { op, d, m },
-        Computation::Rsbs => StmtKind::Rsbs { d, m },
-        Computation::MovW => StmtKind::MovW { d, imm },
-        Computation::MovT => StmtKind::MovT { d, imm },
-        Computation::Div(signed) => StmtKind::Div {
-            signed,
+        Computation::Rsbs => StmtKind::Rsbs {
             d,
-            n,
-            m: operands.third,
+            m: operands.second,
         },
-        Computation::Extend(op) => StmtKind::Extend { op, d, m },
-        Computation::Rev(op) => StmtKind::Rev { op, d, m },
     }
 }
 
@@ -279,7 +253,27 @@ pub fn kind_of(alloc: Global, line: &[u8], statement: Statement) -> Result<StmtK
     ensures { IfOk result (λ k. k ≡ kind_of line.now statement) }
 {
     let operands = statement.operands;
+    let d = operands.first;
+    let imm = operands.number;
     Ok(match statement.makes {
+        Makes::OfTwoRegisters(what) => StmtKind::TwoRegisters {
+            what,
+            d,
+            m: operands.second,
+        },
+        Makes::OfThreeRegisters(what) => StmtKind::ThreeRegisters {
+            what,
+            d,
+            n: operands.second,
+            m: operands.third,
+        },
+        Makes::OfRegisterNumber(what) => StmtKind::RegisterNumber { what, d, imm },
+        Makes::OfTwoRegistersNumber(what) => StmtKind::TwoRegistersNumber {
+            what,
+            d,
+            n: operands.second,
+            imm,
+        },
         Makes::Computes(computation) => computation_of(computation, operands),
         Makes::Transfers(transfer) => transfer_of(transfer, operands),
         Makes::Controls(control) => control_of(control, operands),

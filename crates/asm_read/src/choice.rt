@@ -3,6 +3,7 @@ ghost use Rattle.std.specs.Prelude.{◌≡◌, ◌≤◌, ◌⊎◌, [], true, l
 ghost use Rattle.std.specs.List.{prefix_len};
 ghost use Rattle.asm_read.specs.Fits.{fresh, fits};
 ghost use Rattle.asm_read.specs.Forms.{CodeRow, row_of, rows};
+ghost use Rattle.asm_read.specs.Operands.{same};
 ghost use Rattle.asm_read.specs.Patterns.{pieces_of};
 ghost use Rattle.asm_read.specs.Search.{farther, is_operand, is_before, rises, tried, first_fit};
 
@@ -70,11 +71,33 @@ fn try_form(
 }
 
 /// Whether a word stands before another, byte by byte.
-#[tactic(auto, using(crate::proofs::Rising::before_is))]
+#[tactic(auto, using(crate::proofs::Rising::before_more, crate::proofs::Rising::before_here, crate::proofs::Rising::before_end))]
 fn is_before(word: &[u8], other: &[u8]) -> bool
     ensures { result ≡ is_before word.now other.now }
 {
-    word < other
+    let shared = word.len().min(other.len());
+    for i in 0..shared {
+        if word[i] != other[i] {
+            return word[i] < other[i];
+        }
+    }
+    word.len() < other.len()
+}
+
+/// Whether two words are the same, byte by byte.
+#[tactic(auto, using(crate::proofs::Rising::same_more, crate::proofs::Rising::same_here, crate::proofs::Rising::same_end, crate::proofs::Rising::same_lengths))]
+fn is_same(word: &[u8], other: &[u8]) -> bool
+    ensures { result ≡ same word.now other.now }
+{
+    if word.len() != other.len() {
+        return false;
+    }
+    for i in 0..word.len() {
+        if word[i] != other[i] {
+            return false;
+        }
+    }
+    true
 }
 
 /// How many of these forms have words before a word.
@@ -97,7 +120,7 @@ fn first_fit(rows: &[Row], word: &[u8], line: &[u8], from: usize) -> Result<Stat
 {
     let mut so_far = None;
     for row in rows {
-        if row.0 != word {
+        if !is_same(row.0, word) {
             return Err(so_far);
         }
         match try_form(row, line, from, so_far) {

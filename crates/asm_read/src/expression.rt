@@ -3,8 +3,8 @@ ghost use Rattle.std.specs.Prelude.{◌≡◌, ◌<◌, ◌≤◌, ◌-ℤ◌, p
 ghost use Rattle.asm_read.specs.Expressions.{relation_of, related, difference, after_name, expression_at, listed_at, list_item_at, expressions_at, end_of};
 
 use crate::fault::SourceWhat;
-use crate::line::{Span, Stop, is_mark_of, mark_at, name_at, name_of, number_at, stopped};
-use crate::token::{Kind, token_at};
+use crate::line::{Span, Stop, mark_at, name_at, name_of, number_at, stopped};
+use crate::token::{Kind, is_mark_of, mark_after, token_at};
 
 /// An expression, with names as spans of the line.
 #[derive(Clone, Copy)]
@@ -69,14 +69,13 @@ fn difference(line: &[u8], name: Span, from: usize) -> Result<Shaped, Stop>
     ensures stop { IfErr result (λ s. s.at ≤ length line.now) }
 {
     let other = name_at(line, from)?;
-    let token = token_at(line, other.end);
-    if !is_mark_of(b'+', token.kind) {
+    let Some(plus) = mark_after(b'+', line, other.end) else {
         return Ok(Shaped {
             shape: Shape::Diff(name, other, 0),
             end: other.end,
         });
-    }
-    let number = number_at(line, token.end)?;
+    };
+    let number = number_at(line, plus)?;
     Ok(Shaped {
         shape: Shape::Diff(name, other, number.value),
         end: number.end,
@@ -149,11 +148,10 @@ fn listed_at(word: bool, line: &[u8], from: usize) -> Result<Shaped, Stop>
     ensures end { IfOk result (λ e. e.end ≤ length line.now) }
     ensures stop { IfErr result (λ s. s.at ≤ length line.now) }
 {
-    let token = token_at(line, from);
-    if !is_mark_of(b'#', token.kind) {
+    let Some(hash) = mark_after(b'#', line, from) else {
         return expression_at(word, line, from);
-    }
-    let number = number_at(line, token.end)?;
+    };
+    let number = number_at(line, hash)?;
     Ok(Shaped {
         shape: Shape::Num(number.value),
         end: number.end,
@@ -178,16 +176,10 @@ pub fn list_item_at(word: bool, line: &[u8], from: usize) -> Result<ListItem, St
     ensures stop { IfErr result (λ s. s.at ≤ length line.now) }
 {
     let shaped = listed_at(word, line, from)?;
-    let token = token_at(line, shaped.end);
-    let next = if is_mark_of(b',', token.kind) {
-        Some(token.end)
-    } else {
-        None
-    };
     Ok(ListItem {
         shape: shaped.shape,
         end: shaped.end,
-        next,
+        next: mark_after(b',', line, shaped.end),
     })
 }
 

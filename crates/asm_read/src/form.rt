@@ -295,13 +295,16 @@ fn piece_at(piece: Piece, line: &[u8], operands: Operands) -> Result<Operands, S
 }
 
 /// The operands where the line ends after them.
-#[tactic(auto, unfolding(crate::specs::Fits::end_at))]
+#[tactic(auto, using(crate::proofs::Marks::end_token), unfolding(crate::specs::Fits::end_at))]
 fn end_at(line: &[u8], operands: Operands) -> Result<Operands, Stop>
     requires { operands.at ≤ length line.now }
     ensures operands { result ≡ end_at line.now operands }
     ensures at { IfOk result (λ o. o.at ≤ length line.now) }
     ensures stop { IfErr result (λ s. s.at ≤ length line.now) }
 {
+    if operands.at == line.len() {
+        return Ok(operands);
+    }
     let token = token_at(line, operands.at);
     match token.kind {
         Kind::End => Ok(operands),

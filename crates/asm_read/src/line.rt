@@ -3,7 +3,7 @@ ghost use Rattle.std.specs.Prelude.{◌≡◌, ◌+◌, ◌-◌, ◌*◌, ◌^�
 ghost use Rattle.asm_read.specs.Operands.{is_mark_of, bytes_of, register_of, stopped, name_of, register_at, mark_at, mark_or_nothing, word_at, name_at, text_at, number_at, limited_at, register_mask, has_register, item_at, list_from, list_at};
 
 use crate::fault::SourceWhat;
-use crate::token::{Kind, Token, token_at};
+use crate::token::{Kind, Token, is_mark_of, mark_after, token_at};
 
 /// The numbers of sp, lr and pc.
 pub const SP: u8 = 13;
@@ -123,16 +123,6 @@ pub fn register_at(line: &[u8], from: usize) -> Result<Register, Stop>
     }
 }
 
-/// Whether a token is this mark.
-pub fn is_mark_of(mark: u8, kind: Kind) -> bool
-    ensures { result ≡ is_mark_of mark kind }
-{
-    match kind {
-        Kind::Mark(b) => mark == b,
-        _ => false,
-    }
-}
-
 /// The offset after a mark.
 #[tactic(auto, unfolding(crate::specs::Operands::mark_at))]
 pub fn mark_at(mark: u8, line: &[u8], from: usize) -> Result<usize, Stop>
@@ -141,11 +131,9 @@ pub fn mark_at(mark: u8, line: &[u8], from: usize) -> Result<usize, Stop>
     ensures end { IfOk result (λ at. at ≤ length line.now) }
     ensures stop { IfErr result (λ s. s.at ≤ length line.now) }
 {
-    let token = token_at(line, from);
-    if is_mark_of(mark, token.kind) {
-        Ok(token.end)
-    } else {
-        Err(stopped(token))
+    match mark_after(mark, line, from) {
+        Some(end) => Ok(end),
+        None => Err(stopped(token_at(line, from))),
     }
 }
 
@@ -156,12 +144,7 @@ pub fn mark_or_nothing(mark: u8, line: &[u8], from: usize) -> usize
     ensures place { result ≡ mark_or_nothing mark line.now from }
     ensures end { result ≤ length line.now }
 {
-    let token = token_at(line, from);
-    if is_mark_of(mark, token.kind) {
-        token.end
-    } else {
-        from
-    }
+    mark_after(mark, line, from).unwrap_or(from)
 }
 
 /// The offset after a word.
@@ -299,15 +282,14 @@ fn item_at(line: &[u8], from: usize) -> Result<Item, Stop>
     ensures stop { IfErr result (λ s. s.at ≤ length line.now) }
 {
     let low = register_at(line, from)?;
-    let token = token_at(line, low.end);
-    if !is_mark_of(b'-', token.kind) {
+    let Some(minus) = mark_after(b'-', line, low.end) else {
         return Ok(Item {
             low: low.number,
             high: low.number,
             end: low.end,
         });
-    }
-    let high = register_at(line, token.end)?;
+    };
+    let high = register_at(line, minus)?;
     if high.number < low.number {
         return Err(Stop {
             at: high.start,

@@ -1,7 +1,15 @@
 //! What statement a form makes of its operands (docs/source-language.md).
+use asm_statements::computation::{
+    OfRegisterNumber, OfThreeRegisters, OfTwoRegisters, OfTwoRegistersNumber,
+};
+
 /// The statement that a form makes, by groups of `StmtKind` and named as there, with what the word says of it.
 #[derive(Clone, Copy)]
 pub enum Makes {
+    OfTwoRegisters(OfTwoRegisters),
+    OfThreeRegisters(OfThreeRegisters),
+    OfRegisterNumber(OfRegisterNumber),
+    OfTwoRegistersNumber(OfTwoRegistersNumber),
     Computes(Computation),
     Transfers(Transfer),
     Controls(Control),
@@ -9,29 +17,13 @@ pub enum Makes {
     Names(Named),
 }
 
-/// Moves, comparisons, sums, shifts and extensions of registers.
+/// Computations with an operand that is always the same: the register sp, or 0.
 #[derive(Clone, Copy)]
 pub enum Computation {
-    MovsImm,
-    MovsReg,
-    Mov,
-    CmpImm,
-    CmpReg,
-    AddSubTwo(bool),
-    AddSubReg(bool),
-    AddSubThree(bool),
     AddRdSp,
     AddSp,
-    AddReg,
     SubSp,
-    ShiftImm(u8),
-    Alu(u8),
     Rsbs,
-    MovW,
-    MovT,
-    Div(bool),
-    Extend(u8),
-    Rev(u8),
 }
 
 /// Loads, stores and register lists.

@@ -1,11 +1,12 @@
 //! What a line holds: a label, a statement, or the first place at which it is refused (docs/source-language.md, "Tokens").
-ghost use Rattle.std.specs.Prelude.{◌≡◌, ◌<◌, ◌≤◌, length, Option, IfOk, IfErr, IfSome};
-ghost use Rattle.asm_read.specs.Plans.{is_passed, unknown, word_statement, statement_at, is_word, plan_of, not_plain, not_plain_at, too_long, earlier, line_plan};
+ghost use Rattle.std.specs.Prelude.{◌≡◌, ◌<◌, ◌≤◌, length, Option, None, IfOk, IfErr, IfSome, if◌then◌else◌};
+ghost use Rattle.asm_read.specs.Marks.{mark_after};
+ghost use Rattle.asm_read.specs.Plans.{is_passed, unknown, word_statement, begun_by, statement_at, is_word, plan_of, not_plain, not_plain_at, too_long, earlier, line_plan};
 
 use crate::choice::{Statement, form_at};
 use crate::fault::SourceWhat;
-use crate::line::{Span, Stop, is_mark_of, name_of, stopped};
-use crate::token::{Kind, Token, token_at};
+use crate::line::{Span, Stop, name_of, stopped};
+use crate::token::{Kind, Token, mark_after, token_at};
 
 /// The longest line, in bytes.
 pub const LONGEST: usize = 256;
@@ -43,8 +44,8 @@ fn unknown(word: &[u8]) -> SourceWhat
     }
 }
 
-/// The statement that a word begins.
-#[tactic(auto, unfolding(crate::specs::Plans::word_statement))]
+/// The statement that a word begins. No word of a form is passed over, so few are looked for among those that are.
+#[tactic(auto, using(crate::proofs::Passing::with_form, crate::proofs::Passing::with_stop, crate::proofs::Passing::without_form))]
 fn word_statement(line: &[u8], token: Token) -> Result<Option<Statement>, Stop>
     requires start { token.start ≤ length line.now }
     requires end { token.end ≤ length line.now }
@@ -52,16 +53,28 @@ fn word_statement(line: &[u8], token: Token) -> Result<Option<Statement>, Stop>
     ensures stop { IfErr result (λ s. s.at ≤ length line.now) }
 {
     let word = name_of(line, token);
-    if is_passed(word) {
-        return Ok(None);
-    }
     match form_at(word, line, token.end) {
         Ok(statement) => Ok(Some(statement)),
         Err(Some(stop)) => Err(stop),
+        Err(None) if is_passed(word) => Ok(None),
         Err(None) => Err(Stop {
             at: token.start,
             what: unknown(word),
         }),
+    }
+}
+
+/// The statement that a token begins, if there is one.
+fn begun_by(line: &[u8], token: Token) -> Result<Option<Statement>, Stop>
+    requires start { token.start ≤ length line.now }
+    requires end { token.end ≤ length line.now }
+    ensures statement { result ≡ begun_by line.now token token.kind }
+    ensures stop { IfErr result (λ s. s.at ≤ length line.now) }
+{
+    match token.kind {
+        Kind::Word => word_statement(line, token),
+        Kind::End => Ok(None),
+        _ => Err(stopped(token)),
     }
 }
 
@@ -72,51 +85,49 @@ fn statement_at(line: &[u8], from: usize) -> Result<Option<Statement>, Stop>
     ensures statement { result ≡ statement_at line.now from }
     ensures stop { IfErr result (λ s. s.at ≤ length line.now) }
 {
-    let token = token_at(line, from);
-    match token.kind {
-        Kind::Word => word_statement(line, token),
-        Kind::End => Ok(None),
-        _ => Err(stopped(token)),
-    }
+    begun_by(line, token_at(line, from))
 }
 
-fn is_word(kind: Kind) -> bool
-    ensures { result ≡ is_word kind }
+/// The offset after the colon of a label, where a line's first token is one.
+fn label_end(line: &[u8], token: Token) -> Option<usize>
+    requires { token.end ≤ length line.now }
+    ensures place { result ≡ (if is_word token.kind then mark_after 58 line.now token.end else None) }
+    ensures end { IfSome result (λ at. at ≤ length line.now) }
 {
-    match kind {
-        Kind::Word => true,
-        _ => false,
+    match token.kind {
+        Kind::Word => mark_after(b':', line, token.end),
+        _ => None,
     }
 }
 
 /// What a line holds, by its tokens.
-#[tactic(auto, unfolding(crate::specs::Plans::plan_of))]
+#[tactic(auto, unfolding(crate::specs::Plans::plan_of, crate::specs::Plans::statement_at))]
 fn plan_of(line: &[u8]) -> Result<Plan, Stop>
     ensures plan { result ≡ plan_of line.now }
     ensures stop { IfErr result (λ s. s.at ≤ length line.now) }
 {
     let token = token_at(line, 0);
-    let colon = token_at(line, token.end);
-    if is_word(token.kind) && is_mark_of(b':', colon.kind) {
-        let statement = statement_at(line, colon.end)?;
+    if let Some(after) = label_end(line, token) {
+        let statement = statement_at(line, after)?;
         let label = Some(Span {
             start: token.start,
             end: token.end,
         });
         return Ok(Plan { label, statement });
     }
-    let statement = statement_at(line, 0)?;
+    // the token that was read begins the statement
+    let statement = begun_by(line, token)?;
     Ok(Plan {
         label: None,
         statement,
     })
 }
 
-/// Whether a byte may stand in no source.
+/// Whether a byte may stand in no source. Most bytes pass the first test.
 pub fn not_plain(b: u8) -> bool
     ensures { result ≡ not_plain b }
 {
-    b > 126 || b < 32 && b != b'\t' && b != b'\r'
+    (b < b' ' || b > b'~') && b != b'\t' && b != b'\r'
 }
 
 /// The first byte that may stand in no source.

@@ -3,24 +3,8 @@ ghost use Rattle.std.specs.Prelude.{◌≡◌, map};
 ghost use Rattle.asm_read.specs.Forms.{row_of, group_of, forms_in};
 
 use crate::makes::Computation::AddRdSp;
-use crate::makes::Computation::AddReg;
 use crate::makes::Computation::AddSp;
-use crate::makes::Computation::AddSubReg;
-use crate::makes::Computation::AddSubThree;
-use crate::makes::Computation::AddSubTwo;
-use crate::makes::Computation::Alu;
-use crate::makes::Computation::CmpImm;
-use crate::makes::Computation::CmpReg;
-use crate::makes::Computation::Div;
-use crate::makes::Computation::Extend;
-use crate::makes::Computation::Mov;
-use crate::makes::Computation::MovT;
-use crate::makes::Computation::MovW;
-use crate::makes::Computation::MovsImm;
-use crate::makes::Computation::MovsReg;
-use crate::makes::Computation::Rev;
 use crate::makes::Computation::Rsbs;
-use crate::makes::Computation::ShiftImm;
 use crate::makes::Computation::SubSp;
 use crate::makes::Control::Barrier;
 use crate::makes::Control::Blx;
@@ -47,6 +31,10 @@ use crate::makes::Makes::Computes;
 use crate::makes::Makes::Controls;
 use crate::makes::Makes::Directs;
 use crate::makes::Makes::Names;
+use crate::makes::Makes::OfRegisterNumber;
+use crate::makes::Makes::OfThreeRegisters;
+use crate::makes::Makes::OfTwoRegisters;
+use crate::makes::Makes::OfTwoRegistersNumber;
 use crate::makes::Makes::Transfers;
 use crate::makes::Makes::{self};
 use crate::makes::Named::Adr;
@@ -106,6 +94,22 @@ use crate::pattern::Pattern::TwoRegistersZero;
 use crate::pattern::Pattern::Values;
 use crate::pattern::Pattern::WordValues;
 use crate::pattern::Pattern::{self};
+use asm_statements::computation::OfRegisterNumber::AddSubTwo;
+use asm_statements::computation::OfRegisterNumber::CmpImm;
+use asm_statements::computation::OfRegisterNumber::MovT;
+use asm_statements::computation::OfRegisterNumber::MovW;
+use asm_statements::computation::OfRegisterNumber::MovsImm;
+use asm_statements::computation::OfThreeRegisters::AddSubReg;
+use asm_statements::computation::OfThreeRegisters::Div;
+use asm_statements::computation::OfTwoRegisters::AddReg;
+use asm_statements::computation::OfTwoRegisters::Alu;
+use asm_statements::computation::OfTwoRegisters::CmpReg;
+use asm_statements::computation::OfTwoRegisters::Extend;
+use asm_statements::computation::OfTwoRegisters::Mov;
+use asm_statements::computation::OfTwoRegisters::MovsReg;
+use asm_statements::computation::OfTwoRegisters::Rev;
+use asm_statements::computation::OfTwoRegistersNumber::AddSubThree;
+use asm_statements::computation::OfTwoRegistersNumber::ShiftImm;
 
 /// A form: what stands after its word, and the statement that it makes.
 #[derive(Clone, Copy)]
@@ -196,17 +200,25 @@ pub static DIRECTIVES: [Row; 32] = [
 
 /// Mnemonics that begin with a or b.
 pub static A_TO_B: [Row; 33] = [
-    row!(b"adcs", TwoRegisters, Computes(Alu(5))),
+    row!(b"adcs", TwoRegisters, OfTwoRegisters(Alu(5))),
     row!(b"add", RegisterSpNumber, Computes(AddRdSp)),
     row!(b"add", SpNumber, Computes(AddSp)),
-    row!(b"add", TwoRegisters, Computes(AddReg)),
-    row!(b"adds", RegisterNumber, Computes(AddSubTwo(false))),
-    row!(b"adds", ThreeRegisters, Computes(AddSubReg(false))),
-    row!(b"adds", TwoRegistersNumber, Computes(AddSubThree(false))),
+    row!(b"add", TwoRegisters, OfTwoRegisters(AddReg)),
+    row!(b"adds", RegisterNumber, OfRegisterNumber(AddSubTwo(false))),
+    row!(b"adds", ThreeRegisters, OfThreeRegisters(AddSubReg(false))),
+    row!(
+        b"adds",
+        TwoRegistersNumber,
+        OfTwoRegistersNumber(AddSubThree(false))
+    ),
     row!(b"adr", RegisterName, Names(Adr)),
-    row!(b"ands", TwoRegisters, Computes(Alu(0))),
-    row!(b"asrs", TwoRegistersNumber, Computes(ShiftImm(2))),
-    row!(b"asrs", TwoRegisters, Computes(Alu(4))),
+    row!(b"ands", TwoRegisters, OfTwoRegisters(Alu(0))),
+    row!(
+        b"asrs",
+        TwoRegistersNumber,
+        OfTwoRegistersNumber(ShiftImm(2))
+    ),
+    row!(b"asrs", TwoRegisters, OfTwoRegisters(Alu(4))),
     row!(b"b", OneName, Names(B)),
     row!(b"b.w", OneName, Names(BWide)),
     row!(b"bcc", OneName, Names(BCond(3))),
@@ -216,7 +228,7 @@ pub static A_TO_B: [Row; 33] = [
     row!(b"bgt", OneName, Names(BCond(12))),
     row!(b"bhi", OneName, Names(BCond(8))),
     row!(b"bhs", OneName, Names(BCond(2))),
-    row!(b"bics", TwoRegisters, Computes(Alu(14))),
+    row!(b"bics", TwoRegisters, OfTwoRegisters(Alu(14))),
     row!(b"bl", OneName, Names(Bl)),
     row!(b"ble", OneName, Names(BCond(13))),
     row!(b"blo", OneName, Names(BCond(3))),
@@ -235,12 +247,12 @@ pub static A_TO_B: [Row; 33] = [
 pub static C_TO_L: [Row; 30] = [
     row!(b"cbnz", RegisterName, Names(Cbz(true))),
     row!(b"cbz", RegisterName, Names(Cbz(false))),
-    row!(b"cmn", TwoRegisters, Computes(Alu(11))),
-    row!(b"cmp", RegisterNumber, Computes(CmpImm)),
-    row!(b"cmp", TwoRegisters, Computes(CmpReg)),
+    row!(b"cmn", TwoRegisters, OfTwoRegisters(Alu(11))),
+    row!(b"cmp", RegisterNumber, OfRegisterNumber(CmpImm)),
+    row!(b"cmp", TwoRegisters, OfTwoRegisters(CmpReg)),
     row!(b"dmb", Nothing, Controls(Barrier(1))),
     row!(b"dsb", Nothing, Controls(Barrier(0))),
-    row!(b"eors", TwoRegisters, Computes(Alu(1))),
+    row!(b"eors", TwoRegisters, OfTwoRegisters(Alu(1))),
     row!(b"isb", Nothing, Controls(Barrier(2))),
     row!(b"ldm", BaseBackList, Transfers(LdmBack)),
     row!(b"ldm", BaseList, Transfers(Ldm)),
@@ -259,32 +271,40 @@ pub static C_TO_L: [Row; 30] = [
     row!(b"ldrh", BaseIndex, Transfers(MemReg(5))),
     row!(b"ldrsb", BaseIndex, Transfers(MemReg(3))),
     row!(b"ldrsh", BaseIndex, Transfers(MemReg(7))),
-    row!(b"lsls", TwoRegistersNumber, Computes(ShiftImm(0))),
-    row!(b"lsls", TwoRegisters, Computes(Alu(2))),
-    row!(b"lsrs", TwoRegistersNumber, Computes(ShiftImm(1))),
-    row!(b"lsrs", TwoRegisters, Computes(Alu(3))),
+    row!(
+        b"lsls",
+        TwoRegistersNumber,
+        OfTwoRegistersNumber(ShiftImm(0))
+    ),
+    row!(b"lsls", TwoRegisters, OfTwoRegisters(Alu(2))),
+    row!(
+        b"lsrs",
+        TwoRegistersNumber,
+        OfTwoRegistersNumber(ShiftImm(1))
+    ),
+    row!(b"lsrs", TwoRegisters, OfTwoRegisters(Alu(3))),
 ];
 
 /// Mnemonics that begin with m to z.
 pub static M_TO_Z: [Row; 46] = [
-    row!(b"mov", TwoRegisters, Computes(Mov)),
-    row!(b"movs", RegisterNumber, Computes(MovsImm)),
-    row!(b"movs", TwoRegisters, Computes(MovsReg)),
-    row!(b"movt", RegisterNumber, Computes(MovT)),
-    row!(b"movw", RegisterNumber, Computes(MovW)),
-    row!(b"muls", TwoRegisters, Computes(Alu(13))),
-    row!(b"mvns", TwoRegisters, Computes(Alu(15))),
+    row!(b"mov", TwoRegisters, OfTwoRegisters(Mov)),
+    row!(b"movs", RegisterNumber, OfRegisterNumber(MovsImm)),
+    row!(b"movs", TwoRegisters, OfTwoRegisters(MovsReg)),
+    row!(b"movt", RegisterNumber, OfRegisterNumber(MovT)),
+    row!(b"movw", RegisterNumber, OfRegisterNumber(MovW)),
+    row!(b"muls", TwoRegisters, OfTwoRegisters(Alu(13))),
+    row!(b"mvns", TwoRegisters, OfTwoRegisters(Alu(15))),
     row!(b"nop", Nothing, Controls(Hint(0))),
-    row!(b"orrs", TwoRegisters, Computes(Alu(12))),
+    row!(b"orrs", TwoRegisters, OfTwoRegisters(Alu(12))),
     row!(b"pop", RegisterList, Transfers(Pop)),
     row!(b"push", RegisterList, Transfers(Push)),
-    row!(b"rev", TwoRegisters, Computes(Rev(0))),
-    row!(b"rev16", TwoRegisters, Computes(Rev(1))),
-    row!(b"revsh", TwoRegisters, Computes(Rev(3))),
-    row!(b"rors", TwoRegisters, Computes(Alu(7))),
+    row!(b"rev", TwoRegisters, OfTwoRegisters(Rev(0))),
+    row!(b"rev16", TwoRegisters, OfTwoRegisters(Rev(1))),
+    row!(b"revsh", TwoRegisters, OfTwoRegisters(Rev(3))),
+    row!(b"rors", TwoRegisters, OfTwoRegisters(Alu(7))),
     row!(b"rsbs", TwoRegistersZero, Computes(Rsbs)),
-    row!(b"sbcs", TwoRegisters, Computes(Alu(6))),
-    row!(b"sdiv", ThreeRegisters, Computes(Div(true))),
+    row!(b"sbcs", TwoRegisters, OfTwoRegisters(Alu(6))),
+    row!(b"sdiv", ThreeRegisters, OfThreeRegisters(Div(true))),
     row!(b"sev", Nothing, Controls(Hint(4))),
     row!(b"stm", BaseBackList, Transfers(Stm)),
     row!(b"str", SpOffset, Transfers(MemSp(false))),
@@ -299,17 +319,21 @@ pub static M_TO_Z: [Row; 46] = [
     row!(b"strh", BaseAlone, Transfers(MemImm(4))),
     row!(b"strh", BaseIndex, Transfers(MemReg(1))),
     row!(b"sub", SpNumber, Computes(SubSp)),
-    row!(b"subs", RegisterNumber, Computes(AddSubTwo(true))),
-    row!(b"subs", ThreeRegisters, Computes(AddSubReg(true))),
-    row!(b"subs", TwoRegistersNumber, Computes(AddSubThree(true))),
+    row!(b"subs", RegisterNumber, OfRegisterNumber(AddSubTwo(true))),
+    row!(b"subs", ThreeRegisters, OfThreeRegisters(AddSubReg(true))),
+    row!(
+        b"subs",
+        TwoRegistersNumber,
+        OfTwoRegistersNumber(AddSubThree(true))
+    ),
     row!(b"svc", OneNumber, Controls(Svc)),
-    row!(b"sxtb", TwoRegisters, Computes(Extend(1))),
-    row!(b"sxth", TwoRegisters, Computes(Extend(0))),
-    row!(b"tst", TwoRegisters, Computes(Alu(8))),
+    row!(b"sxtb", TwoRegisters, OfTwoRegisters(Extend(1))),
+    row!(b"sxth", TwoRegisters, OfTwoRegisters(Extend(0))),
+    row!(b"tst", TwoRegisters, OfTwoRegisters(Alu(8))),
     row!(b"udf", OneNumber, Controls(Udf)),
-    row!(b"udiv", ThreeRegisters, Computes(Div(false))),
-    row!(b"uxtb", TwoRegisters, Computes(Extend(3))),
-    row!(b"uxth", TwoRegisters, Computes(Extend(2))),
+    row!(b"udiv", ThreeRegisters, OfThreeRegisters(Div(false))),
+    row!(b"uxtb", TwoRegisters, OfTwoRegisters(Extend(3))),
+    row!(b"uxth", TwoRegisters, OfTwoRegisters(Extend(2))),
     row!(b"wfe", Nothing, Controls(Hint(2))),
     row!(b"wfi", Nothing, Controls(Hint(3))),
     row!(b"yield", Nothing, Controls(Hint(1))),

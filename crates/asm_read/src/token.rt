@@ -2,7 +2,10 @@
 ghost use Rattle.std.specs.Prelude.{◌≡◌, ◌+◌, ◌-◌, ◌<◌, ◌≤◌, length, take, drop, IfSome, option_and_then, false};
 ghost use Rattle.std.specs.List.{prefix_len};
 ghost use Rattle.asm_read.specs.Tokens.{is_blank, is_digit, is_name_byte, is_mark, escape_of, hex_digit, decimal_digit, kind_of_number, number_of, character_front, run_front, minus_front, quoted_front, closing, front_of, token_at};
+ghost use Rattle.asm_read.specs.Operands.{is_mark_of};
+ghost use Rattle.asm_read.specs.Marks.{is_lone_mark, begins_with, mark_after};
 ghost use Rattle.asm_read.specs.Capped.{capped_from, capped_number};
+ghost use Rattle.asm_read.specs.declared.token.TheConstants.{NAME_BYTES};
 
 /// What stands at a place of a line.
 #[derive(Clone, Copy)]
@@ -64,15 +67,43 @@ fn is_digit(b: u8) -> bool
     b >= b'0' && b <= b'9'
 }
 
+/// Whether a name may have a byte, byte by byte.
+static NAME_BYTES: [bool; 256] = [
+    false, false, false, false, false, false, false, false, false, false, false, false, false,
+    false, false, false, false, false, false, false, false, false, false, false, false, false,
+    false, false, false, false, false, false, false, false, false, false, true, false, false,
+    false, false, false, false, false, false, false, true, false, true, true, true, true, true,
+    true, true, true, true, true, false, false, false, false, false, false, false, true, true,
+    true, true, true, true, true, true, true, true, true, true, true, true, true, true, true, true,
+    true, true, true, true, true, true, true, true, false, false, false, false, true, false, true,
+    true, true, true, true, true, true, true, true, true, true, true, true, true, true, true, true,
+    true, true, true, true, true, true, true, true, true, false, false, false, false, false, false,
+    false, false, false, false, false, false, false, false, false, false, false, false, false,
+    false, false, false, false, false, false, false, false, false, false, false, false, false,
+    false, false, false, false, false, false, false, false, false, false, false, false, false,
+    false, false, false, false, false, false, false, false, false, false, false, false, false,
+    false, false, false, false, false, false, false, false, false, false, false, false, false,
+    false, false, false, false, false, false, false, false, false, false, false, false, false,
+    false, false, false, false, false, false, false, false, false, false, false, false, false,
+    false, false, false, false, false, false, false, false, false, false, false, false, false,
+    false, false, false, false, false, false, false, false, false, false, false, false, false,
+    false, false, false, false, false, false, false, false, false, false,
+];
+
+/// What the table says of all bytes.
+fn name_bytes() -> &'static [bool]
+    ensures bytes { result.now ≡ NAME_BYTES }
+    ensures len { length result.now ≡ 256 }
+{
+    &NAME_BYTES
+}
+
+/// Whether a name may have a byte.
+#[tactic(auto, using(crate::proofs::Bytes::name_byte))]
 fn is_name_byte(b: u8) -> bool
     ensures { result ≡ is_name_byte b }
 {
-    b >= b'a' && b <= b'z'
-        || b >= b'A' && b <= b'Z'
-        || is_digit(b)
-        || b == b'_'
-        || b == b'.'
-        || b == b'$'
+    name_bytes()[usize::from(b)]
 }
 
 fn is_mark(b: u8) -> bool
@@ -94,6 +125,13 @@ fn is_mark(b: u8) -> bool
             | b')'
             | b'%'
     )
+}
+
+/// Whether a byte is a mark wherever a token begins with it: a minus sign may begin a number.
+fn is_lone_mark(b: u8) -> bool
+    ensures { result ≡ is_lone_mark b }
+{
+    b != b'-' && is_mark(b)
 }
 
 /// What stands after a backslash in a text or a character.
@@ -355,5 +393,43 @@ pub fn token_at(line: &[u8], from: usize) -> Token
             end: start + found.len,
             kind,
         },
+    }
+}
+
+/// Whether a token is this mark.
+pub fn is_mark_of(mark: u8, kind: Kind) -> bool
+    ensures { result ≡ is_mark_of mark kind }
+{
+    match kind {
+        Kind::Mark(b) => mark == b,
+        _ => false,
+    }
+}
+
+/// Whether bytes begin with this byte.
+fn begins_with(byte: u8, bytes: &[u8]) -> bool
+    ensures { result ≡ begins_with byte bytes.now }
+{
+    !bytes.is_empty() && bytes[0] == byte
+}
+
+/// The offset after a mark, where it stands at an offset. It is told by its first byte, but for a minus sign.
+pub fn mark_after(mark: u8, line: &[u8], from: usize) -> Option<usize>
+    requires { from ≤ length line.now }
+    ensures place { result ≡ mark_after mark line.now from }
+    ensures end { IfSome result (λ at. at ≤ length line.now) }
+{
+    let start = from + blank_len(&line[from..]);
+    if !begins_with(mark, &line[start..]) {
+        return None;
+    }
+    if is_lone_mark(mark) {
+        return Some(start + 1);
+    }
+    let token = token_at(line, from);
+    if is_mark_of(mark, token.kind) {
+        Some(token.end)
+    } else {
+        None
     }
 }

@@ -1,6 +1,9 @@
 //! Statements, as docs/source-language.md has them.
 ghost use Rattle.std.specs.Prelude.{◌≡◌, IfOk};
 
+use crate::computation::{
+    OfRegisterNumber, OfThreeRegisters, OfTwoRegisters, OfTwoRegistersNumber,
+};
 use eh_list::Seq;
 use eh_word::Name;
 use std::alloc::{AllocError, Global};
@@ -77,92 +80,150 @@ impl PoolValue {
 pub enum StmtKind {
     /// `name:`
     Label(Name),
-    /// `movs rd, #imm`
-    MovsImm { d: u8, imm: i64 },
-    /// `movs rd, rm`
-    MovsReg { d: u8, m: u8 },
-    /// `mov rd, rm`
-    Mov { d: u8, m: u8 },
-    /// `cmp rn, #imm`
-    CmpImm { n: u8, imm: i64 },
-    /// `cmp rn, rm`, of low or high registers
-    CmpReg { n: u8, m: u8 },
-    /// `adds rd, #imm`, `subs rd, #imm`
-    AddSubTwo { sub: bool, d: u8, imm: i64 },
-    /// `adds rd, rn, rm`, `subs rd, rn, rm`
-    AddSubReg { sub: bool, d: u8, n: u8, m: u8 },
-    /// `adds rd, rn, #imm`, `subs rd, rn, #imm`
-    AddSubThree { sub: bool, d: u8, n: u8, imm: i64 },
-    /// `add rd, rm`
-    AddReg { d: u8, m: u8 },
+    /// `rd, rm` after the word of what is computed
+    TwoRegisters {
+        what: OfTwoRegisters,
+        d: u8,
+        m: u8,
+    },
+    /// `rd, rn, rm` after the word
+    ThreeRegisters {
+        what: OfThreeRegisters,
+        d: u8,
+        n: u8,
+        m: u8,
+    },
+    /// `rd, #imm` after the word
+    RegisterNumber {
+        what: OfRegisterNumber,
+        d: u8,
+        imm: i64,
+    },
+    /// `rd, rn, #imm` after the word
+    TwoRegistersNumber {
+        what: OfTwoRegistersNumber,
+        d: u8,
+        n: u8,
+        imm: i64,
+    },
     /// `add rd, sp, #off`
-    AddRdSp { d: u8, off: i64 },
+    AddRdSp {
+        d: u8,
+        off: i64,
+    },
     /// `add sp, #off`
-    AddSp { off: i64 },
+    AddSp {
+        off: i64,
+    },
     /// `sub sp, #off`
-    SubSp { off: i64 },
-    /// `lsls`, `lsrs`, `asrs rd, rm, #n`: `op` 0 to 2
-    ShiftImm { op: u8, d: u8, m: u8, n: i64 },
-    /// The two-operand forms of `ands` (0), `eors` (1), `lsls` (2), `lsrs` (3), `asrs` (4), `adcs` (5), `sbcs` (6),
-    /// `rors` (7), `tst` (8), `cmn` (11), `orrs` (12), `muls` (13), `bics` (14) and `mvns` (15)
-    Alu { op: u8, d: u8, m: u8 },
+    SubSp {
+        off: i64,
+    },
     /// `rsbs rd, rm, #0`
-    Rsbs { d: u8, m: u8 },
-    /// `movw rd, #imm`
-    MovW { d: u8, imm: i64 },
-    /// `movt rd, #imm`
-    MovT { d: u8, imm: i64 },
-    /// `sdiv rd, rn, rm`, and `udiv rd, rn, rm` where not `signed`
-    Div { signed: bool, d: u8, n: u8, m: u8 },
+    Rsbs {
+        d: u8,
+        m: u8,
+    },
     /// `adr rd, name`
-    Adr { d: u8, name: Name },
+    Adr {
+        d: u8,
+        name: Name,
+    },
     /// `ldr rt, name`
-    LdrLabel { t: u8, name: Name },
+    LdrLabel {
+        t: u8,
+        name: Name,
+    },
     /// `ldr rt, =value`
-    LdrPool { t: u8, value: PoolValue },
+    LdrPool {
+        t: u8,
+        value: PoolValue,
+    },
     /// `str` (0), `ldr` (1), `strb` (2), `ldrb` (3), `strh` (4), `ldrh` (5) `rt, [rn, #off]`; without `#off` it is 0.
     /// For `str` and `ldr` the base is not sp.
-    MemImm { op: u8, t: u8, n: u8, off: i64 },
+    MemImm {
+        op: u8,
+        t: u8,
+        n: u8,
+        off: i64,
+    },
     /// `str` (0), `strh` (1), `strb` (2), `ldrsb` (3), `ldr` (4), `ldrh` (5), `ldrb` (6), `ldrsh` (7) `rt, [rn, rm]`
-    MemReg { op: u8, t: u8, n: u8, m: u8 },
+    MemReg {
+        op: u8,
+        t: u8,
+        n: u8,
+        m: u8,
+    },
     /// `str rt, [sp, #off]`, `ldr rt, [sp, #off]`; without `#off` it is 0
-    MemSp { load: bool, t: u8, off: i64 },
+    MemSp {
+        load: bool,
+        t: u8,
+        off: i64,
+    },
     /// `push {list}`
-    Push { list: u16 },
+    Push {
+        list: u16,
+    },
     /// `pop {list}`
-    Pop { list: u16 },
+    Pop {
+        list: u16,
+    },
     /// `stm rn!, {list}`
-    Stm { n: u8, list: u16 },
+    Stm {
+        n: u8,
+        list: u16,
+    },
     /// `ldm rn!, {list}`
-    LdmBack { n: u8, list: u16 },
+    LdmBack {
+        n: u8,
+        list: u16,
+    },
     /// `ldm rn, {list}`, where rn is in the list
-    Ldm { n: u8, list: u16 },
-    /// `sxth`, `sxtb`, `uxth`, `uxtb rd, rm`: `op` 0 to 3
-    Extend { op: u8, d: u8, m: u8 },
-    /// `rev` (0), `rev16` (1), `revsh` (3) `rd, rm`
-    Rev { op: u8, d: u8, m: u8 },
+    Ldm {
+        n: u8,
+        list: u16,
+    },
     /// `b name`
     B(Name),
     /// `beq name` and the other conditions, 0 to 13
-    BCond { cond: u8, name: Name },
+    BCond {
+        cond: u8,
+        name: Name,
+    },
     /// `bl name`
     Bl(Name),
     /// `cbz rn, name`, and `cbnz rn, name` where `nonzero`
-    Cbz { nonzero: bool, n: u8, name: Name },
+    Cbz {
+        nonzero: bool,
+        n: u8,
+        name: Name,
+    },
     /// `b.w name`
     BWide(Name),
     /// `bx rm`
-    Bx { m: u8 },
+    Bx {
+        m: u8,
+    },
     /// `blx rm`
-    Blx { m: u8 },
+    Blx {
+        m: u8,
+    },
     /// `svc #imm`
-    Svc { imm: i64 },
+    Svc {
+        imm: i64,
+    },
     /// `udf #imm`
-    Udf { imm: i64 },
+    Udf {
+        imm: i64,
+    },
     /// `nop` (0), `yield` (1), `wfe` (2), `wfi` (3), `sev` (4)
-    Hint { n: u8 },
+    Hint {
+        n: u8,
+    },
     /// `dsb` (0), `dmb` (1), `isb` (2), with option 15
-    Barrier { op: u8 },
+    Barrier {
+        op: u8,
+    },
     /// `.text`
     Text,
     /// `.data`
@@ -200,11 +261,16 @@ pub enum StmtKind {
     /// `.fnend`
     FnEnd,
     /// `.save {list}`
-    Save { list: u16 },
+    Save {
+        list: u16,
+    },
     /// `.pad #n`
     Pad(i64),
     /// `.setfp r, sp, #off`
-    SetFp { r: u8, off: i64 },
+    SetFp {
+        r: u8,
+        off: i64,
+    },
     /// `.cantunwind`
     CantUnwind,
     /// `.personalityindex n`

@@ -1,21 +1,21 @@
 -- Loads and stores, and the sum of registers: the forms of a word that the register sp decides between.
 use Rattle.std.proofs.Common.{◌≡◌, ◌≢◌, ℕ, ◌<◌, Bool, true, false, List, [], ◌∷◌, Ok, ℤ, pos, refl, arith, codes}
 use Rattle.asm_read.specs.declared.makes.Makes.TheVariants as makes
-use Rattle.asm_read.specs.declared.makes.Computation.TheVariants as computation
+use Rattle.asm_statements.specs.declared.computation.OfTwoRegisters.TheVariants as of_two
 use Rattle.asm_read.specs.declared.makes.Transfer.TheVariants as transfer
-use Rattle.asm_statements.specs.declared.statement.StmtKind.TheVariants.{AddReg, MemImm, MemReg, MemSp}
+use Rattle.asm_statements.specs.declared.statement.StmtKind.TheVariants.{MemImm, MemReg, MemSp}
 use Rattle.asm_read.specs.Operands.{same}
 use Rattle.asm_read.specs.Forms.{directives, a_to_b, c_to_l, m_to_z, rows}
 use Rattle.asm_text.proofs.Pieces.{register_sp_number, sp_number as sp_number_pieces, two_registers, register_name, register_value, sp_offset as sp_offset_pieces, sp_alone, base_offset, base_alone, base_index}
 use Rattle.asm_read.specs.Statements.{kind_of as kind_made}
 use Rattle.asm_read.specs.Reading.{stmt, read_of}
-use Rattle.asm_text.specs.Written.{register, InRange, line, two, indexed, offset, sp_offset}
+use Rattle.asm_text.specs.Written.{register, InRange, line, indexed, offset, sp_offset}
 use Rattle.asm_text.proofs.Toks.{by_register}
 use Rattle.asm_text.proofs.Items.{Item, reg, num, sign}
 use Rattle.asm_text.proofs.Fitted.{Vals, none_yet, Step, went, refused, if_so, and_then, fitted}
 use Rattle.asm_text.proofs.Standing.{values}
 use Rattle.asm_text.proofs.Chosen.{picked, chosen}
-use Rattle.asm_text.proofs.Shapes.{of_two, of_index, of_offset, of_sp_offset}
+use Rattle.asm_text.proofs.Shapes.{of_index, of_offset, of_sp_offset}
 
 -- a piece that may go or not, and a rest that is refused
 sp_then : (b : Bool) (ts : List Item) (v : Vals) (f : List Item → Vals → Step) → f ts v ≡ refused → and_then (if_so b ts v) f ≡ refused
@@ -106,13 +106,9 @@ ldr_offset : (a b : ℕ) (z : ℤ) → b < 16 → b ≢ 13 → chosen rows (code
 unfolding rows directives a_to_b c_to_l m_to_z
 ldr_offset a b z h n = rw (offset_label a b z, offset_value a b z, offset_offset a b z h n, offset_alone a b z, offset_went a b z) refl
 
-add_rows : (a b : ℕ) → chosen rows (codes "add") (reg a ∷ sign 44 ∷ reg b ∷ []) ≡ picked (makes.Computes computation.AddReg) (values a b 0 (pos 0) [])
+pub add_rows : (a b : ℕ) → chosen rows (codes "add") (reg a ∷ sign 44 ∷ reg b ∷ []) ≡ picked (makes.OfTwoRegisters of_two.AddReg) (values a b 0 (pos 0) [])
 unfolding rows directives a_to_b c_to_l m_to_z
 add_rows a b = rw (add_sp_refused a b, sp_number_refused a b, two_went a b) refl
-
-pub add_line : (a b : ℕ) → a < 16 → b < 16 → read_of (line (codes "add") (two a b)) ≡ Ok (stmt 1 (AddReg a b) ∷ [])
-unfolding kind_made
-add_line a b ha hb = of_two (codes "add") (makes.Computes computation.AddReg) (AddReg a b) a b (record { named = refl; kept = refl; clean = refl; brief = omega arith }) ha hb (add_rows a b) (λ text o g. cc (g.first, g.second))
 
 pub str_index_line : (a b c : ℕ) → a < 16 → b < 16 → c < 16 → read_of (line (codes "str") (indexed a b c)) ≡ Ok (stmt 1 (MemReg 0 a b c) ∷ [])
 unfolding kind_made

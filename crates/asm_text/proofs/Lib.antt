@@ -15,6 +15,7 @@ pub mod Quoting
 pub mod Shapes
 pub mod Plain
 pub mod Accesses
+pub mod Computing
 pub mod Numbered
 pub mod Naming
 pub mod Aliases

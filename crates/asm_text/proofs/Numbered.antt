@@ -1,62 +1,18 @@
 -- Statements with a number.
-use Rattle.std.proofs.Common.{◌≡◌, ℕ, zero, suc, ◌<◌, true, false, [], ◌∷◌, ◌++◌, Ok, ℤ, pos, refl, subst, arith, codes}
+use Rattle.std.proofs.Common.{◌≡◌, ℕ, zero, suc, ◌<◌, [], ◌∷◌, ◌++◌, Ok, ℤ, pos, refl, subst, arith, codes}
 use Rattle.std.proofs.lemmas.Fmt.{decimal_digit}
 use Rattle.std.specs.Fmt.{signed_decimal}
 use Rattle.asm_read.specs.declared.makes.Makes.TheVariants as makes
 use Rattle.asm_read.specs.declared.makes.Computation.TheVariants as computation
 use Rattle.asm_read.specs.declared.makes.Control.TheVariants as control
 use Rattle.asm_read.specs.declared.makes.Directive.TheVariants as directive
-use Rattle.asm_statements.specs.declared.statement.StmtKind.TheVariants.{MovsImm, CmpImm, AddSubTwo, AddSubThree, AddRdSp, AddSp, SubSp, ShiftImm, Rsbs, MovW, MovT, Svc, Udf, Space, Align, Pad, SetFp, PersonalityIndex}
+use Rattle.asm_statements.specs.declared.statement.StmtKind.TheVariants.{AddRdSp, AddSp, SubSp, Rsbs, Svc, Udf, Space, Align, Pad, SetFp, PersonalityIndex}
 use Rattle.asm_read.specs.Forms.{directives, a_to_b, c_to_l, m_to_z, rows}
 use Rattle.asm_read.specs.Statements.{kind_of as kind_made}
 use Rattle.asm_read.specs.Reading.{stmt, read_of}
-use Rattle.asm_text.specs.Written.{register, InRange, line, register_number, two_number, sp_count, sp_number, hash}
+use Rattle.asm_text.specs.Written.{register, InRange, line, two_number, sp_count, sp_number, hash}
 use Rattle.asm_text.proofs.Fitted.{fitted}
-use Rattle.asm_text.proofs.Shapes.{of_register_number, of_two_number, of_sp_count, of_sp_number, of_hash, of_number}
-
-pub movs_number_line : (a : ℕ) (z : ℤ) → a < 16 → InRange z → read_of (line (codes "movs") (register_number a z)) ≡ Ok (stmt 1 (MovsImm a z) ∷ [])
-unfolding rows directives a_to_b c_to_l m_to_z fitted kind_made
-movs_number_line a z ha hz = of_register_number (codes "movs") (makes.Computes computation.MovsImm) (MovsImm a z) a z (record { named = refl; kept = refl; clean = refl; brief = omega arith }) ha hz refl (λ text o g. cc (g.first, g.number))
-
-pub movw_line : (a : ℕ) (z : ℤ) → a < 16 → InRange z → read_of (line (codes "movw") (register_number a z)) ≡ Ok (stmt 1 (MovW a z) ∷ [])
-unfolding rows directives a_to_b c_to_l m_to_z fitted kind_made
-movw_line a z ha hz = of_register_number (codes "movw") (makes.Computes computation.MovW) (MovW a z) a z (record { named = refl; kept = refl; clean = refl; brief = omega arith }) ha hz refl (λ text o g. cc (g.first, g.number))
-
-pub movt_line : (a : ℕ) (z : ℤ) → a < 16 → InRange z → read_of (line (codes "movt") (register_number a z)) ≡ Ok (stmt 1 (MovT a z) ∷ [])
-unfolding rows directives a_to_b c_to_l m_to_z fitted kind_made
-movt_line a z ha hz = of_register_number (codes "movt") (makes.Computes computation.MovT) (MovT a z) a z (record { named = refl; kept = refl; clean = refl; brief = omega arith }) ha hz refl (λ text o g. cc (g.first, g.number))
-
-pub cmp_number_line : (a : ℕ) (z : ℤ) → a < 16 → InRange z → read_of (line (codes "cmp") (register_number a z)) ≡ Ok (stmt 1 (CmpImm a z) ∷ [])
-unfolding rows directives a_to_b c_to_l m_to_z fitted kind_made
-cmp_number_line a z ha hz = of_register_number (codes "cmp") (makes.Computes computation.CmpImm) (CmpImm a z) a z (record { named = refl; kept = refl; clean = refl; brief = omega arith }) ha hz refl (λ text o g. cc (g.first, g.number))
-
-pub adds_number_line : (a : ℕ) (z : ℤ) → a < 16 → InRange z → read_of (line (codes "adds") (register_number a z)) ≡ Ok (stmt 1 (AddSubTwo false a z) ∷ [])
-unfolding rows directives a_to_b c_to_l m_to_z fitted kind_made
-adds_number_line a z ha hz = of_register_number (codes "adds") (makes.Computes (computation.AddSubTwo false)) (AddSubTwo false a z) a z (record { named = refl; kept = refl; clean = refl; brief = omega arith }) ha hz refl (λ text o g. cc (g.first, g.number))
-
-pub adds_three_line : (a : ℕ) (b : ℕ) (z : ℤ) → a < 16 → b < 16 → InRange z → read_of (line (codes "adds") (two_number a b z)) ≡ Ok (stmt 1 (AddSubThree false a b z) ∷ [])
-unfolding rows directives a_to_b c_to_l m_to_z fitted kind_made
-adds_three_line a b z ha hb hz = of_two_number (codes "adds") (makes.Computes (computation.AddSubThree false)) (AddSubThree false a b z) a b z (record { named = refl; kept = refl; clean = refl; brief = omega arith }) ha hb hz refl (λ text o g. cc (g.first, g.second, g.number))
-
-pub subs_number_line : (a : ℕ) (z : ℤ) → a < 16 → InRange z → read_of (line (codes "subs") (register_number a z)) ≡ Ok (stmt 1 (AddSubTwo true a z) ∷ [])
-unfolding rows directives a_to_b c_to_l m_to_z fitted kind_made
-subs_number_line a z ha hz = of_register_number (codes "subs") (makes.Computes (computation.AddSubTwo true)) (AddSubTwo true a z) a z (record { named = refl; kept = refl; clean = refl; brief = omega arith }) ha hz refl (λ text o g. cc (g.first, g.number))
-
-pub subs_three_line : (a : ℕ) (b : ℕ) (z : ℤ) → a < 16 → b < 16 → InRange z → read_of (line (codes "subs") (two_number a b z)) ≡ Ok (stmt 1 (AddSubThree true a b z) ∷ [])
-unfolding rows directives a_to_b c_to_l m_to_z fitted kind_made
-subs_three_line a b z ha hb hz = of_two_number (codes "subs") (makes.Computes (computation.AddSubThree true)) (AddSubThree true a b z) a b z (record { named = refl; kept = refl; clean = refl; brief = omega arith }) ha hb hz refl (λ text o g. cc (g.first, g.second, g.number))
-
-pub lsls_number_line : (a : ℕ) (b : ℕ) (z : ℤ) → a < 16 → b < 16 → InRange z → read_of (line (codes "lsls") (two_number a b z)) ≡ Ok (stmt 1 (ShiftImm 0 a b z) ∷ [])
-unfolding rows directives a_to_b c_to_l m_to_z fitted kind_made
-lsls_number_line a b z ha hb hz = of_two_number (codes "lsls") (makes.Computes (computation.ShiftImm 0)) (ShiftImm 0 a b z) a b z (record { named = refl; kept = refl; clean = refl; brief = omega arith }) ha hb hz refl (λ text o g. cc (g.first, g.second, g.number))
-
-pub lsrs_number_line : (a : ℕ) (b : ℕ) (z : ℤ) → a < 16 → b < 16 → InRange z → read_of (line (codes "lsrs") (two_number a b z)) ≡ Ok (stmt 1 (ShiftImm 1 a b z) ∷ [])
-unfolding rows directives a_to_b c_to_l m_to_z fitted kind_made
-lsrs_number_line a b z ha hb hz = of_two_number (codes "lsrs") (makes.Computes (computation.ShiftImm 1)) (ShiftImm 1 a b z) a b z (record { named = refl; kept = refl; clean = refl; brief = omega arith }) ha hb hz refl (λ text o g. cc (g.first, g.second, g.number))
-
-pub asrs_number_line : (a : ℕ) (b : ℕ) (z : ℤ) → a < 16 → b < 16 → InRange z → read_of (line (codes "asrs") (two_number a b z)) ≡ Ok (stmt 1 (ShiftImm 2 a b z) ∷ [])
-unfolding rows directives a_to_b c_to_l m_to_z fitted kind_made
-asrs_number_line a b z ha hb hz = of_two_number (codes "asrs") (makes.Computes (computation.ShiftImm 2)) (ShiftImm 2 a b z) a b z (record { named = refl; kept = refl; clean = refl; brief = omega arith }) ha hb hz refl (λ text o g. cc (g.first, g.second, g.number))
+use Rattle.asm_text.proofs.Shapes.{of_two_number, of_sp_count, of_sp_number, of_hash, of_number}
 
 pub add_register_sp_line : (a : ℕ) (z : ℤ) → a < 16 → InRange z → read_of (line (codes "add") (sp_count a z)) ≡ Ok (stmt 1 (AddRdSp a z) ∷ [])
 unfolding rows directives a_to_b c_to_l m_to_z fitted kind_made

@@ -2,7 +2,7 @@
 use Rattle.std.proofs.Common.{◌≡◌, ℕ, zero, suc, [], ◌∷◌, ◌++◌, pos, negsuc, refl, ap, arith, codes}
 use Rattle.std.proofs.lemmas.Fmt.{decimal_digit}
 use Rattle.std.specs.Fmt.{signed_decimal}
-use Rattle.asm_statements.specs.declared.statement.StmtKind.TheVariants.{Label, MovsImm, MovsReg, Mov, CmpImm, CmpReg, AddSubTwo, AddSubReg, AddSubThree, AddReg, AddRdSp, AddSp, SubSp, ShiftImm, Alu, Rsbs, MovW, MovT, Div, Adr, LdrLabel, LdrPool, MemImm, MemReg, MemSp, Push, Pop, Stm, LdmBack, Ldm, Extend, Rev, B, BCond, Bl, Cbz, BWide, Bx, Blx, Svc, Udf, Hint, Barrier, Text, Data, Bss, Rodata, Global, TypeFunction, TypeObject, Size, Words, Halves, Bytes, Ascii, Asciz, Space, Align, Pool, FnStart, FnEnd, Save, Pad, SetFp, CantUnwind, PersonalityIndex, HandlerData}
+use Rattle.asm_statements.specs.declared.statement.StmtKind.TheVariants.{Label, TwoRegisters, ThreeRegisters, RegisterNumber, TwoRegistersNumber, AddRdSp, AddSp, SubSp, Rsbs, Adr, LdrLabel, LdrPool, MemImm, MemReg, MemSp, Push, Pop, Stm, LdmBack, Ldm, B, BCond, Bl, Cbz, BWide, Bx, Blx, Svc, Udf, Hint, Barrier, Text, Data, Bss, Rodata, Global, TypeFunction, TypeObject, Size, Words, Halves, Bytes, Ascii, Asciz, Space, Align, Pool, FnStart, FnEnd, Save, Pad, SetFp, CantUnwind, PersonalityIndex, HandlerData}
 use Rattle.asm_text.specs.Written.{register, line, written, also}
 use Rattle.asm_text.specs.Lines.{LinesAreWritten}
 
@@ -26,23 +26,13 @@ lines_written (BCond (suc zero) n) h = refl
 lines_written (BCond (suc (suc zero)) n) h = refl
 lines_written (BCond (suc (suc (suc zero))) n) h = refl
 lines_written (BCond (suc (suc (suc (suc cond)))) n) h = refl
-lines_written (MovsImm d imm) h = refl
-lines_written (MovsReg d m) h = refl
-lines_written (Mov d m) h = refl
-lines_written (CmpImm n imm) h = refl
-lines_written (CmpReg n m) h = refl
-lines_written (AddSubTwo sub d imm) h = refl
-lines_written (AddSubReg sub d n m) h = refl
-lines_written (AddSubThree sub d n imm) h = refl
-lines_written (AddReg d m) h = refl
+lines_written (TwoRegisters what d m) h = refl
+lines_written (ThreeRegisters what d n m) h = refl
+lines_written (RegisterNumber what d imm) h = refl
+lines_written (TwoRegistersNumber what d n imm) h = refl
 lines_written (AddRdSp d off) h = refl
 lines_written (AddSp off) h = refl
 lines_written (SubSp off) h = refl
-lines_written (ShiftImm op d m n) h = refl
-lines_written (Alu op d m) h = refl
-lines_written (MovW d imm) h = refl
-lines_written (MovT d imm) h = refl
-lines_written (Div signed d n m) h = refl
 lines_written (Adr d n) h = refl
 lines_written (LdrLabel t n) h = refl
 lines_written (LdrPool t v) h = refl
@@ -52,8 +42,6 @@ lines_written (Pop list) h = refl
 lines_written (Stm n list) h = refl
 lines_written (LdmBack n list) h = refl
 lines_written (Ldm n list) h = refl
-lines_written (Extend op d m) h = refl
-lines_written (Rev op d m) h = refl
 lines_written (B n) h = refl
 lines_written (Bl n) h = refl
 lines_written (Cbz nonzero r n) h = refl

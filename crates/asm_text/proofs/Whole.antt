@@ -1,38 +1,19 @@
 -- Every statement of the law.
-use Rattle.std.proofs.Common.{◌≡◌, ℕ, zero, suc, ◌<◌, true, false, List, [], ◌∷◌, Ok, ℤ, pos, negsuc, refl, arith}
+use Rattle.std.proofs.Common.{◌≡◌, ℕ, zero, suc, ◌<◌, true, false, List, [], ◌∷◌, Ok, ℤ, pos, negsuc, arith}
 use Rattle.asm_statements.specs.declared.statement.StmtKind.{StmtKind}
-use Rattle.asm_statements.specs.declared.statement.StmtKind.TheVariants.{Label, MovsImm, MovsReg, Mov, CmpImm, CmpReg, AddSubTwo, AddSubReg, AddSubThree, AddReg, AddRdSp, AddSp, SubSp, ShiftImm, Alu, Rsbs, MovW, MovT, Div, Adr, LdrLabel, LdrPool, MemImm, MemReg, MemSp, Push, Pop, Stm, LdmBack, Ldm, Extend, Rev, B, BCond, Bl, Cbz, BWide, Bx, Blx, Svc, Udf, Hint, Barrier, Text, Data, Bss, Rodata, Global, TypeFunction, TypeObject, Size, Words, Halves, Bytes, Ascii, Asciz, Space, Align, Pool, FnStart, FnEnd, Save, Pad, SetFp, CantUnwind, PersonalityIndex, HandlerData}
+use Rattle.asm_statements.specs.declared.statement.StmtKind.TheVariants.{Label, TwoRegisters, ThreeRegisters, RegisterNumber, TwoRegistersNumber, AddRdSp, AddSp, SubSp, Rsbs, Adr, LdrLabel, LdrPool, MemImm, MemReg, MemSp, Push, Pop, Stm, LdmBack, Ldm, B, BCond, Bl, Cbz, BWide, Bx, Blx, Svc, Udf, Hint, Barrier, Text, Data, Bss, Rodata, Global, TypeFunction, TypeObject, Size, Words, Halves, Bytes, Ascii, Asciz, Space, Align, Pool, FnStart, FnEnd, Save, Pad, SetFp, CantUnwind, PersonalityIndex, HandlerData}
 use Rattle.asm_read.specs.Reading.{stmt, read_of}
 use Rattle.asm_text.specs.Written.{written, IsWritable, ReadsBack}
 use Rattle.asm_text.proofs.Chosen.{label_is}
-use Rattle.asm_text.proofs.Plain.{movs_line, mov_line, cmp_line, ands_line, eors_line, lsls_line, lsrs_line, asrs_line, adcs_line, sbcs_line, rors_line, tst_line, cmn_line, orrs_line, muls_line, bics_line, mvns_line, sxth_line, sxtb_line, uxth_line, uxtb_line, rev_line, rev16_line, revsh_line, adds_line, subs_line, sdiv_line, udiv_line, bx_line, blx_line, nop_line, yield_line, wfe_line, wfi_line, sev_line, dsb_line, dmb_line, isb_line, text_line, data_section_line, bss_line, pool_line, fnstart_line, fnend_line, cantunwind_line, handlerdata_line, rodata_line}
-use Rattle.asm_text.proofs.Accesses.{add_line, str_index_line, strh_index_line, strb_index_line, ldrsb_index_line, ldr_index_line, ldrh_index_line, ldrb_index_line, ldrsh_index_line, str_offset_line, ldr_offset_line, strb_offset_line, ldrb_offset_line, strh_offset_line, ldrh_offset_line, ldr_sp_line, str_sp_line}
+use Rattle.asm_text.proofs.Plain.{bx_line, blx_line, nop_line, yield_line, wfe_line, wfi_line, sev_line, dsb_line, dmb_line, isb_line, text_line, data_section_line, bss_line, pool_line, fnstart_line, fnend_line, cantunwind_line, handlerdata_line, rodata_line}
+use Rattle.asm_text.proofs.Computing.{two_lines, three_lines, number_lines, two_number_lines}
+use Rattle.asm_text.proofs.Accesses.{str_index_line, strh_index_line, strb_index_line, ldrsb_index_line, ldr_index_line, ldrh_index_line, ldrb_index_line, ldrsh_index_line, str_offset_line, ldr_offset_line, strb_offset_line, ldrb_offset_line, strh_offset_line, ldrh_offset_line, ldr_sp_line, str_sp_line}
 use Rattle.asm_text.proofs.Listing.{push_line, pop_line, stm_line, ldm_back_line, ldm_line, save_line}
 use Rattle.asm_text.proofs.Expressing.{words_line, halves_line, bytes_line, pool_word_line}
 use Rattle.asm_text.proofs.Quoting.{ascii_line, asciz_line}
 use Rattle.asm_text.proofs.Aliases.{others}
-use Rattle.asm_text.proofs.Numbered.{movs_number_line, movw_line, movt_line, cmp_number_line, adds_number_line, adds_three_line, subs_number_line, subs_three_line, lsls_number_line, lsrs_number_line, asrs_number_line, add_register_sp_line, add_sp_line, sub_sp_line, svc_line, udf_line, space_line, pad_line, index_line, setfp_line, align_line, rsbs_line}
+use Rattle.asm_text.proofs.Numbered.{add_register_sp_line, add_sp_line, sub_sp_line, svc_line, udf_line, space_line, pad_line, index_line, setfp_line, align_line, rsbs_line}
 use Rattle.asm_text.proofs.Naming.{b_line, b_wide_line, bl_line, cbz_line, cbnz_line, beq_line, bne_line, bcs_line, bcc_line, bmi_line, bpl_line, bvs_line, bvc_line, bhi_line, bls_line, bge_line, blt_line, bgt_line, ble_line, global_line, function_line, object_line, adr_line, ldr_label_line, size_line}
-
-alu_lines : (op d m : ℕ) → IsWritable (Alu op d m) → read_of (written (Alu op d m)) ≡ Ok (stmt 1 (Alu op d m) ∷ [])
-unfolding written
-alu_lines zero d m h = ands_line d m h.3 h.4
-alu_lines (suc zero) d m h = eors_line d m h.3 h.4
-alu_lines (suc (suc zero)) d m h = lsls_line d m h.3 h.4
-alu_lines (suc (suc (suc zero))) d m h = lsrs_line d m h.3 h.4
-alu_lines (suc (suc (suc (suc zero)))) d m h = asrs_line d m h.3 h.4
-alu_lines (suc (suc (suc (suc (suc zero))))) d m h = adcs_line d m h.3 h.4
-alu_lines (suc (suc (suc (suc (suc (suc zero)))))) d m h = sbcs_line d m h.3 h.4
-alu_lines (suc (suc (suc (suc (suc (suc (suc zero))))))) d m h = rors_line d m h.3 h.4
-alu_lines (suc (suc (suc (suc (suc (suc (suc (suc zero)))))))) d m h = tst_line d m h.3 h.4
-alu_lines (suc (suc (suc (suc (suc (suc (suc (suc (suc zero))))))))) d m h = absurd (h.1 refl)
-alu_lines (suc (suc (suc (suc (suc (suc (suc (suc (suc (suc zero)))))))))) d m h = absurd (h.2 refl)
-alu_lines (suc (suc (suc (suc (suc (suc (suc (suc (suc (suc (suc zero))))))))))) d m h = cmn_line d m h.3 h.4
-alu_lines (suc (suc (suc (suc (suc (suc (suc (suc (suc (suc (suc (suc zero)))))))))))) d m h = orrs_line d m h.3 h.4
-alu_lines (suc (suc (suc (suc (suc (suc (suc (suc (suc (suc (suc (suc (suc zero))))))))))))) d m h = muls_line d m h.3 h.4
-alu_lines (suc (suc (suc (suc (suc (suc (suc (suc (suc (suc (suc (suc (suc (suc zero)))))))))))))) d m h = bics_line d m h.3 h.4
-alu_lines (suc (suc (suc (suc (suc (suc (suc (suc (suc (suc (suc (suc (suc (suc (suc zero))))))))))))))) d m h = mvns_line d m h.3 h.4
-alu_lines (suc (suc (suc (suc (suc (suc (suc (suc (suc (suc (suc (suc (suc (suc (suc (suc op)))))))))))))))) d m h = absurd (let few = h.0 in omega arith)
 
 access_lines : (op t n m : ℕ) → IsWritable (MemReg op t n m) → read_of (written (MemReg op t n m)) ≡ Ok (stmt 1 (MemReg op t n m) ∷ [])
 unfolding written
@@ -55,29 +36,6 @@ offset_lines (suc (suc (suc zero))) t n z h = ldrb_offset_line t n z h.1 h.2 h.4
 offset_lines (suc (suc (suc (suc zero)))) t n z h = strh_offset_line t n z h.1 h.2 h.4
 offset_lines (suc (suc (suc (suc (suc zero))))) t n z h = ldrh_offset_line t n z h.1 h.2 h.4
 offset_lines (suc (suc (suc (suc (suc (suc op)))))) t n z h = absurd (let few = h.0 in omega arith)
-
-shift_lines : (op d m : ℕ) (z : ℤ) → IsWritable (ShiftImm op d m z) → read_of (written (ShiftImm op d m z)) ≡ Ok (stmt 1 (ShiftImm op d m z) ∷ [])
-unfolding written
-shift_lines zero d m z h = lsls_number_line d m z h.1 h.2 h.3
-shift_lines (suc zero) d m z h = lsrs_number_line d m z h.1 h.2 h.3
-shift_lines (suc (suc zero)) d m z h = asrs_number_line d m z h.1 h.2 h.3
-shift_lines (suc (suc (suc op))) d m z h = absurd (let few = h.0 in omega arith)
-
-extend_lines : (op d m : ℕ) → IsWritable (Extend op d m) → read_of (written (Extend op d m)) ≡ Ok (stmt 1 (Extend op d m) ∷ [])
-unfolding written
-extend_lines zero d m h = sxth_line d m h.1 h.2
-extend_lines (suc zero) d m h = sxtb_line d m h.1 h.2
-extend_lines (suc (suc zero)) d m h = uxth_line d m h.1 h.2
-extend_lines (suc (suc (suc zero))) d m h = uxtb_line d m h.1 h.2
-extend_lines (suc (suc (suc (suc op)))) d m h = absurd (let few = h.0 in omega arith)
-
-reverse_lines : (op d m : ℕ) → IsWritable (Rev op d m) → read_of (written (Rev op d m)) ≡ Ok (stmt 1 (Rev op d m) ∷ [])
-unfolding written
-reverse_lines zero d m h = rev_line d m h.2 h.3
-reverse_lines (suc zero) d m h = rev16_line d m h.2 h.3
-reverse_lines (suc (suc zero)) d m h = absurd (h.1 refl)
-reverse_lines (suc (suc (suc zero))) d m h = revsh_line d m h.2 h.3
-reverse_lines (suc (suc (suc (suc op)))) d m h = absurd (let few = h.0 in omega arith)
 
 branch_lines : (op : ℕ) (n : List ℕ) → IsWritable (BCond op n) → read_of (written (BCond op n)) ≡ Ok (stmt 1 (BCond op n) ∷ [])
 unfolding written
@@ -116,28 +74,14 @@ barrier_lines (suc (suc (suc op))) h = absurd (omega arith)
 canonical : (kind : StmtKind) → IsWritable kind → read_of (written kind) ≡ Ok (stmt 1 kind ∷ [])
 unfolding written
 canonical (Label n) h = label_is n h.0 (let few = h.1 in omega arith)
-canonical (MovsImm d z) h = movs_number_line d z h.0 h.1
-canonical (MovsReg d m) h = movs_line d m h.0 h.1
-canonical (Mov d m) h = mov_line d m h.0 h.1
-canonical (CmpImm n z) h = cmp_number_line n z h.0 h.1
-canonical (CmpReg n m) h = cmp_line n m h.0 h.1
-canonical (AddSubTwo false d z) h = adds_number_line d z h.0 h.1
-canonical (AddSubTwo true d z) h = subs_number_line d z h.0 h.1
-canonical (AddSubReg false d n m) h = adds_line d n m h.0 h.1 h.2
-canonical (AddSubReg true d n m) h = subs_line d n m h.0 h.1 h.2
-canonical (AddSubThree false d n z) h = adds_three_line d n z h.0 h.1 h.2
-canonical (AddSubThree true d n z) h = subs_three_line d n z h.0 h.1 h.2
-canonical (AddReg d m) h = add_line d m h.0 h.1
+canonical (TwoRegisters what d m) h = two_lines what d m h
+canonical (ThreeRegisters what d n m) h = three_lines what d n m h
+canonical (RegisterNumber what d z) h = number_lines what d z h
+canonical (TwoRegistersNumber what d n z) h = two_number_lines what d n z h
 canonical (AddRdSp d z) h = add_register_sp_line d z h.0 h.1
 canonical (AddSp z) h = add_sp_line z h
 canonical (SubSp z) h = sub_sp_line z h
-canonical (ShiftImm op d m z) h = shift_lines op d m z h
-canonical (Alu op d m) h = alu_lines op d m h
 canonical (Rsbs d m) h = rsbs_line d m h.0 h.1
-canonical (MovW d z) h = movw_line d z h.0 h.1
-canonical (MovT d z) h = movt_line d z h.0 h.1
-canonical (Div true d n m) h = sdiv_line d n m h.0 h.1 h.2
-canonical (Div false d n m) h = udiv_line d n m h.0 h.1 h.2
 canonical (Adr d n) h = adr_line d n h.0 h.1
 canonical (LdrLabel t n) h = ldr_label_line t n h.0 h.1
 canonical (LdrPool t e) h = pool_word_line t e h.0 h.1 h.2
@@ -150,8 +94,6 @@ canonical (Pop list) h = pop_line list h
 canonical (Stm n list) h = stm_line n list h.0 h.1
 canonical (LdmBack n list) h = ldm_back_line n list h.0 h.1
 canonical (Ldm n list) h = ldm_line n list h.0 h.1 h.2
-canonical (Extend op d m) h = extend_lines op d m h
-canonical (Rev op d m) h = reverse_lines op d m h
 canonical (B n) h = b_line n h
 canonical (BCond op n) h = branch_lines op n h
 canonical (Bl n) h = bl_line n h

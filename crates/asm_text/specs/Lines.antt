@@ -6,12 +6,13 @@ use Rattle.asm_read.specs.declared.token.Kind.TheVariants.{End}
 use Rattle.asm_read.specs.declared.expression.Shape.{Shape}
 use Rattle.asm_statements.specs.declared.statement.Expr.{Expr}
 use Rattle.asm_statements.specs.declared.statement.StmtKind.{StmtKind}
-use Rattle.asm_statements.specs.declared.statement.StmtKind.TheVariants.{Label, MovsImm, MovsReg, Mov, CmpImm, CmpReg, AddSubTwo, AddSubReg, AddSubThree, AddReg, AddRdSp, AddSp, SubSp, ShiftImm, Alu, Rsbs, MovW, MovT, Div, Adr, LdrLabel, LdrPool, MemImm, MemReg, MemSp, Push, Pop, Stm, LdmBack, Ldm, Extend, Rev, B, BCond, Bl, Cbz, BWide, Bx, Blx, Svc, Udf, Hint, Barrier, Text, Data, Bss, Rodata, Global, TypeFunction, TypeObject, Size, Words, Halves, Bytes, Ascii, Asciz, Space, Align, Pool, FnStart, FnEnd, Save, Pad, SetFp, CantUnwind, PersonalityIndex, HandlerData}
+use Rattle.asm_statements.specs.declared.statement.StmtKind.TheVariants.{Label, TwoRegisters, ThreeRegisters, RegisterNumber, TwoRegistersNumber, AddRdSp, AddSp, SubSp, Rsbs, Adr, LdrLabel, LdrPool, MemImm, MemReg, MemSp, Push, Pop, Stm, LdmBack, Ldm, B, BCond, Bl, Cbz, BWide, Bx, Blx, Svc, Udf, Hint, Barrier, Text, Data, Bss, Rodata, Global, TypeFunction, TypeObject, Size, Words, Halves, Bytes, Ascii, Asciz, Space, Align, Pool, FnStart, FnEnd, Save, Pad, SetFp, CantUnwind, PersonalityIndex, HandlerData}
+use Rattle.asm_statements.specs.Computations.{word_of, two_word, three_word, number_word, two_number_word}
 use Rattle.asm_read.specs.Tokens.{token_at}
 use Rattle.asm_read.specs.Operands.{span, bytes_of, register_at, mark_at, word_at, name_at, text_at, number_at, limited_at, has_register, list_at}
 use Rattle.asm_read.specs.Expressions.{shaped, expression_at, series, expressions_at, expr_of}
 use Rattle.asm_read.specs.Statements.{text_of}
-use Rattle.asm_text.specs.Written.{register as register_text, word_of, alu_words, access_words, extend_words, reverse_words, hint_words, barrier_words, offset_words, shift_words, branch_words, sum_word, zero_word, quotient_word, line as line_text, braced, quoted, expression, expressions, written, also}
+use Rattle.asm_text.specs.Written.{register as register_text, access_words, hint_words, barrier_words, offset_words, branch_words, zero_word, line as line_text, braced, quoted, expression, expressions, written, also}
 
 -- what stands after the word of a line
 pub data Operand : Type 0 where
@@ -123,24 +124,14 @@ if_zero (negsuc n) l = []
 -- #, or no offset where it is 0. A label has none
 abbrev pub lines : StmtKind → List Line
 lines (Label n) = []
-lines (MovsImm d imm) = line (codes "movs") (register_number d imm) ∷ []
-lines (MovsReg d m) = line (codes "movs") (two d m) ∷ []
-lines (Mov d m) = line (codes "mov") (two d m) ∷ []
-lines (CmpImm n imm) = line (codes "cmp") (register_number n imm) ∷ []
-lines (CmpReg n m) = line (codes "cmp") (two n m) ∷ []
-lines (AddSubTwo sub d imm) = line (sum_word sub) (register_number d imm) ∷ []
-lines (AddSubReg sub d n m) = line (sum_word sub) (three d n m) ∷ []
-lines (AddSubThree sub d n imm) = line (sum_word sub) (two_number d n imm) ∷ []
-lines (AddReg d m) = line (codes "add") (two d m) ∷ []
+lines (TwoRegisters what d m) = line (two_word what) (two d m) ∷ []
+lines (ThreeRegisters what d n m) = line (three_word what) (three d n m) ∷ []
+lines (RegisterNumber what d imm) = line (number_word what) (register_number d imm) ∷ []
+lines (TwoRegistersNumber what d n imm) = line (two_number_word what) (two_number d n imm) ∷ []
 lines (AddRdSp d off) = line (codes "add") (sp_count d off) ∷ []
 lines (AddSp off) = line (codes "add") (sp_number off) ∷ []
 lines (SubSp off) = line (codes "sub") (sp_number off) ∷ []
-lines (ShiftImm op d m n) = line (word_of shift_words op) (two_number d m n) ∷ []
-lines (Alu op d m) = line (word_of alu_words op) (two d m) ∷ []
 lines (Rsbs d m) = line (codes "rsbs") (two_number d m (pos 0)) ∷ []
-lines (MovW d imm) = line (codes "movw") (register_number d imm) ∷ []
-lines (MovT d imm) = line (codes "movt") (register_number d imm) ∷ []
-lines (Div signed d n m) = line (quotient_word signed) (three d n m) ∷ []
 lines (Adr d n) = line (codes "adr") (register_name d n) ∷ []
 lines (LdrLabel t n) = line (codes "ldr") (register_name t n) ∷ []
 lines (LdrPool t v) = line (codes "ldr") (register t ∷ comma ∷ mark 61 ∷ value v ∷ []) ∷ []
@@ -152,8 +143,6 @@ lines (Pop list) = line (codes "pop") (registers list ∷ []) ∷ []
 lines (Stm n list) = line (codes "stm") (back_list n list) ∷ []
 lines (LdmBack n list) = line (codes "ldm") (back_list n list) ∷ []
 lines (Ldm n list) = line (codes "ldm") (register n ∷ comma ∷ registers_with n list ∷ []) ∷ []
-lines (Extend op d m) = line (word_of extend_words op) (two d m) ∷ []
-lines (Rev op d m) = line (word_of reverse_words op) (two d m) ∷ []
 lines (B n) = line (codes "b") (name n ∷ []) ∷ []
 lines (BCond (suc (suc zero)) n) = line (codes "bcs") (name n ∷ []) ∷ line (codes "bhs") (name n ∷ []) ∷ []
 lines (BCond (suc (suc (suc zero))) n) = line (codes "bcc") (name n ∷ []) ∷ line (codes "blo") (name n ∷ []) ∷ []

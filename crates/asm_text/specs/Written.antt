@@ -1,14 +1,15 @@
 -- The canonical line of a statement: its mnemonic, a blank, and its operands as the manual writes them (Armv6-M
 -- Architecture Reference Manual, DDI 0419), or as the assembler does those of a directive.
-use Rattle.std.specs.Prelude.{◌≡◌, ◌≢◌, ℕ, zero, suc, ◌+◌, ◌-◌, ◌^◌, ◌<◌, ◌≤◌, ◌==◌, ◌&&◌, ◌||◌, not, nat_lt, Bool, true, false, if◌then◌else◌, List, [], ◌∷◌, ◌++◌, length, slice_index_or, Ok, ℤ, pos, negsuc, codes}
+use Rattle.std.specs.Prelude.{◌≡◌, ◌≢◌, ℕ, zero, suc, ◌+◌, ◌-◌, ◌^◌, ◌<◌, ◌≤◌, ◌==◌, ◌&&◌, ◌||◌, not, nat_lt, Bool, true, false, if◌then◌else◌, List, [], ◌∷◌, ◌++◌, length, Ok, ℤ, pos, negsuc, codes}
 use Rattle.std.specs.List.{list_all}
 use Rattle.std.specs.Fmt.{signed_decimal}
 use Rattle.asm_read.specs.declared.token.TheConstants.{GREATEST, FARTHEST_BELOW}
 use Rattle.asm_read.specs.declared.line.TheConstants.{SP, LR, PC}
 use Rattle.asm_statements.specs.declared.statement.StmtKind.{StmtKind}
-use Rattle.asm_statements.specs.declared.statement.StmtKind.TheVariants.{Label, MovsImm, MovsReg, Mov, CmpImm, CmpReg, AddSubTwo, AddSubReg, AddSubThree, AddReg, AddRdSp, AddSp, SubSp, ShiftImm, Alu, Rsbs, MovW, MovT, Div, Adr, LdrLabel, LdrPool, MemImm, MemReg, MemSp, Push, Pop, Stm, LdmBack, Ldm, Extend, Rev, B, BCond, Bl, Cbz, BWide, Bx, Blx, Svc, Udf, Hint, Barrier, Text, Data, Bss, Rodata, Global, TypeFunction, TypeObject, Size, Words, Halves, Bytes, Ascii, Asciz, Space, Align, Pool, FnStart, FnEnd, Save, Pad, SetFp, CantUnwind, PersonalityIndex, HandlerData}
+use Rattle.asm_statements.specs.declared.statement.StmtKind.TheVariants.{Label, TwoRegisters, ThreeRegisters, RegisterNumber, TwoRegistersNumber, AddRdSp, AddSp, SubSp, Rsbs, Adr, LdrLabel, LdrPool, MemImm, MemReg, MemSp, Push, Pop, Stm, LdmBack, Ldm, B, BCond, Bl, Cbz, BWide, Bx, Blx, Svc, Udf, Hint, Barrier, Text, Data, Bss, Rodata, Global, TypeFunction, TypeObject, Size, Words, Halves, Bytes, Ascii, Asciz, Space, Align, Pool, FnStart, FnEnd, Save, Pad, SetFp, CantUnwind, PersonalityIndex, HandlerData}
 use Rattle.asm_statements.specs.declared.statement.Expr.{Expr}
 use Rattle.asm_statements.specs.declared.statement.Expr.TheVariants.{Num, Of, Diff, Prel31, Prel31Ref, Target2, Rel}
+use Rattle.asm_statements.specs.Computations.{word_of, two_word, three_word, number_word, two_number_word}
 use Rattle.asm_read.specs.Tokens.{is_between, is_digit, is_name_byte}
 use Rattle.asm_read.specs.Operands.{has_register}
 use Rattle.asm_read.specs.Reading.{stmt, read_of}
@@ -20,23 +21,9 @@ register r =
     else if nat_lt r 10 then 114 ∷ (48 + r) ∷ []
     else 114 ∷ 49 ∷ (48 + (r - 10)) ∷ []
 
--- the word of a list that stands at a place
-abbrev pub word_of : List (List ℕ) → ℕ → List ℕ
-word_of words n = slice_index_or words n []
-
--- by the two-operand field of data processing; those of no mnemonic have none here
-abbrev pub alu_words : List (List ℕ)
-alu_words = codes "ands" ∷ codes "eors" ∷ codes "lsls" ∷ codes "lsrs" ∷ codes "asrs" ∷ codes "adcs" ∷ codes "sbcs" ∷ codes "rors" ∷ codes "tst" ∷ [] ∷ [] ∷ codes "cmn" ∷ codes "orrs" ∷ codes "muls" ∷ codes "bics" ∷ codes "mvns" ∷ []
-
 -- by the field of loads and stores with a register
 abbrev pub access_words : List (List ℕ)
 access_words = codes "str" ∷ codes "strh" ∷ codes "strb" ∷ codes "ldrsb" ∷ codes "ldr" ∷ codes "ldrh" ∷ codes "ldrb" ∷ codes "ldrsh" ∷ []
-
-abbrev pub extend_words : List (List ℕ)
-extend_words = codes "sxth" ∷ codes "sxtb" ∷ codes "uxth" ∷ codes "uxtb" ∷ []
-
-abbrev pub reverse_words : List (List ℕ)
-reverse_words = codes "rev" ∷ codes "rev16" ∷ [] ∷ codes "revsh" ∷ []
 
 abbrev pub hint_words : List (List ℕ)
 hint_words = codes "nop" ∷ codes "yield" ∷ codes "wfe" ∷ codes "wfi" ∷ codes "sev" ∷ []
@@ -48,22 +35,13 @@ barrier_words = codes "dsb" ∷ codes "dmb" ∷ codes "isb" ∷ []
 abbrev pub offset_words : List (List ℕ)
 offset_words = codes "str" ∷ codes "ldr" ∷ codes "strb" ∷ codes "ldrb" ∷ codes "strh" ∷ codes "ldrh" ∷ []
 
-abbrev pub shift_words : List (List ℕ)
-shift_words = codes "lsls" ∷ codes "lsrs" ∷ codes "asrs" ∷ []
-
 -- by the condition
 abbrev pub branch_words : List (List ℕ)
 branch_words = codes "beq" ∷ codes "bne" ∷ codes "bcs" ∷ codes "bcc" ∷ codes "bmi" ∷ codes "bpl" ∷ codes "bvs" ∷ codes "bvc" ∷ codes "bhi" ∷ codes "bls" ∷ codes "bge" ∷ codes "blt" ∷ codes "bgt" ∷ codes "ble" ∷ []
 
-abbrev pub sum_word : Bool → List ℕ
-sum_word sub = if sub then codes "subs" else codes "adds"
-
 -- CBNZ where the register isn't to be 0
 abbrev pub zero_word : Bool → List ℕ
 zero_word nonzero = if nonzero then codes "cbnz" else codes "cbz"
-
-abbrev pub quotient_word : Bool → List ℕ
-quotient_word signed = if signed then codes "sdiv" else codes "udiv"
 
 -- a word and operands
 abbrev pub line : List ℕ → List ℕ → List ℕ
@@ -167,24 +145,14 @@ quoted bytes = 34 ∷ (escaped bytes ++ (34 ∷ []))
 -- the line of a statement
 unfoldable pub written : StmtKind → List ℕ
 written (Label name) = name ++ codes ":"
-written (MovsImm d imm) = line (codes "movs") (register_number d imm)
-written (MovsReg d m) = line (codes "movs") (two d m)
-written (Mov d m) = line (codes "mov") (two d m)
-written (CmpImm n imm) = line (codes "cmp") (register_number n imm)
-written (CmpReg n m) = line (codes "cmp") (two n m)
-written (AddSubTwo sub d imm) = line (sum_word sub) (register_number d imm)
-written (AddSubReg sub d n m) = line (sum_word sub) (three d n m)
-written (AddSubThree sub d n imm) = line (sum_word sub) (two_number d n imm)
-written (AddReg d m) = line (codes "add") (two d m)
+written (TwoRegisters what d m) = line (two_word what) (two d m)
+written (ThreeRegisters what d n m) = line (three_word what) (three d n m)
+written (RegisterNumber what d imm) = line (number_word what) (register_number d imm)
+written (TwoRegistersNumber what d n imm) = line (two_number_word what) (two_number d n imm)
 written (AddRdSp d off) = line (codes "add") (sp_count d off)
 written (AddSp off) = line (codes "add") (sp_number off)
 written (SubSp off) = line (codes "sub") (sp_number off)
-written (ShiftImm op d m n) = line (word_of shift_words op) (two_number d m n)
-written (Alu op d m) = line (word_of alu_words op) (two d m)
 written (Rsbs d m) = line (codes "rsbs") (register d ++ (codes ", " ++ (register m ++ codes ", #0")))
-written (MovW d imm) = line (codes "movw") (register_number d imm)
-written (MovT d imm) = line (codes "movt") (register_number d imm)
-written (Div signed d n m) = line (quotient_word signed) (three d n m)
 written (Adr d name) = line (codes "adr") (register_name d name)
 written (LdrLabel t name) = line (codes "ldr") (register_name t name)
 written (LdrPool t value) = line (codes "ldr") (register t ++ (codes ", =" ++ expression value))
@@ -196,8 +164,6 @@ written (Pop list) = line (codes "pop") (braced list)
 written (Stm n list) = line (codes "stm") (register n ++ (codes "!, " ++ braced list))
 written (LdmBack n list) = line (codes "ldm") (register n ++ (codes "!, " ++ braced list))
 written (Ldm n list) = line (codes "ldm") (register n ++ (codes ", " ++ braced list))
-written (Extend op d m) = line (word_of extend_words op) (two d m)
-written (Rev op d m) = line (word_of reverse_words op) (two d m)
 written (B name) = line (codes "b") name
 written (BCond cond name) = line (word_of branch_words cond) name
 written (Bl name) = line (codes "bl") name
@@ -321,24 +287,14 @@ IsText bytes = (list_all can_stand bytes ≡ true) × (length (escaped bytes) �
 -- mnemonic. A load or store of a word at sp is a statement of its own
 abbrev pub IsWritable : StmtKind → Type 0
 IsWritable (Label name) = IsNameText name
-IsWritable (MovsImm d imm) = (d < 16) × InRange imm
-IsWritable (MovsReg d m) = (d < 16) × (m < 16)
-IsWritable (Mov d m) = (d < 16) × (m < 16)
-IsWritable (CmpImm n imm) = (n < 16) × InRange imm
-IsWritable (CmpReg n m) = (n < 16) × (m < 16)
-IsWritable (AddSubTwo sub d imm) = (d < 16) × InRange imm
-IsWritable (AddSubReg sub d n m) = (d < 16) × (n < 16) × (m < 16)
-IsWritable (AddSubThree sub d n imm) = (d < 16) × (n < 16) × InRange imm
-IsWritable (AddReg d m) = (d < 16) × (m < 16)
+IsWritable (TwoRegisters what d m) = (two_word what ≢ []) × (d < 16) × (m < 16)
+IsWritable (ThreeRegisters what d n m) = (three_word what ≢ []) × (d < 16) × (n < 16) × (m < 16)
+IsWritable (RegisterNumber what d imm) = (number_word what ≢ []) × (d < 16) × InRange imm
+IsWritable (TwoRegistersNumber what d n imm) = (two_number_word what ≢ []) × (d < 16) × (n < 16) × InRange imm
 IsWritable (AddRdSp d off) = (d < 16) × InRange off
 IsWritable (AddSp off) = InRange off
 IsWritable (SubSp off) = InRange off
-IsWritable (ShiftImm op d m n) = (op < 3) × (d < 16) × (m < 16) × InRange n
-IsWritable (Alu op d m) = (op < 16) × (op ≢ 9) × (op ≢ 10) × (d < 16) × (m < 16)
 IsWritable (Rsbs d m) = (d < 16) × (m < 16)
-IsWritable (MovW d imm) = (d < 16) × InRange imm
-IsWritable (MovT d imm) = (d < 16) × InRange imm
-IsWritable (Div signed d n m) = (d < 16) × (n < 16) × (m < 16)
 IsWritable (Adr d name) = (d < 16) × IsNameText name
 IsWritable (LdrLabel t name) = (t < 16) × IsNameText name
 IsWritable (LdrPool t value) = (t < 16) × IsExpression false value × (length (expression value) ≤ longest_values)
@@ -350,8 +306,6 @@ IsWritable (Pop list) = list < 2 ^ 16
 IsWritable (Stm n list) = (n < 16) × (list < 2 ^ 16)
 IsWritable (LdmBack n list) = (n < 16) × (list < 2 ^ 16)
 IsWritable (Ldm n list) = (n < 16) × (list < 2 ^ 16) × (has_register list n ≡ true)
-IsWritable (Extend op d m) = (op < 4) × (d < 16) × (m < 16)
-IsWritable (Rev op d m) = (op < 4) × (op ≢ 2) × (d < 16) × (m < 16)
 IsWritable (B name) = IsNameText name
 IsWritable (BCond cond name) = (cond < 14) × IsNameText name
 IsWritable (Bl name) = IsNameText name

@@ -7,3 +7,4 @@ pub mod Summing
 pub mod Near
 pub mod RecipeLaws
 pub mod Fresh
+pub mod Next

@@ -1,5 +1,5 @@
 //! Descriptors and their iterator (IHI 0038). docs/descriptors.md has the formats.
-ghost use Rattle.std.specs.Prelude.{◌≡◌, ◌+◌, ◌-◌, ◌*◌, ◌/◌, ◌%◌, ◌^◌, ◌<◌, ◌≤◌, ◌==◌, [], length, IfSome, IsTrue, ◌↔◌, nat_le, Some, None, Ok, Err};
+ghost use Rattle.std.specs.Prelude.{◌≡◌, ◌+◌, ◌-◌, ◌*◌, ◌/◌, ◌%◌, ◌^◌, ◌<◌, ◌≤◌, ◌==◌, [], length, IfSome, IsTrue, ◌↔◌, nat_le, Some, None, Ok, Err, option_copied};
 ghost use Rattle.std.specs.Iterator.{YieldsFirst, item_count};
 ghost use Rattle.eh_desc.specs.Grammar.{word_at, address_at, pad_by, type_by, catch_type, descriptor_of, cleanup_at, catch_at, padded_at, types_at, specification_at, kind_at, found_at, items_from, items_of, table_items, type_in};
 ghost use Rattle.eh_desc.specs.Tables.{form};
@@ -369,7 +369,14 @@ impl<'a> Descs<'a> {
     pub fn of(index: &Index<'_, 'a>, e: &Entry) -> Descs<'a>
         ensures { result ≡ items_of e.now (table_of index.now e.now) }
     {
-        match (e.body, index.table(e)) {
+        Descs::of_table(e, index.table(e))
+    }
+
+    /// The same, by the bytes that the index gives for the entry.
+    pub fn of_table(e: &Entry, table: Option<&'a [u8]>) -> Descs<'a>
+        ensures { result ≡ items_of e.now (option_copied table.entry) }
+    {
+        match (e.body, table) {
             (EntryBody::Table(address), Some(bytes)) => Descs::after(e.start, address, bytes),
             (EntryBody::Table(_) | EntryBody::CantUnwind | EntryBody::Inline(_), _) =>
                 Descs::none(),

@@ -10,7 +10,7 @@ ghost use Rattle.eh_index.specs.Covering.{covering, IsCovering};
 
 use crate::fault::IndexFault;
 use crate::place::{bounds_code, bytes_at, has_bytes};
-use crate::row::{entry_at, first_word};
+use crate::row::{entry_at, first_word, start_at};
 use elf_image::image::Image;
 use std::marker::Model;
 use unwind_codes::row::{Entry, EntryBody, PREL31_LIMIT, ROW_SIZE};
@@ -56,7 +56,7 @@ fn entry_refusal(image: &Image, k: u32) -> Option<IndexFault>
     {
         return Some(IndexFault::OutsideImage(k));
     }
-    if k > 0 && e.start < entry_at(image, k - 1).start {
+    if k > 0 && e.start < start_at(image, k - 1) {
         return Some(IndexFault::Unsorted(k));
     }
     None
@@ -98,7 +98,7 @@ fn rows_up_to(image: &Image, count: u32, site: u32) -> u32
     let mut high = count;
     while low < high {
         let middle = low + (high - low) / 2;
-        if entry_at(image, middle).start <= site {
+        if start_at(image, middle) <= site {
             low = middle + 1;
         } else {
             high = middle;

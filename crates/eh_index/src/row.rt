@@ -4,8 +4,9 @@ ghost use Rattle.unwind_codes.specs.declared.row.TheConstants.{ROW_SIZE};
 ghost use Rattle.eh_index.specs.Rows.{first_word, second_word, entry_at};
 
 use byteorder::{ByteOrder, LittleEndian};
+use eh_word::prel31;
 use elf_image::image::Image;
-use unwind_codes::row::{Entry, ROW_SIZE, entry_of};
+use unwind_codes::row::{Entry, ROW_SIZE, entry_of, even};
 
 /// The first word of a row.
 pub(crate) fn first_word(image: &Image, k: u32) -> u32
@@ -21,6 +22,16 @@ fn second_word(image: &Image, k: u32) -> u32
     ensures { result ≡ second_word image.now k }
 {
     LittleEndian::read_u32(&image.index_bytes()[ROW_SIZE as usize * k as usize + 4..])
+}
+
+/// Where the entry of a row starts, by its first word alone.
+#[tactic(auto, using(crate::proofs::Places::places))]
+pub(crate) fn start_at(image: &Image, k: u32) -> u32
+    requires { ROW_SIZE * k + ROW_SIZE ≤ length image.now.index_bytes }
+    ensures { result ≡ (entry_at image.now k).start }
+{
+    let place = image.index_start() + ROW_SIZE * k;
+    even(prel31(place, first_word(image, k)))
 }
 
 /// A row, as an entry of the index.

@@ -46,6 +46,15 @@ impl NameSet {
         }
     }
 
+    /// No names, with room for some.
+    fn with_capacity(alloc: Global, names: usize) -> Result<NameSet, AllocError>
+        ensures { IfOk result (λ set. set ≡ []) }
+    {
+        Ok(NameSet {
+            names: IndexSet::with_capacity(alloc, names)?,
+        })
+    }
+
     pub(crate) fn contains(&self, name: &Name) -> bool
         ensures { result ≡ list_any (same_bytes name.now) self.now }
     {
@@ -85,6 +94,15 @@ impl Meanings {
         }
     }
 
+    /// No names, with room for some.
+    fn with_capacity(alloc: Global, names: usize) -> Result<Meanings, AllocError>
+        ensures { IfOk result (λ meanings. meanings ≡ []) }
+    {
+        Ok(Meanings {
+            map: IndexMap::with_capacity(alloc, names)?,
+        })
+    }
+
     pub(crate) fn get(&self, name: &Name) -> Option<Meaning>
         ensures { result ≡ lookup (same_bytes name.now) self.now }
     {
@@ -95,10 +113,8 @@ impl Meanings {
     fn add(&mut self, alloc: Global, name: &Name, meaning: Meaning) -> Result<(), AllocError>
         ensures { OnOk result ((q : List ℕ) → lookup (same_bytes q) self.new ≡ option_or (lookup (same_bytes q) self.old) (if same_bytes q name.now then Some meaning else None)) }
     {
-        if self.get(name).is_none() {
-            let name = copied(alloc, name)?;
-            self.map.insert(name, meaning)?;
-        }
+        let name = copied(alloc, name)?;
+        self.map.entry(name)?.or_insert(meaning);
         Ok(())
     }
 }
@@ -107,7 +123,10 @@ impl Meanings {
 pub(crate) fn looked_up(own: &Meanings, global: &Meanings, name: &Name) -> Option<Meaning>
     ensures { result ≡ looked_up own.now global.now name.now }
 {
-    own.get(name).or(global.get(name))
+    match own.get(name) {
+        Some(meaning) => Some(meaning),
+        None => global.get(name),
+    }
 }
 
 // ---- names that are there twice, or not at all
@@ -174,7 +193,7 @@ fn undefined_in<'a>(
 ) -> Result<Option<&'a Name>, AllocError>
     ensures { IfOk result (λ o. option_map (λ name. name.now) o ≡ find (λ name. not (has_label name object.now || list_any (same_bytes name) global.now)) (field_names object.now)) }
 {
-    let mut own = NameSet::new(alloc);
+    let mut own = NameSet::with_capacity(alloc, object.symbols.len())?;
     add_labels(alloc, &mut own, object)?;
     for reloc in object.relocs.as_slice() {
         if !own.contains(&reloc.name) && !global.contains(&reloc.name) {
@@ -224,7 +243,7 @@ fn meaning_at(at: Addresses, symbol: &ObjSymbol) -> Meaning
 pub(crate) fn own_meanings(alloc: Global, placed: &Placed) -> Result<Meanings, AllocError>
     ensures { IfOk result (λ own. (q : List ℕ) → lookup (same_bytes q) own ≡ first_label (is_label q) placed.now) }
 {
-    let mut own = Meanings::new(alloc);
+    let mut own = Meanings::with_capacity(alloc, placed.object.symbols.len())?;
     for symbol in placed.object.symbols.as_slice() {
         own.add(alloc, &symbol.name, meaning_at(placed.at, symbol))?;
     }

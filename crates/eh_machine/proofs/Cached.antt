@@ -22,9 +22,9 @@ is_fetched p m a line of same stand = record {
   roles = subst (λ (x : ℕ). HasRoles p x line.fetched) same of.roles;
 }
 
-pub is_of_line : (p : Program) (m : Memory) (a : ℕ) (h : Halfwords) (at : Fetched) → IsFetched p a m at → HasHalfwords m a h
-    → IsOfLine p (record { address = a; halfwords = h; fetched = at })
-is_of_line p m a h at is stand = record {
+pub is_of_line : (p : Program) (m : Memory) (a : ℕ) (h : Halfwords) (at : Fetched) (round : ℕ) → IsFetched p a m at → HasHalfwords m a h
+    → IsOfLine p (record { address = a; halfwords = h; fetched = at; confirmed = round })
+is_of_line p m a h at round is stand = record {
   pair = is_pair m a h stand;
   decoded = sym (by_halfwords (profile_in p) m a h stand) ∙ is.there;
   range = is.range;

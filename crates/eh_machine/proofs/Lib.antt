@@ -12,6 +12,7 @@ pub mod Events
 pub mod Saved
 pub mod Passing
 pub mod Cached
+pub mod Confirmed
 pub mod Running
 mod StartMaps
 pub mod Following

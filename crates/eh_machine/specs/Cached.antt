@@ -1,10 +1,13 @@
 -- What a decode cache holds: of each line what is so of the program, whatever the memory holds now.
-use Rattle.std.specs.Prelude.{◌≡◌, ℕ, ◌<◌, Option, Some, None, slice_index_or}
+use Rattle.std.specs.Prelude.{◌≡◌, ℕ, ◌<◌, ◌≤◌, Option, Some, None, slice_index_or}
 use Rattle.thumb_isa.specs.Range.{InRange}
 use Rattle.thumb_isa.specs.Rows.{decoded_for}
 use Rattle.thumb_core.specs.Step.{instr_of}
 use Rattle.machines_agree.specs.two_machines.Program.{Program, profile_in}
-use Rattle.code_halfwords.specs.Standing.{IsPair}
+use Rattle.code_halfwords.specs.Standing.{HasHalfwords, IsPair}
+use Rattle.code_halfwords.specs.declared.halfwords.Halfwords.{Halfwords}
+use Rattle.eh_bus.specs.Memory.{Memory}
+use Rattle.eh_bus.specs.Map.{SameMap}
 use Rattle.eh_machine.specs.Passes.{at_of, HasRoles}
 use Rattle.eh_machine.specs.declared.decode_cache.TheConstants.{LINES}
 use Rattle.eh_machine.specs.declared.decode_cache.CacheLine.{CacheLine}
@@ -23,3 +26,22 @@ IsLine p (Some line) = IsOfLine p line
 
 pub record IsCache (p : Program) (cache : DecodeCache) : Type 0 where
   pub lines : (k : ℕ) → k < LINES → IsLine p (slice_index_or cache.lines k None)
+
+-- ---- what was confirmed
+
+-- they stand at an address, and go on to while segments stay as they are but for what may be written
+pub record StandFast (m : Memory) (a : ℕ) (h : Halfwords) : Type 0 where
+  pub always : (m' : Memory) → SameMap m.segments m'.segments → HasHalfwords m' a h
+
+-- of a line, by the round and the memory
+pub record IsOfRound (round : ℕ) (m : Memory) (line : CacheLine) : Type 0 where
+  pub within : line.confirmed ≤ round
+  pub stands : line.confirmed ≡ round → StandFast m line.address line.halfwords
+
+abbrev pub IsRoundsLine : ℕ → Memory → Option CacheLine → Type 0
+IsRoundsLine round m None = Unit {0}
+IsRoundsLine round m (Some line) = IsOfRound round m line
+
+pub record IsConfirmed (m : Memory) (cache : DecodeCache) : Type 0 where
+  pub begun : 0 < cache.round
+  pub lines : (k : ℕ) → k < LINES → IsRoundsLine cache.round m (slice_index_or cache.lines k None)

@@ -1,11 +1,14 @@
 //! The decode cache of a run: what was fetched at an address and what the checker says there, so that neither is looked for again
 //! (docs/machine.md, "An event").
-ghost use Rattle.std.specs.Prelude.{◌<◌, IfSome};
+ghost use Rattle.std.specs.Prelude.{◌≡◌, ◌<◌, ◌≤◌, true, false, IfSome};
+ghost use Rattle.eh_bus.specs.Memory.{Memory};
+ghost use Rattle.eh_bus.specs.Map.{SameMap};
 ghost use Rattle.machines_agree.specs.two_machines.Program.{Program};
-ghost use Rattle.eh_machine.specs.Cached.{IsCache, IsOfLine};
+ghost use Rattle.eh_machine.specs.Cached.{IsCache, IsOfLine, IsConfirmed, IsOfRound, StandFast};
 ghost use Rattle.eh_machine.specs.Passes.{IsFetched};
 
 use crate::pass::Fetched;
+use crate::read_only::stand_fast;
 use code_halfwords::halfwords::{Halfwords, halfwords_at, still_stand};
 use eh_bus::bus::Bus;
 
@@ -18,14 +21,25 @@ pub(crate) struct CacheLine {
     address: u32,
     halfwords: Halfwords,
     fetched: Fetched,
+    /// The round in which its halfwords were found to stand fast; 0 where they were not.
+    confirmed: u32,
 }
 
 /// What was fetched last at the addresses of each line. What is kept holds of the program whatever the memory holds: a line is taken only where
-/// its halfwords still stand at its address.
+/// its halfwords still stand at its address. They are compared, or the line was confirmed in this round: then they stood where nothing may be
+/// written, and nothing that was done since changes that.
 #[derive(Drop)]
 pub(crate) struct DecodeCache {
     lines: [Option<CacheLine>; LINES],
+    /// Counted from 1.
+    round: u32,
 }
+
+/// The first round.
+const FIRST_ROUND: u32 = 1;
+
+/// The round of a line that was not confirmed.
+const NO_ROUND: u32 = 0;
 
 /// The number of the line of an address.
 #[inline(always)]
@@ -38,22 +52,29 @@ fn line_of(address: u32) -> usize
 impl DecodeCache {
     /// A cache that has nothing yet.
     pub(crate) fn new() -> DecodeCache
-        ensures { (p : Program) → IsCache p result }
+        ensures cache { (p : Program) → IsCache p result }
+        ensures confirmed { (m : Memory) → IsConfirmed m result }
     {
         DecodeCache {
             lines: [None; LINES],
+            round: FIRST_ROUND,
         }
     }
 
-    /// The line of an address, where it has something.
+    /// The line of an address, where it has what was fetched there.
     #[inline(always)]
     fn line(&self, address: u32) -> Option<&CacheLine>
-        ensures { (p : Program) → IsCache p self.now → IfSome result (λ line. IsOfLine p line.now) }
+        ensures address { IfSome result (λ line. line.now.address ≡ address) }
+        ensures cache { (p : Program) → IsCache p self.now → IfSome result (λ line. IsOfLine p line.now) }
+        ensures confirmed { (m : Memory) → IsConfirmed m self.now → IfSome result (λ line. IsOfRound self.now.round m line.now) }
     {
-        match &self.lines[line_of(address)] {
-            Some(line) => Some(line),
-            None => None,
+        let Some(line) = &self.lines[line_of(address)] else {
+            return None;
+        };
+        if line.address != address {
+            return None;
         }
+        Some(line)
     }
 
     /// What was fetched at an address, where its line has that and the memory still gives it. It is lent, so that an event reads what it needs.
@@ -64,10 +85,21 @@ impl DecodeCache {
         let Some(line) = self.line(address) else {
             return None;
         };
-        if line.address != address {
+        if !still_stand(&line.halfwords, address, bus) {
             return None;
         }
-        if !still_stand(&line.halfwords, address, bus) {
+        Some(&line.fetched)
+    }
+
+    /// What was fetched at an address, where its line has that and was confirmed in this round. The memory isn't asked.
+    #[inline(always)]
+    pub(crate) fn find_confirmed(&self, address: u32) -> Option<&Fetched>
+        ensures { (p : Program) (m : Memory) → IsCache p self.now → IsConfirmed m self.now → IfSome result (λ at. IsFetched p address m at.now) }
+    {
+        let Some(line) = self.line(address) else {
+            return None;
+        };
+        if line.confirmed != self.round {
             return None;
         }
         Some(&line.fetched)
@@ -75,7 +107,8 @@ impl DecodeCache {
 
     /// Puts a line in place of the one that has its number.
     fn put(&mut self, line: CacheLine)
-        ensures { (p : Program) → IsCache p self.old → IsOfLine p line → IsCache p self.new }
+        ensures cache { (p : Program) → IsCache p self.old → IsOfLine p line → IsCache p self.new }
+        ensures confirmed { (m : Memory) → IsConfirmed m self.old → IsOfRound self.old.round m line → IsConfirmed m self.new }
     {
         self.lines[line_of(line.address)] = Some(line);
     }
@@ -91,6 +124,56 @@ impl DecodeCache {
             address,
             halfwords,
             fetched,
+            confirmed: NO_ROUND,
         });
+    }
+
+    /// This round, for halfwords that stand fast, and else none.
+    fn round_of(&self, is_fast: bool) -> u32
+        ensures within { 0 < self.now.round → result ≤ self.now.round }
+        ensures fast { 0 < self.now.round → result ≡ self.now.round → is_fast ≡ true }
+    {
+        if is_fast { self.round } else { NO_ROUND }
+    }
+
+    /// Keeps what was fetched at an address, confirmed where its halfwords stand fast there.
+    pub(crate) fn keep<B: Bus>(&mut self, address: u32, fetched: Fetched, bus: &mut B)
+        ensures same { B.memory bus.new ≡ B.memory bus.old }
+        ensures cache { (p : Program) → IsCache p self.old → IsFetched p address (B.memory bus.old) fetched → IsCache p self.new }
+        ensures confirmed { IsConfirmed (B.memory bus.old) self.old → IsConfirmed (B.memory bus.old) self.new }
+    {
+        let Some(halfwords) = halfwords_at(address, bus) else {
+            return;
+        };
+        let is_fast = stand_fast(&halfwords, address, bus);
+        let confirmed = self.round_of(is_fast);
+        self.put(CacheLine {
+            address,
+            halfwords,
+            fetched,
+            confirmed,
+        });
+    }
+
+    /// Begins a new round, in which nothing is confirmed yet.
+    pub(crate) fn doubt(&mut self)
+        ensures cache { (p : Program) → IsCache p self.old → IsCache p self.new }
+        ensures confirmed { (m n : Memory) → IsConfirmed m self.old → IsConfirmed n self.new }
+    {
+        match self.round.checked_add(1) {
+            Some(round) => self.round = round,
+            None => *self = DecodeCache::new(),
+        }
+    }
+
+    /// Goes on after an event, which did a gate of the runtime or kept the map of the memory.
+    #[inline(always)]
+    pub(crate) fn go_on(&mut self, is_gate: bool)
+        ensures cache { (p : Program) → IsCache p self.old → IsCache p self.new }
+        ensures confirmed { (m n : Memory) → (is_gate ≡ false → SameMap m.segments n.segments) → IsConfirmed m self.old → IsConfirmed n self.new }
+    {
+        if is_gate {
+            self.doubt();
+        }
     }
 }

@@ -1,11 +1,12 @@
 //! One event of the machine (docs/machine.md, "An event").
-ghost use Rattle.std.specs.Prelude.{◌≡◌, IfSome};
+ghost use Rattle.std.specs.Prelude.{◌≡◌, false, IfSome, IfOk, IfErr, Err};
+ghost use Rattle.eh_bus.specs.Map.{SameMap};
 ghost use Rattle.eh_gates.specs.State.{State, state_of};
 ghost use Rattle.given_input.specs.Given.{OnGiven};
 ghost use Rattle.machines_agree.specs.two_machines.Checked.{program_of};
 ghost use Rattle.step_ahead.specs.Ahead.{IsAhead};
-ghost use Rattle.eh_machine.specs.Cached.{IsCache};
-ghost use Rattle.eh_machine.specs.Passes.{IsFetched};
+ghost use Rattle.eh_machine.specs.Cached.{IsCache, IsConfirmed};
+ghost use Rattle.eh_machine.specs.Passes.{IsFetched, Passes};
 ghost use Rattle.eh_machine.specs.Turns.{TurnedOnce, CountsFaults};
 ghost use Rattle.eh_machine.specs.Follows.{FollowsOnce};
 
@@ -26,6 +27,13 @@ use thumb_core::regs::Stepped;
 #[derive(Drop)]
 pub struct Shared<B> {
     pub bus: B,
+}
+
+/// How an event went, and whether it did a gate of the runtime.
+#[derive(Drop)]
+struct DoneTurn {
+    turned: Turned,
+    is_gate: bool,
 }
 
 /// One event of a run of an accepted image: its instruction is done, and its gate. A trap, an exit and a fault leave registers, globals and
@@ -56,7 +64,7 @@ pub fn turn<B: Bus, I: Source, O: Sink>(
 {
     holds(a);
     match fetch_checked(a, core, &shared.bus) {
-        Ok(at) => turn_at(a, &at, core, shared, events, input, out),
+        Ok(at) => turn_at(a, &at, core, shared, events, input, out).turned,
         Err(end) => Turned::Ended(end),
     }
 }
@@ -85,7 +93,7 @@ pub(crate) fn turn_cached<B: Bus, I: Source, O: Sink>(
     ensures faults { CountsFaults (λ end. result ≡ Turned.Ended end) (I.faults input.old) (I.faults input.new) (O.faults out.old) (O.faults out.new) }
 {
     if let Some(at) = cache.find(core.regs.pc, &shared.bus) {
-        return turn_at(a, at, core, shared, events, input, out);
+        return turn_at(a, at, core, shared, events, input, out).turned;
     }
     turn_anew(a, cache, core, shared, events, input, out)
 }
@@ -116,10 +124,96 @@ fn turn_anew<B: Bus, I: Source, O: Sink>(
     match fetch_checked(a, core, &shared.bus) {
         Ok(at) => {
             cache.insert(core.regs.pc, at, &shared.bus);
-            turn_at(a, &at, core, shared, events, input, out)
+            turn_at(a, &at, core, shared, events, input, out).turned
         }
         Err(end) => Turned::Ended(end),
     }
+}
+
+/// The same of a run that alone changes its memory from one event to the next: what was confirmed isn't fetched again.
+#[inline(always)]
+pub(crate) fn turn_confirmed<B: Bus, I: Source, O: Sink>(
+    a: &Accepted,
+    cache: &mut DecodeCache,
+    core: &mut Core,
+    shared: &mut Shared<B>,
+    events: &mut Events,
+    input: &mut I,
+    out: &mut O,
+) -> Turned
+    requires cache { IsCache (program_of a.now) cache.old }
+    requires confirmed { IsConfirmed (B.memory shared.old.bus) cache.old }
+    ensures cache { IsCache (program_of a.now) cache.new }
+    ensures confirmed { IsConfirmed (B.memory shared.new.bus) cache.new }
+    ensures told { IfSome (I.left input.old) (λ bytes.
+        let old : State = state_of core.old (B.memory shared.old.bus) events.old in
+        let new : State = state_of core.new (B.memory shared.new.bus) events.new in
+        TurnedOnce (program_of a.now) old bytes result new (I.left input.new) (O.written out.old) (O.written out.new)) }
+    ensures given { OnGiven (λ bytes left.
+        let old : State = state_of core.old (B.memory shared.old.bus) events.old in
+        let new : State = state_of core.new (B.memory shared.new.bus) events.new in
+        TurnedOnce (program_of a.now) old bytes result new left (O.written out.old) (O.written out.new)) }
+    ensures faults { CountsFaults (λ end. result ≡ Turned.Ended end) (I.faults input.old) (I.faults input.new) (O.faults out.old) (O.faults out.new) }
+{
+    let Some(at) = cache.find_confirmed(core.regs.pc) else {
+        return turn_unconfirmed(a, cache, core, shared, events, input, out);
+    };
+    let turn = turn_at(a, at, core, shared, events, input, out);
+    cache.go_on(turn.is_gate);
+    turn.turned
+}
+
+/// What stands at pc, which isn't confirmed: as its line has it, where the memory still gives it, and else fetched.
+#[inline(always)]
+fn found_or_fetched<B: Bus>(
+    a: &Accepted,
+    cache: &DecodeCache,
+    core: &Core,
+    bus: &B,
+) -> Result<Fetched, End>
+    requires { IsCache (program_of a.now) cache.now }
+    ensures fetched { IfOk result (λ at. IsFetched (program_of a.now) core.now.regs.pc (B.memory bus.now) at) }
+    ensures ends { IfErr result (λ end. Passes (program_of a.now) core.now (B.memory bus.now) (Err end) core.now (B.memory bus.now)) }
+{
+    if let Some(at) = cache.find(core.regs.pc, bus) {
+        return Ok(*at);
+    }
+    fetch_checked(a, core, bus)
+}
+
+/// The same, where what stands at pc isn't confirmed: it is found or fetched, and kept. A call of its own, so that no other event pays for it.
+#[inline(never)]
+fn turn_unconfirmed<B: Bus, I: Source, O: Sink>(
+    a: &Accepted,
+    cache: &mut DecodeCache,
+    core: &mut Core,
+    shared: &mut Shared<B>,
+    events: &mut Events,
+    input: &mut I,
+    out: &mut O,
+) -> Turned
+    requires cache { IsCache (program_of a.now) cache.old }
+    requires confirmed { IsConfirmed (B.memory shared.old.bus) cache.old }
+    ensures cache { IsCache (program_of a.now) cache.new }
+    ensures confirmed { IsConfirmed (B.memory shared.new.bus) cache.new }
+    ensures told { IfSome (I.left input.old) (λ bytes.
+        let old : State = state_of core.old (B.memory shared.old.bus) events.old in
+        let new : State = state_of core.new (B.memory shared.new.bus) events.new in
+        TurnedOnce (program_of a.now) old bytes result new (I.left input.new) (O.written out.old) (O.written out.new)) }
+    ensures given { OnGiven (λ bytes left.
+        let old : State = state_of core.old (B.memory shared.old.bus) events.old in
+        let new : State = state_of core.new (B.memory shared.new.bus) events.new in
+        TurnedOnce (program_of a.now) old bytes result new left (O.written out.old) (O.written out.new)) }
+    ensures faults { CountsFaults (λ end. result ≡ Turned.Ended end) (I.faults input.old) (I.faults input.new) (O.faults out.old) (O.faults out.new) }
+{
+    let at = match found_or_fetched(a, cache, core, &shared.bus) {
+        Ok(at) => at,
+        Err(end) => return Turned::Ended(end),
+    };
+    cache.keep(core.regs.pc, at, &mut shared.bus);
+    let turn = turn_at(a, &at, core, shared, events, input, out);
+    cache.go_on(turn.is_gate);
+    turn.turned
 }
 
 /// The event of the instruction `at` pc. Most take the fast path, by tests that are told before they are done; the others are done first.
@@ -132,22 +226,26 @@ fn turn_at<B: Bus, I: Source, O: Sink>(
     events: &mut Events,
     input: &mut I,
     out: &mut O,
-) -> Turned
+) -> DoneTurn
     requires { IsFetched (program_of a.now) core.old.regs.pc (B.memory shared.old.bus) at.now }
     ensures told { IfSome (I.left input.old) (λ bytes.
         let old : State = state_of core.old (B.memory shared.old.bus) events.old in
         let new : State = state_of core.new (B.memory shared.new.bus) events.new in
-        TurnedOnce (program_of a.now) old bytes result new (I.left input.new) (O.written out.old) (O.written out.new)) }
+        TurnedOnce (program_of a.now) old bytes result.turned new (I.left input.new) (O.written out.old) (O.written out.new)) }
     ensures given { OnGiven (λ bytes left.
         let old : State = state_of core.old (B.memory shared.old.bus) events.old in
         let new : State = state_of core.new (B.memory shared.new.bus) events.new in
-        TurnedOnce (program_of a.now) old bytes result new left (O.written out.old) (O.written out.new)) }
-    ensures faults { CountsFaults (λ end. result ≡ Turned.Ended end) (I.faults input.old) (I.faults input.new) (O.faults out.old) (O.faults out.new) }
+        TurnedOnce (program_of a.now) old bytes result.turned new left (O.written out.old) (O.written out.new)) }
+    ensures faults { CountsFaults (λ end. result.turned ≡ Turned.Ended end) (I.faults input.old) (I.faults input.new) (O.faults out.old) (O.faults out.new) }
+    ensures map { result.is_gate ≡ false → SameMap (B.memory shared.old.bus).segments (B.memory shared.new.bus).segments }
 {
     let ahead = look_ahead(at.instr, &core.regs);
     // most instructions, and they are not to pay for what the others go on to
     if fast_path(at, ahead, core, &mut shared.bus) {
-        return Turned::Went;
+        return DoneTurn {
+            turned: Turned::Went,
+            is_gate: false,
+        };
     }
     slow_path(a, at, ahead, core, shared, events, input, out)
 }
@@ -163,34 +261,50 @@ fn slow_path<B: Bus, I: Source, O: Sink>(
     events: &mut Events,
     input: &mut I,
     out: &mut O,
-) -> Turned
+) -> DoneTurn
     requires fetched { IsFetched (program_of a.now) core.old.regs.pc (B.memory shared.old.bus) at.now }
     requires told { IsAhead at.now.instr core.old.regs ahead }
     ensures told { IfSome (I.left input.old) (λ bytes.
         let old : State = state_of core.old (B.memory shared.old.bus) events.old in
         let new : State = state_of core.new (B.memory shared.new.bus) events.new in
-        TurnedOnce (program_of a.now) old bytes result new (I.left input.new) (O.written out.old) (O.written out.new)) }
+        TurnedOnce (program_of a.now) old bytes result.turned new (I.left input.new) (O.written out.old) (O.written out.new)) }
     ensures given { OnGiven (λ bytes left.
         let old : State = state_of core.old (B.memory shared.old.bus) events.old in
         let new : State = state_of core.new (B.memory shared.new.bus) events.new in
-        TurnedOnce (program_of a.now) old bytes result new left (O.written out.old) (O.written out.new)) }
-    ensures faults { CountsFaults (λ end. result ≡ Turned.Ended end) (I.faults input.old) (I.faults input.new) (O.faults out.old) (O.faults out.new) }
+        TurnedOnce (program_of a.now) old bytes result.turned new left (O.written out.old) (O.written out.new)) }
+    ensures faults { CountsFaults (λ end. result.turned ≡ Turned.Ended end) (I.faults input.old) (I.faults input.new) (O.faults out.old) (O.faults out.new) }
+    ensures map { result.is_gate ≡ false → SameMap (B.memory shared.old.bus).segments (B.memory shared.new.bus).segments }
 {
     let pc = core.regs.pc;
     let what = match pass(a, at, ahead, core, &mut shared.bus) {
         Ok(what) => what,
-        Err(end) => return Turned::Ended(end),
+        Err(end) => return DoneTurn {
+            turned: Turned::Ended(end),
+            is_gate: false,
+        },
     };
     let Stepped::Gate(number) = what else {
-        return Turned::Went;
+        return DoneTurn {
+            turned: Turned::Went,
+            is_gate: false,
+        };
     };
     if number > INPUT_GATE {
         let next = core.regs.pc;
         core.regs.pc = pc;
-        return gate(&tables(a), number, next, core, &mut shared.bus, events);
+        return DoneTurn {
+            turned: gate(&tables(a), number, next, core, &mut shared.bus, events),
+            is_gate: true,
+        };
     }
     match given_input::gate(number, pc, &mut core.regs, input, out) {
-        None => Turned::Went,
-        Some(end) => Turned::Ended(end),
+        None => DoneTurn {
+            turned: Turned::Went,
+            is_gate: false,
+        },
+        Some(end) => DoneTurn {
+            turned: Turned::Ended(end),
+            is_gate: false,
+        },
     }
 }

@@ -9,6 +9,7 @@ mod event;
 mod guards;
 pub mod memory;
 mod pass;
+mod read_only;
 pub mod run;
 mod start;
 mod tests_of;

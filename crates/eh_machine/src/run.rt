@@ -10,7 +10,7 @@ ghost use Rattle.eh_machine.specs.Follows.{FollowsRun};
 
 use crate::accepted::holds;
 use crate::decode_cache::DecodeCache;
-use crate::event::{Shared, turn_cached};
+use crate::event::{Shared, turn_confirmed};
 use eh_bus::bus::Bus;
 use eh_gates::{Core, Turned};
 use eh_port::{Sink, Source};
@@ -52,7 +52,7 @@ impl<'a, B: Bus> Machine<'a, B> {
         holds(accepted);
         let mut cache = DecodeCache::new();
         while self.left > 0 {
-            match turn_cached(
+            match turn_confirmed(
                 accepted,
                 &mut cache,
                 &mut self.core,

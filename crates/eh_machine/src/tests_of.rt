@@ -1,9 +1,9 @@
 //! The tests between an instruction and what it goes on to (docs/machine.md, "An event").
-ghost use Rattle.std.specs.Prelude.{◌≡◌, ◌≤◌, ◌*◌, true, false, IfSome};
+ghost use Rattle.std.specs.Prelude.{◌≡◌, ℕ, ◌<◌, ◌≤◌, ◌*◌, true, false, IfSome};
 ghost use Rattle.guest_gates.specs.Ends.{is_fault};
 ghost use Rattle.step_ahead.specs.UndoRecord.{lowest};
 ghost use Rattle.machines_agree.specs.two_machines.Checked.{program_of};
-ghost use Rattle.machines_agree.specs.two_machines.Machine.{raises, leaves_cleanup, sp_end, fell_off, goes_after, control_flow_trap, refusal};
+ghost use Rattle.machines_agree.specs.two_machines.Machine.{leaves_cleanup, sp_end, fell_off, goes_after, control_flow_trap, refusal};
 
 use eh_gates::gates::{ALLOCATE_GATE, BEGIN_CATCH_GATE, END_CATCH_GATE, FREE_GATE, UNCAUGHT_GATE};
 use frame_check::Accepted;
@@ -11,39 +11,35 @@ use guest_gates::{INPUT_GATE, NO_CALLER, OUTPUT_GATE};
 use thumb_core::ends::{End, TrapKind};
 use thumb_core::regs::{Regs, SP, Stepped};
 
-/// Whether sp rises at a lowering place.
+/// Whether sp, which rises, stands above the landing sp of the innermost cleanup in progress.
 #[inline(always)]
-fn raises(lowers: bool, old: u32, new: u32) -> bool
-    ensures { result ≡ raises lowers old new }
-{
-    lowers && old < new
-}
-
-/// Whether sp rises above the landing sp of the innermost cleanup in progress.
-#[inline(always)]
-fn leaves_cleanup(landing: Option<u32>, old: u32, new: u32) -> bool
-    ensures { result ≡ leaves_cleanup landing old new }
+fn is_above(new: u32, landing: Option<u32>) -> bool
+    ensures { (old : ℕ) → old < new → result ≡ leaves_cleanup landing old new }
 {
     match landing {
         None => false,
-        Some(landing) => old < new && landing < new,
+        Some(landing) => landing < new,
     }
 }
 
-/// The end by sp: it rises at a lowering place, or out of a cleanup, or stands below the running stack, which begins at `low`.
+/// The end by sp: it rises at a lowering place, or out of a cleanup, or stands below the running stack, which begins at `low`. The
+/// first two are asked only where it rises.
 #[inline(always)]
 fn sp_end(lowers: bool, landing: Option<u32>, low: u32, pc: u32, old: u32, new: u32) -> Option<End>
     ensures { result ≡ sp_end lowers landing low pc old new }
 {
-    if raises(lowers, old, new) {
-        Some(End::Trap(TrapKind::SpRaised, new, pc))
-    } else if leaves_cleanup(landing, old, new) {
-        Some(End::Trap(TrapKind::SpInCleanup, new, pc))
-    } else if new < low {
-        Some(End::Trap(TrapKind::StackLimit, new, pc))
-    } else {
-        None
+    if old < new {
+        if lowers {
+            return Some(End::Trap(TrapKind::SpRaised, new, pc));
+        }
+        if is_above(new, landing) {
+            return Some(End::Trap(TrapKind::SpInCleanup, new, pc));
+        }
     }
+    if new < low {
+        return Some(End::Trap(TrapKind::StackLimit, new, pc));
+    }
+    None
 }
 
 /// The end of a run that goes on past the end of its function.

@@ -11,3 +11,4 @@ pub mod Whole
 pub mod Turns
 pub mod Speaks
 pub mod Rises
+pub mod Passing

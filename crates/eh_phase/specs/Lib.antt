@@ -6,3 +6,4 @@ pub mod Calls
 pub mod Cleanups
 pub mod Laws
 pub mod FirstLanding
+pub mod Passed

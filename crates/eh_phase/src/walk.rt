@@ -1,7 +1,6 @@
 //! The walk over frames, of which it keeps one (docs/phases.md, "Frames").
-ghost use Rattle.std.specs.Prelude.{◌≡◌, Some};
+ghost use Rattle.std.specs.Prelude.{◌≡◌, Some, option_copied};
 ghost use Rattle.unwind_codes.specs.Cut.{cut};
-ghost use Rattle.eh_index.specs.Places.{table_of};
 ghost use Rattle.eh_bytecode.specs.Meaning.{unwound};
 ghost use Rattle.eh_phase.specs.Frames.{codes_of, covered_at, is_no_frame, is_above, caller_of, caller_at, checked, outer, site_of};
 ghost use Rattle.eh_phase.specs.Calls.{stack_of, cursor_of};
@@ -38,14 +37,14 @@ pub struct Cursor {
     pub innermost: bool,
 }
 
-/// The codes of an entry; None where it can't be unwound, or its codes can't be read.
-fn codes_of<'a>(index: &Index<'_, 'a>, entry: &Entry) -> Option<Codes<'a>>
-    ensures { result ≡ codes_of entry.now.body (table_of index.now entry.now) }
+/// The codes of an entry with the bytes of its table; None where it can't be unwound, or its codes can't be read.
+fn codes_of<'a>(entry: &Entry, table: Option<&'a [u8]>) -> Option<Codes<'a>>
+    ensures { result ≡ codes_of entry.now.body (option_copied table.entry) }
 {
     match entry.body {
         EntryBody::CantUnwind => None,
         EntryBody::Inline(word) => Codes::inline(word).ok(),
-        EntryBody::Table(_) => Codes::table(index.table(entry)?).ok(),
+        EntryBody::Table(_) => Codes::table(table?).ok(),
     }
 }
 
@@ -56,8 +55,9 @@ pub(crate) fn covered_at<'a>(index: &Index<'_, 'a>, site: u32) -> Option<Covered
     ensures { result ≡ covered_at index.now site }
 {
     let entry = index.find(site)?;
-    let codes = codes_of(index, &entry)?;
-    let descs = Descs::of(index, &entry);
+    let table = index.table(&entry);
+    let codes = codes_of(&entry, table)?;
+    let descs = Descs::of_table(&entry, table);
     Some(Covered { codes, descs })
 }
 

@@ -137,7 +137,8 @@ fn threads_found<'a, F: Files>(
     }
 }
 
-// Runs an accepted image as threads.
+// Runs an accepted image as threads. A call of its own, so that its loop shares registers with nothing else of the program.
+#[inline(never)]
 fn threads_accepted<I: Source, O: Sink>(
     alloc: Global,
     accepted: &Accepted,

@@ -4,6 +4,7 @@ ghost use Rattle.eh_types.specs.Meant.{IsGraph};
 ghost use Rattle.image_memory.specs.Profiles.{profile_of};
 ghost use Rattle.frame_reach.specs.Held.{marks_of};
 ghost use Rattle.frame_reach.specs.Marks.{AreMarks};
+ghost use Rattle.frame_reach.specs.Prologue.{prologue};
 ghost use Rattle.frame_check.specs.declared.fault.CheckFault.TheVariants.{OutOfMemory as NoMemory};
 ghost use Rattle.frame_check.specs.Roots.{flow_graph_of, roots_of};
 ghost use Rattle.frame_check.specs.Accepts.{AreBytes, IsWell, AreWell, AreRoles, IsSound, IsAccepted, Refuses};
@@ -11,7 +12,7 @@ ghost use Rattle.frame_check.specs.Judged.{IsJudged, RefusesOne, RefusesFunction
 
 use crate::accepted::Accepted;
 use crate::fault::{CheckFault, Rejected};
-use crate::judge::judge;
+use crate::judge::{Well, judge};
 use crate::marking::mark;
 use crate::roles::Roles;
 use crate::roots::roots_of;
@@ -56,6 +57,21 @@ fn rejected(alloc: Global, flow_graph: &FlowGraph, f: &Function, fault: FrameFau
     }
 }
 
+/// Judges one function: what is found of it where it is well, else its name, an address and a cause that stands there.
+fn judged(alloc: Global, flow_graph: &FlowGraph, f: &Function) -> Result<Well, CheckFault>
+    requires placed { IsPlaced f.now }
+    requires flow_graph { flow_graph.now ≡ flow_graph_of flow_graph.now.image f.now }
+    ensures marks { IfOk result (λ w. AreMarks flow_graph.now (marks_of w.reached)) }
+    ensures prologue { IfOk result (λ w. w.prologue ≡ prologue flow_graph.now (marks_of w.reached)) }
+    ensures well { IfOk result (λ _. IsWell flow_graph.now) }
+    ensures refused { IfErr result (RefusesOne flow_graph.now.image f.now) }
+{
+    match judge(alloc, flow_graph) {
+        Err(fault) => Err(rejected(alloc, flow_graph, f, fault)),
+        Ok(well) => Ok(well),
+    }
+}
+
 /// Judges one function, and marks nothing: its reached places where it is well, else its name, an address and a cause that stands there.
 /// The cover keeps the entry of its start.
 pub fn judge_function(alloc: Global, cover: &Cover, f: &Function) -> Result<Reached, CheckFault>
@@ -65,9 +81,9 @@ pub fn judge_function(alloc: Global, cover: &Cover, f: &Function) -> Result<Reac
     ensures refused { IfErr result (RefusesOne cover.now f.now) }
 {
     let flow_graph = FlowGraph::under(cover, f.start, f.end);
-    match judge(alloc, &flow_graph) {
-        Err(fault) => Err(rejected(alloc, &flow_graph, f, fault)),
-        Ok(reached) => Ok(reached),
+    match judged(alloc, &flow_graph, f) {
+        Err(fault) => Err(fault),
+        Ok(well) => Ok(well.reached),
     }
 }
 
@@ -82,12 +98,10 @@ fn check_function(
     ensures taken { OnOk result (IsTaken cover.now f.now roles.old roles.new) }
     ensures refused { IfErr result (RefusesOne cover.now f.now) }
 {
-    match judge_function(alloc, cover, f) {
+    let flow_graph = FlowGraph::under(cover, f.start, f.end);
+    match judged(alloc, &flow_graph, f) {
         Err(fault) => Err(fault),
-        Ok(reached) => {
-            let flow_graph = FlowGraph::under(cover, f.start, f.end);
-            Ok(mark(alloc, roles, &flow_graph, &reached)?)
-        }
+        Ok(well) => Ok(mark(alloc, roles, &flow_graph, &well.reached, &well.prologue)?),
     }
 }
 

@@ -2,12 +2,14 @@
 ghost use Rattle.std.specs.Prelude.{◌≡◌, ℕ, ◌+◌, ◌*◌, ◌%◌, ◌^◌, ◌<◌, ◌≤◌, ◌∷◌, [], All, Contains, OnOk};
 ghost use Rattle.frame_reach.specs.Marks.{AreMarks};
 ghost use Rattle.frame_reach.specs.Held.{is_set, marks_of};
+ghost use Rattle.frame_reach.specs.Prologue.{prologue};
 ghost use Rattle.frame_check.specs.declared.pushes.Pushed.{Pushed as Push};
 ghost use Rattle.frame_check.specs.Marking.{with_instr, with_lowers, with_start, with_saves, Turned, AreInstrs, AreLowered, AreSaved, IsMarked};
 
 use crate::pushes::Pushed;
 use crate::roles::Roles;
 use crate::walk::pushes_of;
+use frame_facts::Prologue;
 use frame_graph::FlowGraph;
 use frame_reach::Reached;
 use std::alloc::{AllocError, Global};
@@ -116,8 +118,10 @@ pub(crate) fn mark(
     roles: &mut Roles,
     flow_graph: &FlowGraph,
     reached: &Reached,
+    p: &Prologue,
 ) -> Result<(), AllocError>
     requires even { flow_graph.now.start % 2 ≡ 0 }
+    requires prologue { p.now ≡ prologue flow_graph.now (marks_of reached.now) }
     requires some { flow_graph.now.start < flow_graph.now.end }
     requires low { flow_graph.now.end + 4 ≤ 2 ^ 32 }
     requires marks { AreMarks flow_graph.now (marks_of reached.now) }
@@ -128,6 +132,6 @@ pub(crate) fn mark(
     mark_places(roles, flow_graph, found)?;
     mark_lowerings(roles, flow_graph, reached.reached(), found)?;
     mark_start(roles, flow_graph.start())?;
-    let pushes = pushes_of(alloc, flow_graph, reached)?;
+    let pushes = pushes_of(alloc, flow_graph, reached, p)?;
     mark_pushes(roles, &pushes)
 }

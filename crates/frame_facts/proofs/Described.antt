@@ -8,7 +8,10 @@ use Rattle.std.proofs.lemmas.Bool.Decides.{nat_tests}
 use Rattle.std.proofs.lemmas.Option.{same_Some, none-some}
 use Rattle.std.proofs.lemmas.Int.{ints}
 use Rattle.std.proofs.lemmas.List.{get_or-set_same, get_or-set_other, get_or_past, length-set}
-use Rattle.thumb_isa.specs.declared.instr.Instr.TheVariants.{ShiftImm, AddSubReg, AddSubImm3, Imm8, Alu, Adr, AddRdSp, Extend, Rev, MovW, MovT, Div}
+use Rattle.thumb_isa.specs.declared.instr.Instr.TheVariants.{ShiftImm, AddSubImm3, Imm8, Alu, AddRdSp}
+use Rattle.thumb_isa.specs.Nature.{Derived, Shifts, AddsThree, AddsEight, Combines, AddsToSp, Nature, Works, Derives, nature}
+use Rattle.thumb_isa.proofs.Natures.{derived_instr, derived_is}
+use Rattle.thumb_core.proofs.Natures.{work}
 use Rattle.thumb_core.specs.declared.regs.Regs.{Regs}
 use Rattle.thumb_core.specs.Registers.{reg, word_in, with_flags, operand, pc_read, with_next, with_reg, with_pc}
 use Rattle.thumb_core.specs.Arith.{sum_or_difference, sum_of, difference_of}
@@ -22,7 +25,8 @@ use Rattle.frame_facts.specs.declared.facts.TheConstants.{DEEPEST}
 use Rattle.frame_facts.specs.Facts.{source, slot, with_source, lost, clobbered, sp_at, sp_plus, shifted}
 use Rattle.frame_facts.specs.Shifts.{shift_imm}
 use Rattle.frame_facts.specs.Data.{add_sub_imm3, imm8, alu, copied, sp_set}
-use Rattle.frame_facts.specs.Machine.{Means, Describes, IsRoomy, DataIsDescribed, MovesAreDescribed, ClobberingIsDescribed}
+use Rattle.frame_facts.specs.After.{derived, nature_effect}
+use Rattle.frame_facts.specs.Machine.{derived_on, nature_works_on, Means, Describes, IsRoomy, DataIsDescribed, MovesAreDescribed, ClobberingIsDescribed}
 
 -- ---- places of registers
 
@@ -221,21 +225,29 @@ for_d P d d' e h = subst P (sym (same_Some d d' e)) h
 to_g : (entry : ℕ → ℕ) (cfa : ℕ) (regs : Regs) (f g : Fact) → Some f ≡ Some g → Describes entry cfa f regs → Describes entry cfa g regs
 to_g entry cfa regs f g e x = subst (λ h. Describes entry cfa h regs) (same_Some f g e) x
 
+derived_described : (entry : ℕ → ℕ) (cfa : ℕ) (v : Derived) (d' : ℕ) (f g : Fact) (regs : Regs) → derived_on v ≡ Some d' → d' ≢ 13 → IsRoomy cfa regs → Describes entry cfa f regs
+    → Some (derived v f) ≡ Some g → Describes entry cfa g (data_effect (derived_instr v) regs)
+derived_described entry cfa (Shifts op d m n) d' f g regs on low roomy x e =
+    to_g entry cfa (data_effect (ShiftImm op d m n) regs) (shift_imm op d m n f) g e (shift_described entry cfa op d m n f regs (data_effect (ShiftImm op d m n) regs) (for_d (λ k. k ≢ 13) d d' on low) roomy x refl)
+derived_described entry cfa (AddsThree sub d n imm) d' f g regs on low roomy x e =
+    to_g entry cfa (data_effect (AddSubImm3 sub d n imm) regs) (add_sub_imm3 sub d n imm f) g e (imm3_described entry cfa sub d n imm f regs (data_effect (AddSubImm3 sub d n imm) regs) (for_d (λ k. k ≢ 13) d d' on low) roomy x refl)
+derived_described entry cfa (AddsEight op d imm) d' f g regs on low roomy x e =
+    to_g entry cfa (data_effect (Imm8 op d imm) regs) (imm8 op d imm f) g e (imm8_described entry cfa op d imm f regs (for_d (λ k. k ≢ 13) d d' on low) roomy x)
+derived_described entry cfa (Combines op d m) d' f g regs on low roomy x e =
+    to_g entry cfa (data_effect (Alu op d m) regs) (alu op d f) g e (alu_described entry cfa op d m f regs (data_effect (Alu op d m) regs) (for_d (λ k. k ≢ 13) d d' on low) roomy x refl)
+derived_described entry cfa (AddsToSp d (pos off)) d' f g regs on low roomy x e =
+    to_g entry cfa (data_effect (AddRdSp d (pos off)) regs) (with_source f d (sp_plus f (pos off))) g e (sp_described entry cfa d off f regs (data_effect (AddRdSp d (pos off)) regs) (for_d (λ k. k ≢ 13) d d' on low) roomy x refl)
+derived_described entry cfa (AddsToSp d (negsuc off)) d' f g regs on low roomy x e = absurd (none-some d' on)
+
 pub data_described : DataIsDescribed
-data_described entry cfa p lowers at (ShiftImm op d m n) d' f g regs on low roomy x e = to_g entry cfa (data_effect (ShiftImm op d m n) regs) (shift_imm op d m n f) g e (shift_described entry cfa op d m n f regs (data_effect (ShiftImm op d m n) regs) (for_d (λ k. k ≢ 13) d d' on low) roomy x refl)
-data_described entry cfa p lowers at (AddSubReg sub d n m) d' f g regs on low roomy x e = to_g entry cfa (data_effect (AddSubReg sub d n m) regs) (lost d f) g e (untold entry cfa f regs (data_effect (AddSubReg sub d n m) regs) d _ (for_d (λ k. k ≢ 13) d d' on low) roomy x refl)
-data_described entry cfa p lowers at (AddSubImm3 sub d n imm) d' f g regs on low roomy x e = to_g entry cfa (data_effect (AddSubImm3 sub d n imm) regs) (add_sub_imm3 sub d n imm f) g e (imm3_described entry cfa sub d n imm f regs (data_effect (AddSubImm3 sub d n imm) regs) (for_d (λ k. k ≢ 13) d d' on low) roomy x refl)
-data_described entry cfa p lowers at (Imm8 op d imm) d' f g regs on low roomy x e = to_g entry cfa (data_effect (Imm8 op d imm) regs) (imm8 op d imm f) g e (imm8_described entry cfa op d imm f regs (for_d (λ k. k ≢ 13) d d' on low) roomy x)
-data_described entry cfa p lowers at (Alu op d m) d' f g regs on low roomy x e = to_g entry cfa (data_effect (Alu op d m) regs) (alu op d f) g e (alu_described entry cfa op d m f regs (data_effect (Alu op d m) regs) (for_d (λ k. k ≢ 13) d d' on low) roomy x refl)
-data_described entry cfa p lowers at (Adr d off) d' f g regs on low roomy x e = to_g entry cfa (data_effect (Adr d off) regs) (lost d f) g e (untold entry cfa f regs (data_effect (Adr d off) regs) d _ (for_d (λ k. k ≢ 13) d d' on low) roomy x refl)
-data_described entry cfa p lowers at (AddRdSp d (pos off)) d' f g regs on low roomy x e = to_g entry cfa (data_effect (AddRdSp d (pos off)) regs) (with_source f d (sp_plus f (pos off))) g e (sp_described entry cfa d off f regs (data_effect (AddRdSp d (pos off)) regs) (for_d (λ k. k ≢ 13) d d' on low) roomy x refl)
-data_described entry cfa p lowers at (AddRdSp d (negsuc off)) d' f g regs on low roomy x e = absurd (none-some d' on)
-data_described entry cfa p lowers at (Extend op d m) d' f g regs on low roomy x e = to_g entry cfa (data_effect (Extend op d m) regs) (lost d f) g e (untold entry cfa f regs (data_effect (Extend op d m) regs) d _ (for_d (λ k. k ≢ 13) d d' on low) roomy x refl)
-data_described entry cfa p lowers at (Rev op d m) d' f g regs on low roomy x e = to_g entry cfa (data_effect (Rev op d m) regs) (lost d f) g e (untold entry cfa f regs (data_effect (Rev op d m) regs) d _ (for_d (λ k. k ≢ 13) d d' on low) roomy x refl)
-data_described entry cfa p lowers at (MovW d imm) d' f g regs on low roomy x e = to_g entry cfa (data_effect (MovW d imm) regs) (lost d f) g e (untold entry cfa f regs (data_effect (MovW d imm) regs) d _ (for_d (λ k. k ≢ 13) d d' on low) roomy x refl)
-data_described entry cfa p lowers at (MovT d imm) d' f g regs on low roomy x e = to_g entry cfa (data_effect (MovT d imm) regs) (lost d f) g e (untold entry cfa f regs (data_effect (MovT d imm) regs) d _ (for_d (λ k. k ≢ 13) d d' on low) roomy x refl)
-data_described entry cfa p lowers at (Div signed d n m) d' f g regs on low roomy x e = to_g entry cfa (data_effect (Div signed d n m) regs) (lost d f) g e (untold entry cfa f regs (data_effect (Div signed d n m) regs) d _ (for_d (λ k. k ≢ 13) d d' on low) roomy x refl)
-data_described entry cfa p lowers at i d' f g regs on low roomy x e = absurd (none-some d' on)
+data_described entry cfa p lowers at i d' f g regs on low roomy x e = by_nature (nature i) refl on e
+  where
+    by_nature : (n : Nature) → nature i ≡ n → nature_works_on n ≡ Some d' → nature_effect p lowers at n f ≡ Some g → Describes entry cfa g (data_effect i regs)
+    by_nature (Works d) s on e =
+        let w = work i d s in
+        to_g entry cfa (data_effect i regs) (lost d f) g e (untold entry cfa f regs (data_effect i regs) d (word_in d (w.value regs)) (for_d (λ k. k ≢ 13) d d' on low) roomy x (w.writes regs))
+    by_nature (Derives v) s on e = subst (λ j. Describes entry cfa g (data_effect j regs)) (sym (derived_is i v s)) (derived_described entry cfa v d' f g regs on low roomy x e)
+    by_nature n s on e = absurd (none-some d' on)
 
 -- ---- moves
 

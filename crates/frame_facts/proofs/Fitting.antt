@@ -8,7 +8,7 @@ use Rattle.std.proofs.lemmas.List.{length-set}
 use Rattle.std.proofs.lemmas.List.Sums.{sum_by-cons}
 use Rattle.thumb_core.specs.Words.{listed}
 use Rattle.thumb_isa.specs.declared.instr.Instr.{Instr}
-use Rattle.thumb_isa.specs.declared.instr.Instr.TheVariants.{ShiftImm, AddSubReg, AddSubImm3, Imm8, Alu, AddHigh, CmpHigh, MovHigh, Bx, Blx, LdrLit, MemReg, MemImm, MemSp, Adr, AddRdSp, AddSp, SubSp, Extend, Rev, Push, Pop, Hint, Stm, Ldm, BCond, Svc, B, Bl, Barrier, Cbz, BWide, MovW, MovT, Div}
+use Rattle.thumb_isa.specs.Nature.{Shifts, AddsThree, AddsEight, Combines, AddsToSp, NearPc, AtSum, AtOffset, AtSp, BranchesTo, BranchesIf, BranchesOn, Calls, ReturnsBy, Gates, Nature, Works, Idles, Derives, AddsHigh, MovesHigh, Transfers, StoresList, LoadsList, RaisesSp, LowersSp, PushesList, PopsList, Goes, nature}
 use Rattle.frame_facts.specs.declared.cause.FrameCause.{FrameCause}
 use Rattle.frame_facts.specs.declared.cause.FrameCause.TheVariants.{IndirectBranch, SpWrite, ReturnState}
 use Rattle.frame_facts.specs.declared.facts.Source.{Source}
@@ -24,7 +24,7 @@ use Rattle.frame_facts.specs.Data.{add_sub_imm3, imm8, alu, copied, sp_set, mov_
 use Rattle.frame_facts.specs.Access.{mem_reg, mem_imm, mem_sp}
 use Rattle.frame_facts.specs.Lists.{pushed_to, push, loaded, ldm}
 use Rattle.frame_facts.specs.Branches.{call_changes, gate_changes, is_indirect, return_to, returns_well}
-use Rattle.frame_facts.specs.After.{effect, returned, gone_on, after_of}
+use Rattle.frame_facts.specs.After.{nature_effect, effect, returned, gone_on, after_of}
 use Rattle.frame_facts.proofs.Meeting.{met_length}
 use Rattle.frame_facts.proofs.Vaguer.{joined, join_is}
 
@@ -121,45 +121,38 @@ mov_high_fits p lowers d m f x =
     (always p.count (record f { below = true }) (record { depth = x.depth; kept = x.kept; long = x.long })) (sp_set_fits p (copied m f) f x))
     (always p.count (with_source f d (copied m f)) (with_fits p.count f d (copied m f) x))
 
-effect_fits : (p : Prologue) (lowers : Bool) (at : ℕ) (i : Instr) (f : Fact) → IsFit p.count f → Gives p.count (effect p lowers at i f)
-effect_fits p lowers at (ShiftImm op d m n) f x =
+nature_effect_fits : (p : Prologue) (lowers : Bool) (at : ℕ) (n : Nature) (f : Fact) → IsFit p.count f → Gives p.count (nature_effect p lowers at n f)
+nature_effect_fits p lowers at (Derives (Shifts op d m n)) f x =
     always p.count (shift_imm op d m n f) (pick_fact p.count (eqb op 0 && eqb n 0) (with_source f d (source f m)) (lost d f) (with_fits p.count f d (source f m) x) (lost_fits p.count f d x))
-effect_fits p lowers at (AddSubReg sub d n m) f x = always p.count (lost d f) (lost_fits p.count f d x)
-effect_fits p lowers at (AddSubImm3 sub d n imm) f x = always p.count (add_sub_imm3 sub d n imm f) (with_fits p.count f d (cond (eqb imm 0) (source f n) (shifted sub imm (source f n))) x)
-effect_fits p lowers at (Imm8 op d imm) f x =
+nature_effect_fits p lowers at (Works d) f x = always p.count (lost d f) (lost_fits p.count f d x)
+nature_effect_fits p lowers at (Derives (AddsThree sub d n imm)) f x = always p.count (add_sub_imm3 sub d n imm f) (with_fits p.count f d (cond (eqb imm 0) (source f n) (shifted sub imm (source f n))) x)
+nature_effect_fits p lowers at (Derives (AddsEight op d imm)) f x =
     let t = shifted (not (eqb op 2)) imm (source f d) in
     always p.count (imm8 op d imm f) (pick_fact p.count (eqb op 0) (lost d f) (cond (eqb op 1) f (with_source f d t)) (lost_fits p.count f d x) (pick_fact p.count (eqb op 1) f (with_source f d t) x (with_fits p.count f d t x)))
-effect_fits p lowers at (Alu op d m) f x = always p.count (alu op d f) (pick_fact p.count (eqb op 8 || eqb op 10 || eqb op 11) f (lost d f) x (lost_fits p.count f d x))
-effect_fits p lowers at (AddHigh d m) f x = pick p.count (eqb d 13) None (Some (lost d f)) (never p.count) (always p.count (lost d f) (lost_fits p.count f d x))
-effect_fits p lowers at (CmpHigh n m) f x = always p.count f x
-effect_fits p lowers at (MovHigh d m) f x = mov_high_fits p lowers d m f x
-effect_fits p lowers at (Bx m) f x = always p.count f x
-effect_fits p lowers at (Blx m) f x = always p.count (clobbered call_changes f) (clobbered_fits p.count call_changes f x)
-effect_fits p lowers at (LdrLit t off) f x = always p.count (lost t f) (lost_fits p.count f t x)
-effect_fits p lowers at (MemReg op t n m) f x = always p.count (mem_reg op t f) (pick_fact p.count (ltb op 3) f (lost t f) x (lost_fits p.count f t x))
-effect_fits p lowers at (MemImm op t n off) f x = always p.count (mem_imm op t f) (pick_fact p.count (eqb op 1 || eqb op 3 || eqb op 5) (lost t f) f (lost_fits p.count f t x) x)
-effect_fits p lowers at (MemSp load t off) f x = always p.count (mem_sp p load t off f) (pick_fact p.count load (with_source f t (stack_word p f off)) f (with_fits p.count f t (stack_word p f off) x) x)
-effect_fits p lowers at (Adr d off) f x = always p.count (lost d f) (lost_fits p.count f d x)
-effect_fits p lowers at (AddRdSp d off) f x = always p.count (with_source f d (sp_plus f off)) (with_fits p.count f d (sp_plus f off) x)
-effect_fits p lowers at (AddSp off) f x = to_depth_fits p (pos f.depth -ℤ off) f x
-effect_fits p lowers at (SubSp off) f x = to_depth_fits p (pos f.depth +ℤ off) f x
-effect_fits p lowers at (Extend op d m) f x = always p.count (lost d f) (lost_fits p.count f d x)
-effect_fits p lowers at (Rev op d m) f x = always p.count (lost d f) (lost_fits p.count f d x)
-effect_fits p lowers at (Push list) f x = push_fits p at list f x
-effect_fits p lowers at (Pop list) f x = to_depth_fits p (pos f.depth -ℤ pos (4 * length (listed list))) (loaded p f 0 (listed list) f) (loaded_fits p.count p f 0 (listed list) f x)
-effect_fits p lowers at (Hint n) f x = always p.count f x
-effect_fits p lowers at (Stm n list) f x = always p.count (lost n f) (lost_fits p.count f n x)
-effect_fits p lowers at (Ldm n list) f x = always p.count (ldm n list f) (lost_fits p.count (clobbered (listed list) f) n (clobbered_fits p.count (listed list) f x))
-effect_fits p lowers at (BCond cc off) f x = always p.count f x
-effect_fits p lowers at (Svc imm) f x = always p.count (clobbered gate_changes f) (clobbered_fits p.count gate_changes f x)
-effect_fits p lowers at (B off) f x = always p.count f x
-effect_fits p lowers at (Bl off) f x = always p.count (clobbered call_changes f) (clobbered_fits p.count call_changes f x)
-effect_fits p lowers at (Barrier op option) f x = always p.count f x
-effect_fits p lowers at (Cbz nonzero n off) f x = always p.count f x
-effect_fits p lowers at (BWide off) f x = always p.count f x
-effect_fits p lowers at (MovW d imm) f x = always p.count (lost d f) (lost_fits p.count f d x)
-effect_fits p lowers at (MovT d imm) f x = always p.count (lost d f) (lost_fits p.count f d x)
-effect_fits p lowers at (Div signed d n m) f x = always p.count (lost d f) (lost_fits p.count f d x)
+nature_effect_fits p lowers at (Derives (Combines op d m)) f x = always p.count (alu op d f) (pick_fact p.count (eqb op 8 || eqb op 10 || eqb op 11) f (lost d f) x (lost_fits p.count f d x))
+nature_effect_fits p lowers at (AddsHigh d m) f x = pick p.count (eqb d 13) None (Some (lost d f)) (never p.count) (always p.count (lost d f) (lost_fits p.count f d x))
+nature_effect_fits p lowers at Idles f x = always p.count f x
+nature_effect_fits p lowers at (MovesHigh d m) f x = mov_high_fits p lowers d m f x
+nature_effect_fits p lowers at (Goes (ReturnsBy m)) f x = always p.count f x
+nature_effect_fits p lowers at (Transfers (NearPc t off)) f x = always p.count (lost t f) (lost_fits p.count f t x)
+nature_effect_fits p lowers at (Transfers (AtSum op t n m)) f x = always p.count (mem_reg op t f) (pick_fact p.count (ltb op 3) f (lost t f) x (lost_fits p.count f t x))
+nature_effect_fits p lowers at (Transfers (AtOffset op t n off)) f x = always p.count (mem_imm op t f) (pick_fact p.count (eqb op 1 || eqb op 3 || eqb op 5) (lost t f) f (lost_fits p.count f t x) x)
+nature_effect_fits p lowers at (Transfers (AtSp load t off)) f x = always p.count (mem_sp p load t off f) (pick_fact p.count load (with_source f t (stack_word p f off)) f (with_fits p.count f t (stack_word p f off) x) x)
+nature_effect_fits p lowers at (Derives (AddsToSp d off)) f x = always p.count (with_source f d (sp_plus f off)) (with_fits p.count f d (sp_plus f off) x)
+nature_effect_fits p lowers at (RaisesSp off) f x = to_depth_fits p (pos f.depth -ℤ off) f x
+nature_effect_fits p lowers at (LowersSp off) f x = to_depth_fits p (pos f.depth +ℤ off) f x
+nature_effect_fits p lowers at (PushesList list) f x = push_fits p at list f x
+nature_effect_fits p lowers at (PopsList list) f x = to_depth_fits p (pos f.depth -ℤ pos (4 * length (listed list))) (loaded p f 0 (listed list) f) (loaded_fits p.count p f 0 (listed list) f x)
+nature_effect_fits p lowers at (StoresList n list) f x = always p.count (lost n f) (lost_fits p.count f n x)
+nature_effect_fits p lowers at (LoadsList n list) f x = always p.count (ldm n list f) (lost_fits p.count (clobbered (listed list) f) n (clobbered_fits p.count (listed list) f x))
+nature_effect_fits p lowers at (Goes (BranchesIf cc off)) f x = always p.count f x
+nature_effect_fits p lowers at (Goes (Gates imm)) f x = always p.count (clobbered gate_changes f) (clobbered_fits p.count gate_changes f x)
+nature_effect_fits p lowers at (Goes (BranchesTo off)) f x = always p.count f x
+nature_effect_fits p lowers at (Goes (Calls off)) f x = always p.count (clobbered call_changes f) (clobbered_fits p.count call_changes f x)
+nature_effect_fits p lowers at (Goes (BranchesOn nonzero n off)) f x = always p.count f x
+
+effect_fits : (p : Prologue) (lowers : Bool) (at : ℕ) (i : Instr) (f : Fact) → IsFit p.count f → Gives p.count (effect p lowers at i f)
+effect_fits p lowers at i f x = nature_effect_fits p lowers at (nature i) f x
 
 err_ok : (e : FrameCause) (x : Fact) → (let r : Result Fact FrameCause = Err e in r) ≡ Ok x → ⊥
 err_ok e x h = cc

@@ -8,7 +8,8 @@ use Rattle.std.proofs.lemmas.Bool.{and_parts, and_from, false≢true, true≢fal
 use Rattle.std.proofs.lemmas.Option.{same_Some, none-some}
 use Rattle.thumb_core.specs.Words.{listed}
 use Rattle.thumb_isa.specs.declared.instr.Instr.{Instr}
-use Rattle.thumb_isa.specs.declared.instr.Instr.TheVariants.{ShiftImm, AddSubReg, AddSubImm3, Imm8, Alu, AddHigh, CmpHigh, MovHigh, Bx, Blx, LdrLit, MemReg, MemImm, MemSp, Adr, AddRdSp, AddSp, SubSp, Extend, Rev, Push, Pop, Hint, Stm, Ldm, BCond, Svc, B, Bl, Barrier, Cbz, BWide, MovW, MovT, Div}
+use Rattle.thumb_isa.specs.declared.instr.Instr.TheVariants.{AddHigh, MovHigh, Bx, Pop}
+use Rattle.thumb_isa.specs.Nature.{Shifts, AddsThree, AddsEight, Combines, AddsToSp, NearPc, AtSum, AtOffset, AtSp, BranchesTo, BranchesIf, BranchesOn, Calls, ReturnsBy, Gates, Nature, Works, Idles, Derives, AddsHigh, MovesHigh, Transfers, StoresList, LoadsList, RaisesSp, LowersSp, PushesList, PopsList, Goes, nature}
 use Rattle.frame_facts.specs.declared.cause.FrameCause.{FrameCause}
 use Rattle.frame_facts.specs.declared.cause.FrameCause.TheVariants.{IndirectBranch, SpWrite, ReturnState}
 use Rattle.frame_facts.specs.declared.facts.Source.{Source}
@@ -23,7 +24,7 @@ use Rattle.frame_facts.specs.Data.{add_sub_imm3, imm8, alu, copied, sp_set, mov_
 use Rattle.frame_facts.specs.Access.{mem_reg, mem_imm, mem_sp}
 use Rattle.frame_facts.specs.Lists.{pushed_to, push, loaded, pop, ldm}
 use Rattle.frame_facts.specs.Branches.{call_changes, gate_changes, kept_by_calls, is_indirect, return_to, holds_own, returns_well}
-use Rattle.frame_facts.specs.After.{effect, returned, gone_on, after_of}
+use Rattle.frame_facts.specs.After.{nature_effect, effect, returned, gone_on, after_of}
 use Rattle.frame_facts.proofs.Vaguer.{source_vaguer, with_vaguer, lost_vaguer, clobbered_vaguer}
 
 -- ---- words of the stack
@@ -182,42 +183,35 @@ mem_sp_vaguer : (p : Prologue) (load : Bool) (t : ℕ) (off : ℤ) (f g : Fact) 
 mem_sp_vaguer p load t off f g x =
     pick_fact load (with_source f t (stack_word p f off)) (with_source g t (stack_word p g off)) f g (with_vaguer f g t (stack_word p f off) (stack_word p g off) x (stack_word_vaguer p f g off x)) x
 
+nature_effect_vaguer : (p : Prologue) (lowers : Bool) (at : ℕ) (n : Nature) (f g : Fact) → IsAtMost f g → NoVaguer (nature_effect p lowers at n f) (nature_effect p lowers at n g)
+nature_effect_vaguer p lowers at (Derives (Shifts op d m n)) f g x = always (shift_imm op d m n f) (shift_imm op d m n g) (shift_vaguer op d m n f g x)
+nature_effect_vaguer p lowers at (Works d) f g x = always (lost d f) (lost d g) (lost_vaguer f g d x)
+nature_effect_vaguer p lowers at (Derives (AddsThree sub d n imm)) f g x = always (add_sub_imm3 sub d n imm f) (add_sub_imm3 sub d n imm g) (imm3_vaguer sub d n imm f g x)
+nature_effect_vaguer p lowers at (Derives (AddsEight op d imm)) f g x = always (imm8 op d imm f) (imm8 op d imm g) (imm8_vaguer op d imm f g x)
+nature_effect_vaguer p lowers at (Derives (Combines op d m)) f g x = always (alu op d f) (alu op d g) (or_lost (eqb op 8 || eqb op 10 || eqb op 11) d f g x)
+nature_effect_vaguer p lowers at (AddsHigh d m) f g x = add_high_vaguer d f g x
+nature_effect_vaguer p lowers at Idles f g x = always f g x
+nature_effect_vaguer p lowers at (MovesHigh d m) f g x = mov_high_vaguer p lowers d m f g x
+nature_effect_vaguer p lowers at (Goes (ReturnsBy m)) f g x = always f g x
+nature_effect_vaguer p lowers at (Transfers (NearPc t off)) f g x = always (lost t f) (lost t g) (lost_vaguer f g t x)
+nature_effect_vaguer p lowers at (Transfers (AtSum op t n m)) f g x = always (mem_reg op t f) (mem_reg op t g) (or_lost (ltb op 3) t f g x)
+nature_effect_vaguer p lowers at (Transfers (AtOffset op t n off)) f g x = always (mem_imm op t f) (mem_imm op t g) (lost_or (eqb op 1 || eqb op 3 || eqb op 5) t f g x)
+nature_effect_vaguer p lowers at (Transfers (AtSp load t off)) f g x = always (mem_sp p load t off f) (mem_sp p load t off g) (mem_sp_vaguer p load t off f g x)
+nature_effect_vaguer p lowers at (Derives (AddsToSp d off)) f g x = always (with_source f d (sp_plus f off)) (with_source g d (sp_plus g off)) (with_vaguer f g d (sp_plus f off) (sp_plus g off) x (sp_plus_vaguer f g off x))
+nature_effect_vaguer p lowers at (RaisesSp off) f g x = subst (λ d. NoVaguer (to_depth p (pos f.depth -ℤ off) f) (to_depth p (pos d -ℤ off) g)) x.depth (to_depth_vaguer p (pos f.depth -ℤ off) f g x)
+nature_effect_vaguer p lowers at (LowersSp off) f g x = subst (λ d. NoVaguer (to_depth p (pos f.depth +ℤ off) f) (to_depth p (pos d +ℤ off) g)) x.depth (to_depth_vaguer p (pos f.depth +ℤ off) f g x)
+nature_effect_vaguer p lowers at (PushesList list) f g x = push_vaguer p at list f g x
+nature_effect_vaguer p lowers at (PopsList list) f g x = pop_vaguer p list f g x
+nature_effect_vaguer p lowers at (StoresList n list) f g x = always (lost n f) (lost n g) (lost_vaguer f g n x)
+nature_effect_vaguer p lowers at (LoadsList n list) f g x = always (ldm n list f) (ldm n list g) (lost_vaguer (clobbered (listed list) f) (clobbered (listed list) g) n (clobbered_vaguer (listed list) f g x))
+nature_effect_vaguer p lowers at (Goes (BranchesIf cc off)) f g x = always f g x
+nature_effect_vaguer p lowers at (Goes (Gates imm)) f g x = always (clobbered gate_changes f) (clobbered gate_changes g) (clobbered_vaguer gate_changes f g x)
+nature_effect_vaguer p lowers at (Goes (BranchesTo off)) f g x = always f g x
+nature_effect_vaguer p lowers at (Goes (Calls off)) f g x = always (clobbered call_changes f) (clobbered call_changes g) (clobbered_vaguer call_changes f g x)
+nature_effect_vaguer p lowers at (Goes (BranchesOn nonzero n off)) f g x = always f g x
+
 pub effect_vaguer : (p : Prologue) (lowers : Bool) (at : ℕ) (i : Instr) (f g : Fact) → IsAtMost f g → NoVaguer (effect p lowers at i f) (effect p lowers at i g)
-effect_vaguer p lowers at (ShiftImm op d m n) f g x = always (shift_imm op d m n f) (shift_imm op d m n g) (shift_vaguer op d m n f g x)
-effect_vaguer p lowers at (AddSubReg sub d n m) f g x = always (lost d f) (lost d g) (lost_vaguer f g d x)
-effect_vaguer p lowers at (AddSubImm3 sub d n imm) f g x = always (add_sub_imm3 sub d n imm f) (add_sub_imm3 sub d n imm g) (imm3_vaguer sub d n imm f g x)
-effect_vaguer p lowers at (Imm8 op d imm) f g x = always (imm8 op d imm f) (imm8 op d imm g) (imm8_vaguer op d imm f g x)
-effect_vaguer p lowers at (Alu op d m) f g x = always (alu op d f) (alu op d g) (or_lost (eqb op 8 || eqb op 10 || eqb op 11) d f g x)
-effect_vaguer p lowers at (AddHigh d m) f g x = add_high_vaguer d f g x
-effect_vaguer p lowers at (CmpHigh n m) f g x = always f g x
-effect_vaguer p lowers at (MovHigh d m) f g x = mov_high_vaguer p lowers d m f g x
-effect_vaguer p lowers at (Bx m) f g x = always f g x
-effect_vaguer p lowers at (Blx m) f g x = always (clobbered call_changes f) (clobbered call_changes g) (clobbered_vaguer call_changes f g x)
-effect_vaguer p lowers at (LdrLit t off) f g x = always (lost t f) (lost t g) (lost_vaguer f g t x)
-effect_vaguer p lowers at (MemReg op t n m) f g x = always (mem_reg op t f) (mem_reg op t g) (or_lost (ltb op 3) t f g x)
-effect_vaguer p lowers at (MemImm op t n off) f g x = always (mem_imm op t f) (mem_imm op t g) (lost_or (eqb op 1 || eqb op 3 || eqb op 5) t f g x)
-effect_vaguer p lowers at (MemSp load t off) f g x = always (mem_sp p load t off f) (mem_sp p load t off g) (mem_sp_vaguer p load t off f g x)
-effect_vaguer p lowers at (Adr d off) f g x = always (lost d f) (lost d g) (lost_vaguer f g d x)
-effect_vaguer p lowers at (AddRdSp d off) f g x = always (with_source f d (sp_plus f off)) (with_source g d (sp_plus g off)) (with_vaguer f g d (sp_plus f off) (sp_plus g off) x (sp_plus_vaguer f g off x))
-effect_vaguer p lowers at (AddSp off) f g x = subst (λ d. NoVaguer (to_depth p (pos f.depth -ℤ off) f) (to_depth p (pos d -ℤ off) g)) x.depth (to_depth_vaguer p (pos f.depth -ℤ off) f g x)
-effect_vaguer p lowers at (SubSp off) f g x = subst (λ d. NoVaguer (to_depth p (pos f.depth +ℤ off) f) (to_depth p (pos d +ℤ off) g)) x.depth (to_depth_vaguer p (pos f.depth +ℤ off) f g x)
-effect_vaguer p lowers at (Extend op d m) f g x = always (lost d f) (lost d g) (lost_vaguer f g d x)
-effect_vaguer p lowers at (Rev op d m) f g x = always (lost d f) (lost d g) (lost_vaguer f g d x)
-effect_vaguer p lowers at (Push list) f g x = push_vaguer p at list f g x
-effect_vaguer p lowers at (Pop list) f g x = pop_vaguer p list f g x
-effect_vaguer p lowers at (Hint n) f g x = always f g x
-effect_vaguer p lowers at (Stm n list) f g x = always (lost n f) (lost n g) (lost_vaguer f g n x)
-effect_vaguer p lowers at (Ldm n list) f g x = always (ldm n list f) (ldm n list g) (lost_vaguer (clobbered (listed list) f) (clobbered (listed list) g) n (clobbered_vaguer (listed list) f g x))
-effect_vaguer p lowers at (BCond cc off) f g x = always f g x
-effect_vaguer p lowers at (Svc imm) f g x = always (clobbered gate_changes f) (clobbered gate_changes g) (clobbered_vaguer gate_changes f g x)
-effect_vaguer p lowers at (B off) f g x = always f g x
-effect_vaguer p lowers at (Bl off) f g x = always (clobbered call_changes f) (clobbered call_changes g) (clobbered_vaguer call_changes f g x)
-effect_vaguer p lowers at (Barrier op option) f g x = always f g x
-effect_vaguer p lowers at (Cbz nonzero n off) f g x = always f g x
-effect_vaguer p lowers at (BWide off) f g x = always f g x
-effect_vaguer p lowers at (MovW d imm) f g x = always (lost d f) (lost d g) (lost_vaguer f g d x)
-effect_vaguer p lowers at (MovT d imm) f g x = always (lost d f) (lost d g) (lost_vaguer f g d x)
-effect_vaguer p lowers at (Div signed d n m) f g x = always (lost d f) (lost d g) (lost_vaguer f g d x)
+effect_vaguer p lowers at i f g x = nature_effect_vaguer p lowers at (nature i) f g x
 
 -- ---- branches and returns
 

@@ -2,7 +2,7 @@
 use Rattle.std.specs.Prelude.{ℕ, Bool, false, if◌then◌else◌, Option, Some, None, Result, Ok, Err, pos, ◌+ℤ◌, ◌-ℤ◌, is_none, not}
 use Rattle.std.specs.Option.{option_map_or}
 use Rattle.thumb_isa.specs.declared.instr.Instr.{Instr}
-use Rattle.thumb_isa.specs.declared.instr.Instr.TheVariants.{ShiftImm, AddSubReg, AddSubImm3, Imm8, Alu, AddHigh, CmpHigh, MovHigh, Bx, Blx, LdrLit, MemReg, MemImm, MemSp, Adr, AddRdSp, AddSp, SubSp, Extend, Rev, Push, Pop, Hint, Stm, Ldm, BCond, Svc, B, Bl, Barrier, Cbz, BWide, MovW, MovT, Div}
+use Rattle.thumb_isa.specs.Nature.{Derived, Shifts, AddsThree, AddsEight, Combines, AddsToSp, Transfer, NearPc, AtSum, AtOffset, AtSp, Branch, BranchesTo, BranchesIf, BranchesOn, Calls, ReturnsBy, Gates, Nature, Works, Idles, Derives, AddsHigh, MovesHigh, Transfers, StoresList, LoadsList, RaisesSp, LowersSp, PushesList, PopsList, Goes, nature}
 use Rattle.frame_facts.specs.declared.cause.FrameCause.{FrameCause}
 use Rattle.frame_facts.specs.declared.cause.FrameCause.TheVariants.{IndirectBranch, SpWrite, ReturnState}
 use Rattle.frame_facts.specs.declared.facts.Source.{Source}
@@ -16,43 +16,48 @@ use Rattle.frame_facts.specs.Access.{mem_reg, mem_imm, mem_sp}
 use Rattle.frame_facts.specs.Lists.{push, pop, ldm}
 use Rattle.frame_facts.specs.Branches.{call_changes, gate_changes, is_indirect, return_to, returns_well}
 
+-- the fact after a value was derived
+abbrev pub derived : Derived → Fact → Fact
+derived (Shifts op d m n) f = shift_imm op d m n f
+derived (AddsThree sub d n imm) f = add_sub_imm3 sub d n imm f
+derived (AddsEight op d imm) f = imm8 op d imm f
+derived (Combines op d m) f = alu op d f
+derived (AddsToSp d off) f = with_source f d (sp_plus f off)
+
+-- after a load or a store of one register
+abbrev pub transferred : Prologue → Transfer → Fact → Fact
+transferred p (NearPc t off) f = lost t f
+transferred p (AtSum op t n m) f = mem_reg op t f
+transferred p (AtOffset op t n off) f = mem_imm op t f
+transferred p (AtSp load t off) f = mem_sp p load t off f
+
+-- after a branch; and after a call or a gate has come back
+abbrev pub gone : Branch → Fact → Fact
+gone (BranchesTo off) f = f
+gone (BranchesIf cond off) f = f
+gone (BranchesOn nonzero n off) f = f
+gone (Calls off) f = clobbered call_changes f
+gone (ReturnsBy m) f = f
+gone (Gates number) f = clobbered gate_changes f
+
 -- the fact after an instruction at an address, where sp is written as it may be
+abbrev pub nature_effect : Prologue → Bool → ℕ → Nature → Fact → Option Fact
+nature_effect p lowers at (Works d) f = Some (lost d f)
+nature_effect p lowers at Idles f = Some f
+nature_effect p lowers at (Derives v) f = Some (derived v f)
+nature_effect p lowers at (AddsHigh d m) f = add_high d f
+nature_effect p lowers at (MovesHigh d m) f = mov_high p lowers d m f
+nature_effect p lowers at (Transfers t) f = Some (transferred p t f)
+nature_effect p lowers at (StoresList n list) f = Some (lost n f)
+nature_effect p lowers at (LoadsList n list) f = Some (ldm n list f)
+nature_effect p lowers at (RaisesSp off) f = to_depth p (pos f.depth -ℤ off) f
+nature_effect p lowers at (LowersSp off) f = to_depth p (pos f.depth +ℤ off) f
+nature_effect p lowers at (PushesList list) f = push p at list f
+nature_effect p lowers at (PopsList list) f = pop p list f
+nature_effect p lowers at (Goes b) f = Some (gone b f)
+
 abbrev pub effect : Prologue → Bool → ℕ → Instr → Fact → Option Fact
-effect p lowers at (ShiftImm op d m n) f = Some (shift_imm op d m n f)
-effect p lowers at (AddSubReg sub d n m) f = Some (lost d f)
-effect p lowers at (AddSubImm3 sub d n imm) f = Some (add_sub_imm3 sub d n imm f)
-effect p lowers at (Imm8 op d imm) f = Some (imm8 op d imm f)
-effect p lowers at (Alu op d m) f = Some (alu op d f)
-effect p lowers at (AddHigh d m) f = add_high d f
-effect p lowers at (CmpHigh n m) f = Some f
-effect p lowers at (MovHigh d m) f = mov_high p lowers d m f
-effect p lowers at (Bx m) f = Some f
-effect p lowers at (Blx m) f = Some (clobbered call_changes f)
-effect p lowers at (LdrLit t off) f = Some (lost t f)
-effect p lowers at (MemReg op t n m) f = Some (mem_reg op t f)
-effect p lowers at (MemImm op t n off) f = Some (mem_imm op t f)
-effect p lowers at (MemSp load t off) f = Some (mem_sp p load t off f)
-effect p lowers at (Adr d off) f = Some (lost d f)
-effect p lowers at (AddRdSp d off) f = Some (with_source f d (sp_plus f off))
-effect p lowers at (AddSp off) f = to_depth p (pos f.depth -ℤ off) f
-effect p lowers at (SubSp off) f = to_depth p (pos f.depth +ℤ off) f
-effect p lowers at (Extend op d m) f = Some (lost d f)
-effect p lowers at (Rev op d m) f = Some (lost d f)
-effect p lowers at (Push list) f = push p at list f
-effect p lowers at (Pop list) f = pop p list f
-effect p lowers at (Hint n) f = Some f
-effect p lowers at (Stm n list) f = Some (lost n f)
-effect p lowers at (Ldm n list) f = Some (ldm n list f)
-effect p lowers at (BCond cc off) f = Some f
-effect p lowers at (Svc imm) f = Some (clobbered gate_changes f)
-effect p lowers at (B off) f = Some f
-effect p lowers at (Bl off) f = Some (clobbered call_changes f)
-effect p lowers at (Barrier op option) f = Some f
-effect p lowers at (Cbz nonzero n off) f = Some f
-effect p lowers at (BWide off) f = Some f
-effect p lowers at (MovW d imm) f = Some (lost d f)
-effect p lowers at (MovT d imm) f = Some (lost d f)
-effect p lowers at (Div signed d n m) f = Some (lost d f)
+effect p lowers at i f = nature_effect p lowers at (nature i) f
 
 -- ---- the causes, each by itself
 

@@ -1,8 +1,9 @@
 -- What a fact says of the machine's registers, and that the effects of the instructions that work on registers keep it so.
-use Rattle.std.specs.Prelude.{ℕ, ◌≡◌, ◌≢◌, ◌<◌, ◌≤◌, ◌+◌, ◌^◌, ◌==◌, Bool, false, List, length, Option, Some, None, pos}
+use Rattle.std.specs.Prelude.{ℕ, ◌≡◌, ◌≢◌, ◌<◌, ◌≤◌, ◌+◌, ◌^◌, ◌==◌, Bool, false, List, length, Option, Some, None, pos, negsuc}
 use Rattle.std.specs.List.{list_any}
 use Rattle.thumb_isa.specs.declared.instr.Instr.{Instr}
-use Rattle.thumb_isa.specs.declared.instr.Instr.TheVariants.{MovHigh, ShiftImm, AddSubReg, AddSubImm3, Imm8, Alu, Adr, AddRdSp, Extend, Rev, MovW, MovT, Div}
+use Rattle.thumb_isa.specs.declared.instr.Instr.TheVariants.{MovHigh}
+use Rattle.thumb_isa.specs.Nature.{Derived, Shifts, AddsThree, AddsEight, Combines, AddsToSp, Nature, Works, Idles, Derives, AddsHigh, MovesHigh, Transfers, StoresList, LoadsList, RaisesSp, LowersSp, PushesList, PopsList, Goes, nature}
 use Rattle.thumb_core.specs.declared.regs.Regs.{Regs}
 use Rattle.thumb_core.specs.Registers.{reg}
 use Rattle.thumb_core.specs.Branch.{mov_high}
@@ -35,20 +36,31 @@ pub record IsRoomy (cfa : ℕ) (regs : Regs) : Type 0 where
   pub top : cfa < 2 ^ 32
 
 -- the register that an instruction of the data group works on
+abbrev pub derived_on : Derived → Option ℕ
+derived_on (Shifts op d m n) = Some d
+derived_on (AddsThree sub d n imm) = Some d
+derived_on (AddsEight op d imm) = Some d
+derived_on (Combines op d m) = Some d
+derived_on (AddsToSp d (pos off)) = Some d
+derived_on (AddsToSp d (negsuc off)) = None
+
+abbrev pub nature_works_on : Nature → Option ℕ
+nature_works_on (Works d) = Some d
+nature_works_on Idles = None
+nature_works_on (Derives v) = derived_on v
+nature_works_on (AddsHigh d m) = None
+nature_works_on (MovesHigh d m) = None
+nature_works_on (Transfers t) = None
+nature_works_on (StoresList n list) = None
+nature_works_on (LoadsList n list) = None
+nature_works_on (RaisesSp off) = None
+nature_works_on (LowersSp off) = None
+nature_works_on (PushesList list) = None
+nature_works_on (PopsList list) = None
+nature_works_on (Goes b) = None
+
 abbrev pub works_on : Instr → Option ℕ
-works_on (ShiftImm op d m n) = Some d
-works_on (AddSubReg sub d n m) = Some d
-works_on (AddSubImm3 sub d n imm) = Some d
-works_on (Imm8 op d imm) = Some d
-works_on (Alu op d m) = Some d
-works_on (Adr d off) = Some d
-works_on (AddRdSp d (pos off)) = Some d
-works_on (Extend op d m) = Some d
-works_on (Rev op d m) = Some d
-works_on (MovW d imm) = Some d
-works_on (MovT d imm) = Some d
-works_on (Div signed d n m) = Some d
-works_on i = None
+works_on i = nature_works_on (nature i)
 
 -- Where a fact describes the registers before such an instruction, which works on another register than sp, the fact after it describes
 -- those that it leaves.

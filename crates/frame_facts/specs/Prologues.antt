@@ -4,7 +4,7 @@ use Rattle.std.specs.List.{list_any}
 use Rattle.std.specs.Option.{option_map_or}
 use Rattle.thumb_core.specs.Words.{listed}
 use Rattle.thumb_isa.specs.declared.instr.Instr.{Instr}
-use Rattle.thumb_isa.specs.declared.instr.Instr.TheVariants.{ShiftImm, AddSubReg, AddSubImm3, Imm8, Alu, AddHigh, CmpHigh, MovHigh, Bx, Blx, LdrLit, MemReg, MemImm, MemSp, Adr, AddRdSp, AddSp, SubSp, Extend, Rev, Push, Pop, Hint, Stm, Ldm, BCond, Svc, B, Bl, Barrier, Cbz, BWide, MovW, MovT, Div}
+use Rattle.thumb_isa.specs.Nature.{Derived, Shifts, AddsThree, AddsEight, Combines, AddsToSp, Transfer, NearPc, AtSum, AtOffset, AtSp, Nature, Works, Idles, Derives, AddsHigh, MovesHigh, Transfers, StoresList, LoadsList, RaisesSp, LowersSp, PushesList, PopsList, Goes, nature}
 use Rattle.frame_facts.specs.declared.facts.Source.{Source}
 use Rattle.frame_facts.specs.declared.facts.Source.TheVariants.{Entry, SpAt, Other}
 use Rattle.frame_facts.specs.declared.facts.Fact.{Fact}
@@ -24,44 +24,39 @@ is_callers reg = (nat_le 4 reg && nat_lt reg 12) || (reg == 14)
 abbrev pub is_free : ℕ → Bool
 is_free reg = not (is_callers reg) && not (reg == 13) && not (reg == 15)
 
+-- what may be derived in the run, and loaded or stored
+abbrev pub may_derive : Derived → Bool
+may_derive (Shifts op d m n) = is_free d
+may_derive (AddsThree sub d n imm) = is_free d
+may_derive (AddsEight op d imm) = (op == 1) || is_free d
+may_derive (Combines op d m) = (op == 8) || (op == 10) || (op == 11) || is_free d
+may_derive (AddsToSp d off) = true
+
+abbrev pub may_transfer : Transfer → Bool
+may_transfer (NearPc t off) = is_free t
+may_transfer (AtSum op t n m) = nat_lt op 3 || is_free t
+may_transfer (AtOffset op t n off) = not ((op == 1) || (op == 3) || (op == 5)) || is_free t
+may_transfer (AtSp load t off) = not load || is_free t
+
 -- An instruction that may stand in the run: no branch, call, gate or return; PUSH and SUB alone write sp, MOV and ADD from sp alone
 -- write a register that is the caller's.
+abbrev pub nature_may_stand : Nature → Bool
+nature_may_stand (Works d) = is_free d
+nature_may_stand Idles = true
+nature_may_stand (Derives v) = may_derive v
+nature_may_stand (AddsHigh d m) = is_free d
+nature_may_stand (MovesHigh d m) = not (d == 13) && not (d == 15)
+nature_may_stand (Transfers t) = may_transfer t
+nature_may_stand (StoresList n list) = is_free n
+nature_may_stand (LoadsList n list) = is_free n && not (list_any (λ reg. not (is_free reg)) (listed list))
+nature_may_stand (RaisesSp off) = false
+nature_may_stand (LowersSp off) = true
+nature_may_stand (PushesList list) = true
+nature_may_stand (PopsList list) = false
+nature_may_stand (Goes b) = false
+
 abbrev pub may_stand : Instr → Bool
-may_stand (ShiftImm op d m n) = is_free d
-may_stand (AddSubReg sub d n m) = is_free d
-may_stand (AddSubImm3 sub d n imm) = is_free d
-may_stand (Imm8 op d imm) = (op == 1) || is_free d
-may_stand (Alu op d m) = (op == 8) || (op == 10) || (op == 11) || is_free d
-may_stand (AddHigh d m) = is_free d
-may_stand (CmpHigh n m) = true
-may_stand (MovHigh d m) = not (d == 13) && not (d == 15)
-may_stand (Bx m) = false
-may_stand (Blx m) = false
-may_stand (LdrLit t off) = is_free t
-may_stand (MemReg op t n m) = nat_lt op 3 || is_free t
-may_stand (MemImm op t n off) = not ((op == 1) || (op == 3) || (op == 5)) || is_free t
-may_stand (MemSp load t off) = not load || is_free t
-may_stand (Adr d off) = is_free d
-may_stand (AddRdSp d off) = true
-may_stand (AddSp off) = false
-may_stand (SubSp off) = true
-may_stand (Extend op d m) = is_free d
-may_stand (Rev op d m) = is_free d
-may_stand (Push list) = true
-may_stand (Pop list) = false
-may_stand (Hint n) = true
-may_stand (Stm n list) = is_free n
-may_stand (Ldm n list) = is_free n && not (list_any (λ reg. not (is_free reg)) (listed list))
-may_stand (BCond cc off) = false
-may_stand (Svc imm) = false
-may_stand (B off) = false
-may_stand (Bl off) = false
-may_stand (Barrier op option) = true
-may_stand (Cbz nonzero n off) = false
-may_stand (BWide off) = false
-may_stand (MovW d imm) = is_free d
-may_stand (MovT d imm) = is_free d
-may_stand (Div signed d n m) = is_free d
+may_stand i = nature_may_stand (nature i)
 
 -- a word at an offset saves a register where the value that it holds is the entry's of one that is the caller's
 abbrev pub saved : ℕ → Source → Option Save
@@ -79,9 +74,23 @@ abbrev pub with_pushed : Prologue → Fact → List ℕ → Option Prologue
 with_pushed p f [] = Some p
 with_pushed p f (reg ∷ more) = option_and_then (with_save (saved (f.depth + 4 * length (reg ∷ more)) (source f reg))) (with_pushed p f more)
 
+abbrev pub nature_pushed_by : Straight → Nature → Option Prologue
+nature_pushed_by s (PushesList list) = with_pushed s.prologue s.fact (listed list)
+nature_pushed_by s (Works d) = Some s.prologue
+nature_pushed_by s Idles = Some s.prologue
+nature_pushed_by s (Derives v) = Some s.prologue
+nature_pushed_by s (AddsHigh d m) = Some s.prologue
+nature_pushed_by s (MovesHigh d m) = Some s.prologue
+nature_pushed_by s (Transfers t) = Some s.prologue
+nature_pushed_by s (StoresList n list) = Some s.prologue
+nature_pushed_by s (LoadsList n list) = Some s.prologue
+nature_pushed_by s (RaisesSp off) = Some s.prologue
+nature_pushed_by s (LowersSp off) = Some s.prologue
+nature_pushed_by s (PopsList list) = Some s.prologue
+nature_pushed_by s (Goes b) = Some s.prologue
+
 abbrev pub pushed_by : Straight → Instr → Option Prologue
-pushed_by s (Push list) = with_pushed s.prologue s.fact (listed list)
-pushed_by s i = Some s.prologue
+pushed_by s i = nature_pushed_by s (nature i)
 
 -- the run with its end after an instruction of so many bytes
 abbrev pub ended : Straight → Instr → ℕ → Prologue → Option Straight

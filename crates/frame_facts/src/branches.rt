@@ -10,6 +10,7 @@ use crate::lists;
 use crate::saves::Prologue;
 use thumb_core::calls::{CALL_CHANGES, GATE_CHANGES};
 use thumb_isa::instr::Instr;
+use thumb_isa::plain;
 
 /// A call, after its return.
 pub(crate) fn call(fact: &Fact) -> Fact
@@ -32,38 +33,20 @@ pub(crate) fn is_indirect(fact: &Fact, i: &Instr) -> bool
     match *i {
         Instr::MovHigh { d, .. } | Instr::AddHigh { d, .. } => d == 15,
         Instr::Bx { m } => !fact.source(m).is_entry(14),
-        Instr::ShiftImm { .. }
-        | Instr::AddSubReg { .. }
-        | Instr::AddSubImm3 { .. }
-        | Instr::Imm8 { .. }
-        | Instr::Alu { .. }
-        | Instr::CmpHigh { .. }
-        | Instr::Blx { .. }
-        | Instr::LdrLit { .. }
-        | Instr::MemReg { .. }
-        | Instr::MemImm { .. }
-        | Instr::MemSp { .. }
-        | Instr::Adr { .. }
-        | Instr::AddRdSp { .. }
+        plain!()
         | Instr::AddSp { .. }
         | Instr::SubSp { .. }
-        | Instr::Extend { .. }
-        | Instr::Rev { .. }
         | Instr::Push { .. }
         | Instr::Pop { .. }
-        | Instr::Hint { .. }
         | Instr::Stm { .. }
         | Instr::Ldm { .. }
-        | Instr::BCond { .. }
-        | Instr::Svc { .. }
         | Instr::B { .. }
-        | Instr::Bl { .. }
-        | Instr::Barrier { .. }
-        | Instr::Cbz { .. }
         | Instr::BWide { .. }
-        | Instr::MovW { .. }
-        | Instr::MovT { .. }
-        | Instr::Div { .. } => false,
+        | Instr::BCond { .. }
+        | Instr::Cbz { .. }
+        | Instr::Bl { .. }
+        | Instr::Blx { .. }
+        | Instr::Svc { .. } => false,
     }
 }
 
@@ -74,39 +57,21 @@ pub(crate) fn return_to(p: &Prologue, fact: &Fact, i: &Instr) -> Option<Source>
     match *i {
         Instr::Bx { m } => Some(fact.source(m)),
         Instr::Pop { list } => lists::popped_pc(p, fact, list),
-        Instr::ShiftImm { .. }
-        | Instr::AddSubReg { .. }
-        | Instr::AddSubImm3 { .. }
-        | Instr::Imm8 { .. }
-        | Instr::Alu { .. }
+        plain!()
         | Instr::AddHigh { .. }
-        | Instr::CmpHigh { .. }
         | Instr::MovHigh { .. }
-        | Instr::Blx { .. }
-        | Instr::LdrLit { .. }
-        | Instr::MemReg { .. }
-        | Instr::MemImm { .. }
-        | Instr::MemSp { .. }
-        | Instr::Adr { .. }
-        | Instr::AddRdSp { .. }
         | Instr::AddSp { .. }
         | Instr::SubSp { .. }
-        | Instr::Extend { .. }
-        | Instr::Rev { .. }
         | Instr::Push { .. }
-        | Instr::Hint { .. }
         | Instr::Stm { .. }
         | Instr::Ldm { .. }
-        | Instr::BCond { .. }
-        | Instr::Svc { .. }
         | Instr::B { .. }
-        | Instr::Bl { .. }
-        | Instr::Barrier { .. }
-        | Instr::Cbz { .. }
         | Instr::BWide { .. }
-        | Instr::MovW { .. }
-        | Instr::MovT { .. }
-        | Instr::Div { .. } => None,
+        | Instr::BCond { .. }
+        | Instr::Cbz { .. }
+        | Instr::Bl { .. }
+        | Instr::Blx { .. }
+        | Instr::Svc { .. } => None,
     }
 }
 

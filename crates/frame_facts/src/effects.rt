@@ -11,47 +11,39 @@ use crate::lists::{ldm, pop, push};
 use crate::saves::Prologue;
 use crate::shifts::shift_imm;
 use thumb_isa::instr::Instr;
+use thumb_isa::{idles, works};
 
 /// The fact after an instruction at the address `at`; `None` where sp is written as it may not be.
 pub(crate) fn effect(fact: &Fact, i: &Instr, at: u32, p: &Prologue, lowers: bool) -> Option<Fact>
     ensures { result ≡ effect p.now lowers at i.now fact.now }
 {
     match *i {
+        works!(d) => Some(fact.with(d, Source::Other)),
+        idles!() => Some(*fact),
         Instr::ShiftImm { op, d, m, n } => Some(shift_imm(fact, op, d, m, n)),
-        Instr::AddSubReg { d, .. } => Some(fact.with(d, Source::Other)),
         Instr::AddSubImm3 { sub, d, n, imm } => Some(add_sub_imm3(fact, sub, d, n, imm)),
         Instr::Imm8 { op, d, imm } => Some(imm8(fact, op, d, imm)),
         Instr::Alu { op, d, .. } => Some(alu(fact, op, d)),
+        Instr::AddRdSp { d, off } => Some(fact.with(d, fact.sp_plus(off))),
         Instr::AddHigh { d, .. } => add_high(fact, d),
-        Instr::CmpHigh { .. } => Some(*fact),
         Instr::MovHigh { d, m } => mov_high(p, fact, lowers, d, m),
-        Instr::Bx { .. } => Some(*fact),
-        Instr::Blx { .. } => Some(call(fact)),
         Instr::LdrLit { t, .. } => Some(fact.with(t, Source::Other)),
         Instr::MemReg { op, t, .. } => Some(mem_reg(fact, op, t)),
         Instr::MemImm { op, t, .. } => Some(mem_imm(fact, op, t)),
         Instr::MemSp { load, t, off } => Some(mem_sp(p, fact, load, t, off)),
-        Instr::Adr { d, .. } => Some(fact.with(d, Source::Other)),
-        Instr::AddRdSp { d, off } => Some(fact.with(d, fact.sp_plus(off))),
-        Instr::AddSp { off } => p.to_depth(fact, i64::from(fact.depth) - i64::from(off)),
-        Instr::SubSp { off } => p.to_depth(fact, i64::from(fact.depth) + i64::from(off)),
-        Instr::Extend { d, .. } => Some(fact.with(d, Source::Other)),
-        Instr::Rev { d, .. } => Some(fact.with(d, Source::Other)),
-        Instr::Push { list } => push(p, fact, at, list),
-        Instr::Pop { list } => pop(p, fact, list),
-        Instr::Hint { .. } => Some(*fact),
         Instr::Stm { n, .. } => Some(fact.with(n, Source::Other)),
         Instr::Ldm { n, list } => Some(ldm(fact, n, list)),
-        Instr::BCond { .. } => Some(*fact),
+        Instr::AddSp { off } => p.to_depth(fact, i64::from(fact.depth) - i64::from(off)),
+        Instr::SubSp { off } => p.to_depth(fact, i64::from(fact.depth) + i64::from(off)),
+        Instr::Push { list } => push(p, fact, at, list),
+        Instr::Pop { list } => pop(p, fact, list),
+        Instr::B { .. }
+        | Instr::BWide { .. }
+        | Instr::BCond { .. }
+        | Instr::Cbz { .. }
+        | Instr::Bx { .. } => Some(*fact),
+        Instr::Bl { .. } | Instr::Blx { .. } => Some(call(fact)),
         Instr::Svc { .. } => Some(gate(fact)),
-        Instr::B { .. } => Some(*fact),
-        Instr::Bl { .. } => Some(call(fact)),
-        Instr::Barrier { .. } => Some(*fact),
-        Instr::Cbz { .. } => Some(*fact),
-        Instr::BWide { .. } => Some(*fact),
-        Instr::MovW { d, .. } => Some(fact.with(d, Source::Other)),
-        Instr::MovT { d, .. } => Some(fact.with(d, Source::Other)),
-        Instr::Div { d, .. } => Some(fact.with(d, Source::Other)),
     }
 }
 

@@ -1,7 +1,7 @@
 //! Facts: what is known of registers and stack at a place, what two of them have in common. docs/acceptance.md, "Facts".
 ghost use Rattle.std.specs.Prelude.{◌≡◌, ℕ, ◌+◌, ◌-◌, ◌*◌, ◌<◌, ◌≤◌, ◌^◌, ◌==◌, ℤ, pos, ◌+ℤ◌, ◌-ℤ◌, length, IsTrue, ◌↔◌};
 ghost use Rattle.thumb_core.specs.Words.{listed};
-ghost use Rattle.frame_facts.specs.Facts.{source, with_source, entered, bounded_depth, sp_at, sp_plus, shifted, is_entry, clobbered, met_source, same_source, same_sources, same_fact, join_of};
+ghost use Rattle.frame_facts.specs.Facts.{source, with_source, entered, bounded_depth, sp_at, sp_plus, shifted, is_entry, lost, clobbered, met_source, same_source, same_sources, same_fact, join_of};
 
 /// The greatest depth of a frame, and of a place that a register is known to hold, in bytes below the CFA.
 pub const DEEPEST: u32 = 65_536;
@@ -152,6 +152,17 @@ impl Fact {
         }
     }
 
+    /// Nothing is known of a register any more.
+    fn lose(&mut self, reg: u8)
+        ensures { self.new ≡ lost reg self.old }
+    {
+        if reg < 13 {
+            self.regs[reg as usize] = Source::Other;
+        } else if reg == 14 {
+            self.regs[13] = Source::Other;
+        }
+    }
+
     /// The value of sp plus an offset.
     pub(crate) fn sp_plus(&self, offset: i32) -> Source
         ensures { result ≡ sp_plus self.now offset }
@@ -171,7 +182,7 @@ pub fn clobber(fact: &Fact, list: u16) -> Fact
     let mut left = *fact;
     for k in 0..16u8 {
         if (list >> k) & 1 == 1 {
-            left = left.with(k, Source::Other);
+            left.lose(k);
         }
     }
     left

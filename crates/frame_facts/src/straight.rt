@@ -8,6 +8,7 @@ use crate::effects::effect;
 use crate::facts::{DEEPEST, Fact, Source, entry_fact};
 use crate::saves::{MOST_SAVES, Prologue, Save};
 use thumb_isa::instr::Instr;
+use thumb_isa::{idles, plain, works};
 
 /// The run so far: the fact after it, and the prologue that it is.
 #[derive(Clone, Copy, PartialEq, Eq, Debug)]
@@ -51,41 +52,32 @@ fn may_stand(i: &Instr) -> bool
     ensures { result ≡ may_stand i.now }
 {
     match *i {
+        works!(d) => is_free(d),
+        idles!() => true,
         Instr::ShiftImm { d, .. } => is_free(d),
-        Instr::AddSubReg { d, .. } => is_free(d),
         Instr::AddSubImm3 { d, .. } => is_free(d),
         Instr::Imm8 { op, d, .. } => op == 1 || is_free(d),
         Instr::Alu { op, d, .. } => op == 8 || op == 10 || op == 11 || is_free(d),
+        Instr::AddRdSp { .. } => true,
         Instr::AddHigh { d, .. } => is_free(d),
-        Instr::CmpHigh { .. } => true,
         Instr::MovHigh { d, .. } => d != 13 && d != 15,
-        Instr::Bx { .. } => false,
-        Instr::Blx { .. } => false,
         Instr::LdrLit { t, .. } => is_free(t),
         Instr::MemReg { op, t, .. } => op < 3 || is_free(t),
         Instr::MemImm { op, t, .. } => !(op == 1 || op == 3 || op == 5) || is_free(t),
         Instr::MemSp { load, t, .. } => !load || is_free(t),
-        Instr::Adr { d, .. } => is_free(d),
-        Instr::AddRdSp { .. } => true,
-        Instr::AddSp { .. } => false,
-        Instr::SubSp { .. } => true,
-        Instr::Extend { d, .. } => is_free(d),
-        Instr::Rev { d, .. } => is_free(d),
-        Instr::Push { .. } => true,
-        Instr::Pop { .. } => false,
-        Instr::Hint { .. } => true,
         Instr::Stm { n, .. } => is_free(n),
         Instr::Ldm { n, list } => is_free(n) && all_free(list),
-        Instr::BCond { .. } => false,
-        Instr::Svc { .. } => false,
-        Instr::B { .. } => false,
-        Instr::Bl { .. } => false,
-        Instr::Barrier { .. } => true,
-        Instr::Cbz { .. } => false,
-        Instr::BWide { .. } => false,
-        Instr::MovW { d, .. } => is_free(d),
-        Instr::MovT { d, .. } => is_free(d),
-        Instr::Div { d, .. } => is_free(d),
+        Instr::SubSp { .. } | Instr::Push { .. } => true,
+        Instr::AddSp { .. }
+        | Instr::Pop { .. }
+        | Instr::B { .. }
+        | Instr::BWide { .. }
+        | Instr::BCond { .. }
+        | Instr::Cbz { .. }
+        | Instr::Bl { .. }
+        | Instr::Blx { .. }
+        | Instr::Bx { .. }
+        | Instr::Svc { .. } => false,
     }
 }
 
@@ -159,40 +151,22 @@ impl Straight {
     {
         match *i {
             Instr::Push { list } => with_pushed(&self.prologue, &self.fact, list),
-            Instr::ShiftImm { .. }
-            | Instr::AddSubReg { .. }
-            | Instr::AddSubImm3 { .. }
-            | Instr::Imm8 { .. }
-            | Instr::Alu { .. }
+            plain!()
             | Instr::AddHigh { .. }
-            | Instr::CmpHigh { .. }
             | Instr::MovHigh { .. }
-            | Instr::Bx { .. }
-            | Instr::Blx { .. }
-            | Instr::LdrLit { .. }
-            | Instr::MemReg { .. }
-            | Instr::MemImm { .. }
-            | Instr::MemSp { .. }
-            | Instr::Adr { .. }
-            | Instr::AddRdSp { .. }
             | Instr::AddSp { .. }
             | Instr::SubSp { .. }
-            | Instr::Extend { .. }
-            | Instr::Rev { .. }
             | Instr::Pop { .. }
-            | Instr::Hint { .. }
             | Instr::Stm { .. }
             | Instr::Ldm { .. }
-            | Instr::BCond { .. }
-            | Instr::Svc { .. }
             | Instr::B { .. }
-            | Instr::Bl { .. }
-            | Instr::Barrier { .. }
-            | Instr::Cbz { .. }
             | Instr::BWide { .. }
-            | Instr::MovW { .. }
-            | Instr::MovT { .. }
-            | Instr::Div { .. } => Some(self.prologue),
+            | Instr::BCond { .. }
+            | Instr::Cbz { .. }
+            | Instr::Bl { .. }
+            | Instr::Blx { .. }
+            | Instr::Bx { .. }
+            | Instr::Svc { .. } => Some(self.prologue),
         }
     }
 

@@ -1,5 +1,5 @@
 -- What an edge makes of the facts and the work list.
-use Rattle.std.proofs.Common.{ℕ, ◌≡◌, ◌<◌, ◌+◌, map, List, [], ◌∷◌, ◌++◌, length, Option, Some, None, Result, Ok, Err, IfOk, IfErr, sym, subst, ⊎_elim, arith, set, get_or, drop, drop-cons, add-one}
+use Rattle.std.proofs.Common.{ℕ, ◌≡◌, ◌<◌, ◌+◌, map, List, [], ◌∷◌, ◌++◌, length, Option, Some, None, Result, Ok, Err, IfOk, IfErr, ap, sym, subst, ⊎_elim, arith, set, get_or, drop, drop-cons, add-one}
 use Rattle.thumb_core.specs.Words.{listed}
 use Rattle.frame_facts.specs.declared.cause.FrameCause.{FrameCause}
 use Rattle.frame_facts.specs.declared.facts.Fact.{Fact}
@@ -47,6 +47,15 @@ merged_keeps x facts work q g facts' work' todo _ (vaguer h k held met ne is mor
 merged_keeps x facts work q g facts' work' todo _ (parts h held met) s =
     merge_apart Fact FrameCause (flow_of x) IsAtMost (laws x) (count_of x.flow_graph) (inside x) height (top_of x) (falls x) facts work todo q g h (parting x q) s held met (parting_is x q)
 merged_keeps x facts work q g facts' work' todo _ spent s = tt
+
+-- an edge that clobbers nothing leaves the fact as it is
+unclobbered : (list : ℕ) (f : Fact) → list ≡ 0 → clobbered (listed list) f ≡ f
+unfolding listed
+unclobbered list f e = ap (λ (n : ℕ). clobbered (listed n) f) e
+
+pub taken_whole : (x : Framed) (facts : List (Option Fact)) (work : List ℕ) (q list : ℕ) (f : Fact) (facts' : List (Option Fact)) (work' : List ℕ) (r : Result (Unit {0}) FrameFault)
+    → list ≡ 0 → Merged x facts work q f facts' work' r → Merged x facts work q (clobbered (listed list) f) facts' work' r
+taken_whole x facts work q list f facts' work' r e m = subst (λ (g : Fact). Merged x facts work q g facts' work' r) (sym (unclobbered list f e)) m
 
 -- the next edge comes in hand
 pub next_transfer : (x : Framed) (facts : List (Option Fact)) (work : List ℕ) (f : Fact) (edges : List Edge) (i : ℕ) (d : Edge) (g : Fact) → i < length edges → g ≡ clobbered (listed (get_or edges i d).clobbers) f

@@ -1,5 +1,7 @@
 //! A work list that finds the facts of a function. docs/acceptance.md, "The facts of a function".
 ghost use Rattle.std.specs.Prelude.{◌≡◌, ℕ, ◌+◌, ◌*◌, ◌<◌, ◌≤◌, ◌^◌, ◌++◌, ◌∷◌, [], List, Option, map, length, IfOk, IfErr, slice_set};
+ghost use Rattle.thumb_core.specs.Words.{listed};
+ghost use Rattle.frame_facts.specs.Facts.{clobbered};
 ghost use Rattle.frame_graph.specs.Stretch.{TellsOn};
 ghost use Rattle.frame_flow.specs.Framed.{framed_of};
 ghost use Rattle.frame_flow.specs.Flows.{along_edge, count_of, HasFacts, NoneStands};
@@ -63,6 +65,25 @@ fn merge(
     }
 }
 
+/// Takes an edge of a place, where `fact` stands after it.
+#[tactic(auto, using(crate::proofs::Merging::taken_whole))]
+fn take(
+    x: &Framed,
+    facts: &mut Facts,
+    work: &mut Vec<u32>,
+    edge: &Edge,
+    fact: &Fact,
+) -> Result<(), FrameFault>
+    requires { edge.now.to < length facts.old }
+    ensures { Merged (framed_of x.now) facts.old work.old.items edge.now.to (clobbered (listed edge.now.clobbers) fact.now) facts.new work.new.items result }
+{
+    if edge.clobbers == 0 {
+        merge(x, facts, work, edge.to, fact)
+    } else {
+        merge(x, facts, work, edge.to, &clobber(fact, edge.clobbers))
+    }
+}
+
 /// Takes all edges of a place, where `fact` stands after it.
 fn spread(
     x: &Framed,
@@ -75,8 +96,7 @@ fn spread(
     ensures { Keeps (framed_of x.now) facts.old work.old.items facts.new work.new.items [] result }
 {
     for edge in edges {
-        let next = clobber(fact, edge.clobbers);
-        match merge(x, facts, work, edge.to, &next) {
+        match take(x, facts, work, edge, fact) {
             Ok(()) => {}
             Err(fault) => return Err(fault),
         }
@@ -84,12 +104,13 @@ fn spread(
     Ok(())
 }
 
-/// Visits a place that was taken from the end of the work list, by the stretch of its site.
+/// Visits a place that was taken from the end of the work list, by the stretch of its site. What `edges` holds doesn't matter; it is lent
+/// as room.
 fn visit(
-    alloc: Global,
     x: &Framed,
     facts: &mut Facts,
     work: &mut Vec<u32>,
+    edges: &mut Vec<Edge>,
     stretch: &Stretch,
     place: u32,
 ) -> Result<(), FrameFault>
@@ -103,8 +124,8 @@ fn visit(
         Some(fact) => match x.passed(stretch, place, &fact) {
             Err(cause) => Err(FrameFault::Stands(place, cause)),
             Ok(None) => Ok(()),
-            Ok(Some(next)) => match x.flow_graph.edges_on(alloc, stretch, place) {
-                Ok(edges) => spread(x, facts, work, &edges, &next),
+            Ok(Some(next)) => match x.flow_graph.put_edges(edges, stretch, place) {
+                Ok(()) => spread(x, facts, work, edges, &next),
                 Err(_) => Err(FrameFault::OutOfMemory),
             },
         },
@@ -129,12 +150,13 @@ pub fn solve(alloc: Global, x: &Framed) -> Result<(), FrameFault>
     let mut work = Vec::new(alloc);
     put(&mut facts, &mut work, 0, entry_fact())?;
     let mut stretch = Stretch::new(alloc);
+    let mut edges = Vec::new(alloc);
     while let Some(place) = work.pop() {
-        stretch = match x.flow_graph.stretch_on(alloc, stretch, place) {
-            Ok(next) => next,
+        match x.flow_graph.turn_stretch(alloc, &mut stretch, place) {
+            Ok(()) => {}
             Err(_) => return Err(FrameFault::OutOfMemory),
-        };
-        match visit(alloc, x, &mut facts, &mut work, &stretch, place) {
+        }
+        match visit(x, &mut facts, &mut work, &mut edges, &stretch, place) {
             Ok(()) => {}
             Err(fault) => return Err(fault),
         }

@@ -1,8 +1,8 @@
 -- Where an instruction leads, by where it stands alone (DDI 0419).
-use Rattle.std.specs.Prelude.{ℕ, ◌+◌, ◌^◌, ◌==◌, not, nat_lt, Bool, true, false, if◌then◌else◌, List, [], ◌∷◌, ◌++◌, Option, Some, None, option_and_then}
+use Rattle.std.specs.Prelude.{ℕ, ◌+◌, ◌^◌, ◌==◌, not, nat_lt, Bool, true, false, if◌then◌else◌, List, [], ◌∷◌, ◌++◌, Option, Some, None, option_map, option_and_then}
 use Rattle.std.specs.Option.{option_map_or}
 use Rattle.thumb_isa.specs.declared.instr.Instr.{Instr}
-use Rattle.thumb_isa.specs.declared.instr.Instr.TheVariants.{MovHigh, AddHigh, Bx, Pop, B, BCond, Bl, Cbz, BWide}
+use Rattle.thumb_isa.specs.Nature.{Branch, BranchesTo, BranchesIf, BranchesOn, Calls, ReturnsBy, Gates, Nature, Works, Idles, Derives, AddsHigh, MovesHigh, Transfers, StoresList, LoadsList, RaisesSp, LowersSp, PushesList, PopsList, Goes, nature, branch_of}
 use Rattle.thumb_core.specs.Data.{forward}
 use Rattle.image_memory.specs.Start.{begins_function}
 use Rattle.frame_graph.specs.declared.places.Standing.{Standing}
@@ -13,27 +13,55 @@ use Rattle.frame_graph.specs.Places.{address_of, place_of, is_code_of, standing_
 
 -- the instruction can be followed by the one after it: all but B of either width, and what writes pc with the value of a register or a word. A call and
 -- a gate come back
+abbrev pub comes_back : Branch → Bool
+comes_back (BranchesTo off) = false
+comes_back (BranchesIf cond off) = true
+comes_back (BranchesOn nonzero n off) = true
+comes_back (Calls off) = true
+comes_back (ReturnsBy m) = false
+comes_back (Gates number) = true
+
+abbrev pub nature_reaches_next : Nature → Bool
+nature_reaches_next (Works d) = true
+nature_reaches_next Idles = true
+nature_reaches_next (Derives v) = true
+nature_reaches_next (AddsHigh d m) = not (d == 15)
+nature_reaches_next (MovesHigh d m) = not (d == 15)
+nature_reaches_next (Transfers t) = true
+nature_reaches_next (StoresList n list) = true
+nature_reaches_next (LoadsList n list) = true
+nature_reaches_next (RaisesSp off) = true
+nature_reaches_next (LowersSp off) = true
+nature_reaches_next (PushesList list) = true
+nature_reaches_next (PopsList list) = nat_lt list (2 ^ 15)
+nature_reaches_next (Goes b) = comes_back b
+
 abbrev pub reaches_next : Instr → Bool
-reaches_next (B off) = false
-reaches_next (BWide off) = false
-reaches_next (Bx m) = false
-reaches_next (Pop list) = nat_lt list (2 ^ 15)
-reaches_next (MovHigh d m) = not (d == 15)
-reaches_next (AddHigh d m) = not (d == 15)
-reaches_next i = true
+reaches_next i = nature_reaches_next (nature i)
 
 -- where a branch at an address leads: its offset counts from the address plus 4
+abbrev pub offset_target : ℕ → Branch → Option ℕ
+offset_target a (BranchesTo off) = Some (forward (a + 4) off)
+offset_target a (BranchesIf cond off) = Some (forward (a + 4) off)
+offset_target a (BranchesOn nonzero n off) = Some (forward (a + 4) off)
+offset_target a (Calls off) = None
+offset_target a (ReturnsBy m) = None
+offset_target a (Gates number) = None
+
 abbrev pub branch_target : ℕ → Instr → Option ℕ
-branch_target a (B off) = Some (forward (a + 4) off)
-branch_target a (BCond cc off) = Some (forward (a + 4) off)
-branch_target a (Cbz nonzero n off) = Some (forward (a + 4) off)
-branch_target a (BWide off) = Some (forward (a + 4) off)
-branch_target a i = None
+branch_target a i = option_and_then (offset_target a) (branch_of (nature i))
 
 -- where BL at an address leads
+abbrev pub called_target : ℕ → Branch → Option ℕ
+called_target a (Calls off) = option_map (λ n. forward (a + 4) n) off
+called_target a (BranchesTo off) = None
+called_target a (BranchesIf cond off) = None
+called_target a (BranchesOn nonzero n off) = None
+called_target a (ReturnsBy m) = None
+called_target a (Gates number) = None
+
 abbrev pub call_target : ℕ → Instr → Option ℕ
-call_target a (Bl off) = Some (forward (a + 4) off)
-call_target a i = None
+call_target a i = option_and_then (called_target a) (branch_of (nature i))
 
 -- an edge to an address, where that is code of the function, on which nothing is known of these registers any more
 abbrev pub edges_to : ℕ → Option ℕ → List Edge

@@ -1,6 +1,6 @@
 //! Where the instruction at a place leads, and what is wrong with a place whatever is known there. docs/flow-graphs.md, "Edges".
 ghost use Rattle.std.specs.Int.{cast_unsigned, w32};
-ghost use Rattle.std.specs.Prelude.{◌≡◌, ◌+◌, ◌*◌, ◌%◌, ◌<◌, ◌^◌, ◌++◌, IfOk, is_ok, if◌then◌else◌};
+ghost use Rattle.std.specs.Prelude.{◌≡◌, ◌+◌, ◌*◌, ◌%◌, ◌<◌, ◌^◌, ◌++◌, IfOk, OnOk, is_ok, if◌then◌else◌};
 ghost use Rattle.frame_graph.specs.Places.{address_of, place_of, standing_at};
 ghost use Rattle.frame_graph.specs.Edges.{reaches_next, branch_target, branched_to, call_target, edges_to, straight_edges, straight_by, is_undecodable, branches_out, calls_nothing};
 
@@ -9,6 +9,7 @@ use crate::places::Standing;
 use image_memory::begins_function;
 use std::alloc::{AllocError, Global};
 use thumb_isa::instr::Instr;
+use thumb_isa::plain;
 
 /// Where a place leads to.
 #[derive(Clone, Copy, PartialEq, Eq, PartialOrd, Ord, Debug)]
@@ -27,35 +28,17 @@ fn reaches_next(i: Instr) -> bool
         Instr::B { .. } | Instr::BWide { .. } | Instr::Bx { .. } => false,
         Instr::Pop { list } => list < 0x8000,
         Instr::MovHigh { d, .. } | Instr::AddHigh { d, .. } => d != 15,
-        Instr::ShiftImm { .. }
-        | Instr::AddSubReg { .. }
-        | Instr::AddSubImm3 { .. }
-        | Instr::Imm8 { .. }
-        | Instr::Alu { .. }
-        | Instr::CmpHigh { .. }
-        | Instr::Blx { .. }
-        | Instr::LdrLit { .. }
-        | Instr::MemReg { .. }
-        | Instr::MemImm { .. }
-        | Instr::MemSp { .. }
-        | Instr::Adr { .. }
-        | Instr::AddRdSp { .. }
+        plain!()
         | Instr::AddSp { .. }
         | Instr::SubSp { .. }
-        | Instr::Extend { .. }
-        | Instr::Rev { .. }
         | Instr::Push { .. }
-        | Instr::Hint { .. }
         | Instr::Stm { .. }
         | Instr::Ldm { .. }
         | Instr::BCond { .. }
-        | Instr::Svc { .. }
-        | Instr::Bl { .. }
-        | Instr::Barrier { .. }
         | Instr::Cbz { .. }
-        | Instr::MovW { .. }
-        | Instr::MovT { .. }
-        | Instr::Div { .. } => true,
+        | Instr::Bl { .. }
+        | Instr::Blx { .. }
+        | Instr::Svc { .. } => true,
     }
 }
 
@@ -70,29 +53,49 @@ fn target(a: u32, off: i32) -> u32
 fn branch_target(a: u32, i: Instr) -> Option<u32>
     ensures { result ≡ branch_target a i }
 {
-    if let Instr::B { off } = i {
-        return Some(target(a, off));
+    match i {
+        Instr::B { off } => Some(target(a, off)),
+        Instr::BWide { off } => Some(target(a, off)),
+        Instr::BCond { off, .. } => Some(target(a, off)),
+        Instr::Cbz { off, .. } => Some(target(a, off)),
+        plain!()
+        | Instr::AddHigh { .. }
+        | Instr::MovHigh { .. }
+        | Instr::AddSp { .. }
+        | Instr::SubSp { .. }
+        | Instr::Push { .. }
+        | Instr::Pop { .. }
+        | Instr::Stm { .. }
+        | Instr::Ldm { .. }
+        | Instr::Bl { .. }
+        | Instr::Blx { .. }
+        | Instr::Bx { .. }
+        | Instr::Svc { .. } => None,
     }
-    if let Instr::BCond { off, .. } = i {
-        return Some(target(a, off));
-    }
-    if let Instr::Cbz { off, .. } = i {
-        return Some(target(a, off));
-    }
-    if let Instr::BWide { off } = i {
-        return Some(target(a, off));
-    }
-    None
 }
 
 /// Where BL at an address leads.
 fn call_target(a: u32, i: Instr) -> Option<u32>
     ensures { result ≡ call_target a i }
 {
-    if let Instr::Bl { off } = i {
-        Some(target(a, off))
-    } else {
-        None
+    match i {
+        Instr::Bl { off } => Some(target(a, off)),
+        plain!()
+        | Instr::AddHigh { .. }
+        | Instr::MovHigh { .. }
+        | Instr::AddSp { .. }
+        | Instr::SubSp { .. }
+        | Instr::Push { .. }
+        | Instr::Pop { .. }
+        | Instr::Stm { .. }
+        | Instr::Ldm { .. }
+        | Instr::B { .. }
+        | Instr::BWide { .. }
+        | Instr::BCond { .. }
+        | Instr::Cbz { .. }
+        | Instr::Blx { .. }
+        | Instr::Bx { .. }
+        | Instr::Svc { .. } => None,
     }
 }
 
@@ -126,25 +129,33 @@ impl<'s, 'i, 'a> FlowGraph<'s, 'i, 'a> {
         }
     }
 
-    /// Where an instruction at an address leads, landing pads apart.
-    pub(crate) fn straight(
+    /// Where an instruction at an address leads, landing pads apart, in place of what `edges` held.
+    fn put_straight(
         &self,
-        alloc: Global,
+        edges: &mut Vec<Edge>,
         a: u32,
         standing: Standing,
-    ) -> Result<Vec<Edge>, AllocError>
-        ensures { IfOk result (λ edges. edges.items ≡ straight_by self.now a standing) }
+    ) -> Result<(), AllocError>
+        ensures { OnOk result (edges.new.items ≡ straight_by self.now a standing) }
     {
-        let mut edges = Vec::new(alloc);
+        edges.clear();
         if let Standing::Instruction(i, size) = standing {
             if reaches_next(i) {
-                add_edge(&mut edges, 0, self.place_after(a, size))?;
+                add_edge(edges, 0, self.place_after(a, size))?;
             }
             if let Some(to) = branch_target(a, i) {
-                add_edge(&mut edges, 0, self.place_of(to))?;
+                add_edge(edges, 0, self.place_of(to))?;
             }
         }
-        Ok(edges)
+        Ok(())
+    }
+
+    /// Where a place leads, landing pads apart, in place of what `edges` held: to the next instruction, and to the target of a branch.
+    pub fn put_straight_edges(&self, edges: &mut Vec<Edge>, place: u32) -> Result<(), AllocError>
+        requires { self.now.start + 2 * place < 2 ^ 32 }
+        ensures { OnOk result (edges.new.items ≡ straight_edges self.now place) }
+    {
+        self.put_straight(edges, self.address_of(place), self.standing_at(place))
     }
 
     /// Where a place leads, landing pads apart: to the next instruction, and to the target of a branch.
@@ -152,7 +163,9 @@ impl<'s, 'i, 'a> FlowGraph<'s, 'i, 'a> {
         requires { self.now.start + 2 * place < 2 ^ 32 }
         ensures { IfOk result (λ edges. edges.items ≡ straight_edges self.now place) }
     {
-        self.straight(alloc, self.address_of(place), self.standing_at(place))
+        let mut edges = Vec::new(alloc);
+        self.put_straight_edges(&mut edges, place)?;
+        Ok(edges)
     }
 
     /// The place that a branch at a place leads to; None where no branch stands there, and where its target isn't code of the function.

@@ -276,60 +276,64 @@ impl<'s, 'i, 'a> FlowGraph<'s, 'i, 'a> {
         }
     }
 
-    /// The stretch of a site: the one that is held, where that tells of it.
-    fn stretch_of(&self, alloc: Global, held: Stretch, site: u32) -> Result<Stretch, AllocError>
-        requires { IsStretch self.now held }
-        ensures stretch { IfOk result (IsStretch self.now) }
-        ensures tells { IfOk result (λ t. Tells self.now t site) }
+    /// Turns a stretch to a site, unless it tells of that site.
+    fn turn_to(&self, alloc: Global, held: &mut Stretch, site: u32) -> Result<(), AllocError>
+        requires { IsStretch self.now held.old }
+        ensures stretch { OnOk result (IsStretch self.now held.new) }
+        ensures tells { OnOk result (Tells self.now held.new site) }
     {
         match self.entry_at(site) {
-            None => Ok(Stretch::new(alloc)),
+            None => {
+                *held = Stretch::new(alloc);
+                Ok(())
+            }
             Some(e) => {
                 if held.holds(site, &e) {
-                    Ok(held)
-                } else {
-                    self.stretch_under(alloc, site, &e)
+                    return Ok(());
                 }
+                *held = self.stretch_under(alloc, site, &e)?;
+                Ok(())
             }
         }
     }
 
-    /// The stretch of the site of a place: the one that is held, where that tells of it, or where no site stands there. So the
+    /// Turns a stretch to the site of a place. It stays as it is where it tells of that site, or where no site stands there. So the
     /// descriptors are looked at once for all sites of a stretch that are asked one after the other.
-    pub fn stretch_on(
+    pub fn turn_stretch(
         &self,
         alloc: Global,
-        held: Stretch,
+        held: &mut Stretch,
         place: u32,
-    ) -> Result<Stretch, AllocError>
+    ) -> Result<(), AllocError>
         requires place { self.now.start + 2 * place < 2 ^ 32 }
-        requires held { IsStretch self.now held }
-        ensures stretch { IfOk result (IsStretch self.now) }
-        ensures tells { IfOk result (λ t. TellsOn self.now t place) }
+        requires held { IsStretch self.now held.old }
+        ensures stretch { OnOk result (IsStretch self.now held.new) }
+        ensures tells { OnOk result (TellsOn self.now held.new place) }
     {
         match self.site_at(place) {
-            None => Ok(held),
-            Some(site) => self.stretch_of(alloc, held, site),
+            None => Ok(()),
+            Some(site) => self.turn_to(alloc, held, site),
         }
     }
 
-    /// Where a place leads, by the stretch of its site: the edges of `edges_of`, but each to a landing pad once.
-    pub fn edges_on(
+    /// Where a place leads, by the stretch of its site, in place of what `edges` held: the edges of `edges_of`, but each to a landing pad
+    /// once.
+    pub fn put_edges(
         &self,
-        alloc: Global,
+        edges: &mut Vec<Edge>,
         stretch: &Stretch,
         place: u32,
-    ) -> Result<Vec<Edge>, AllocError>
+    ) -> Result<(), AllocError>
         requires place { self.now.start + 2 * place < 2 ^ 32 }
         requires tells { TellsOn self.now stretch.now place }
-        ensures { IfOk result (λ edges. HaveSame edges.items (edges_of self.now place)) }
+        ensures { OnOk result (HaveSame edges.new.items (edges_of self.now place)) }
     {
-        let mut edges = self.straight_edges(alloc, place)?;
+        self.put_straight_edges(edges, place)?;
         match self.site_at(place) {
-            None => Ok(edges),
+            None => Ok(()),
             Some(_) => {
                 edges.extend_from_slice(stretch.edges())?;
-                Ok(edges)
+                Ok(())
             }
         }
     }

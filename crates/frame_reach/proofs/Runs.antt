@@ -7,19 +7,19 @@ use Rattle.std.proofs.lemmas.Bool.{true≢false, cases_eq, cases_lt}
 use Rattle.std.proofs.lemmas.Option.{same_Some, none-some}
 use Rattle.std.proofs.lemmas.List.Elements.{Contains-append_left}
 use Rattle.thumb_isa.specs.declared.instr.Instr.{Instr}
-use Rattle.thumb_isa.specs.declared.instr.Instr.TheVariants.{ShiftImm, AddSubReg, AddSubImm3, Imm8, Alu, AddHigh, CmpHigh, MovHigh, Bx, Blx, LdrLit, MemReg, MemImm, MemSp, Adr, AddRdSp, AddSp, SubSp, Extend, Rev, Push, Pop, Hint, Stm, Ldm, BCond, Svc, B, Bl, Barrier, Cbz, BWide, MovW, MovT, Div}
+use Rattle.thumb_isa.specs.Nature.{Nature, Works, Idles, Derives, AddsHigh, MovesHigh, Transfers, StoresList, LoadsList, RaisesSp, LowersSp, PushesList, PopsList, Goes, nature}
 use Rattle.frame_facts.specs.declared.facts.Fact.{Fact}
 use Rattle.frame_facts.specs.declared.facts.TheConstants.{DEEPEST}
 use Rattle.frame_facts.specs.declared.saves.Prologue.{Prologue}
 use Rattle.frame_facts.specs.declared.straight.Straight.{Straight}
 use Rattle.frame_facts.specs.After.{effect}
-use Rattle.frame_facts.specs.Prologues.{is_callers, may_stand, pushed_by, ended, taken, begun, run_on}
+use Rattle.frame_facts.specs.Prologues.{is_callers, nature_may_stand, may_stand, pushed_by, ended, taken, begun, run_on}
 use Rattle.frame_graph.specs.declared.places.Standing.{Standing}
 use Rattle.frame_graph.specs.declared.places.Standing.TheVariants.{Instruction, Udf, Nothing}
 use Rattle.frame_graph.specs.declared.edges.Edge.{Edge}
 use Rattle.frame_graph.specs.FlowGraph.{FlowGraph}
 use Rattle.frame_graph.specs.Places.{address_of, place_of, is_place, standing_at}
-use Rattle.frame_graph.specs.Edges.{reaches_next, branch_target, edges_to, onward, straight_by, straight_edges}
+use Rattle.frame_graph.specs.Edges.{nature_reaches_next, reaches_next, branch_target, edges_to, onward, straight_by, straight_edges}
 use Rattle.frame_graph.specs.Sites.{site_at, edges_from, edges_of}
 use Rattle.frame_graph.specs.Reach.{IsReached, entry, along}
 use Rattle.frame_graph.proofs.Inside.{places_have_their_address}
@@ -40,42 +40,23 @@ some_or_none (Some x) = inr (x, refl)
 -- ---- what an instruction of a prologue is
 
 -- it is followed by the one after it
+nature_stands_goes : (n : Nature) → nature_may_stand n ≡ true → nature_reaches_next n ≡ true
+nature_stands_goes (Derives v) h = refl
+nature_stands_goes (Works d) h = refl
+nature_stands_goes (AddsHigh d m) h = (both (not (is_callers d) && not (d == 13)) (not (d == 15)) h).1
+nature_stands_goes Idles h = refl
+nature_stands_goes (MovesHigh d m) h = (both (not (d == 13)) (not (d == 15)) h).1
+nature_stands_goes (Goes b) h = absurd cc
+nature_stands_goes (Transfers t) h = refl
+nature_stands_goes (RaisesSp off) h = refl
+nature_stands_goes (LowersSp off) h = refl
+nature_stands_goes (PushesList list) h = refl
+nature_stands_goes (PopsList list) h = absurd cc
+nature_stands_goes (StoresList n list) h = refl
+nature_stands_goes (LoadsList n list) h = refl
+
 stands_goes : (i : Instr) → may_stand i ≡ true → reaches_next i ≡ true
-stands_goes (ShiftImm op d m n) h = refl
-stands_goes (AddSubReg sub d n m) h = refl
-stands_goes (AddSubImm3 sub d n imm) h = refl
-stands_goes (Imm8 op d imm) h = refl
-stands_goes (Alu op d m) h = refl
-stands_goes (AddHigh d m) h = (both (not (is_callers d) && not (d == 13)) (not (d == 15)) h).1
-stands_goes (CmpHigh n m) h = refl
-stands_goes (MovHigh d m) h = (both (not (d == 13)) (not (d == 15)) h).1
-stands_goes (Bx m) h = absurd cc
-stands_goes (Blx m) h = refl
-stands_goes (LdrLit t off) h = refl
-stands_goes (MemReg op t n m) h = refl
-stands_goes (MemImm op t n off) h = refl
-stands_goes (MemSp load t off) h = refl
-stands_goes (Adr d off) h = refl
-stands_goes (AddRdSp d off) h = refl
-stands_goes (AddSp off) h = refl
-stands_goes (SubSp off) h = refl
-stands_goes (Extend op d m) h = refl
-stands_goes (Rev op d m) h = refl
-stands_goes (Push list) h = refl
-stands_goes (Pop list) h = absurd cc
-stands_goes (Hint n) h = refl
-stands_goes (Stm n list) h = refl
-stands_goes (Ldm n list) h = refl
-stands_goes (BCond cc off) h = refl
-stands_goes (Svc imm) h = refl
-stands_goes (B off) h = absurd cc
-stands_goes (Bl off) h = refl
-stands_goes (Barrier op option) h = refl
-stands_goes (Cbz nonzero n off) h = absurd cc
-stands_goes (BWide off) h = absurd cc
-stands_goes (MovW d imm) h = refl
-stands_goes (MovT d imm) h = refl
-stands_goes (Div signed d n m) h = refl
+stands_goes i h = nature_stands_goes (nature i) h
 
 if_some : {X : Type 0} (b : Bool) (o : Option X) (x : X) → (if b then o else None) ≡ Some x → (b ≡ true) × (o ≡ Some x)
 if_some true o x e = (refl, e)

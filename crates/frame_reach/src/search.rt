@@ -130,11 +130,11 @@ fn land_on(
     }
 }
 
-/// Follows the edges of a place that is reached, by the stretch of its site.
+/// Follows the edges of a place that is reached, by the stretch of its site. What `edges` holds doesn't matter; it is lent as room.
 fn visit(
-    alloc: Global,
     flow_graph: &FlowGraph,
     found: &mut Found,
+    edges: &mut Vec<Edge>,
     stretch: &Stretch,
     place: u32,
 ) -> Result<(), ReachFault>
@@ -144,8 +144,8 @@ fn visit(
     requires tells { TellsOn flow_graph.now stretch.now place }
     ensures { Steps flow_graph.now found.old found.new (IsVisited flow_graph.now found.new place) result }
 {
-    let edges = flow_graph.straight_edges(alloc, place)?;
-    put_all(flow_graph, found, &edges)?;
+    flow_graph.put_straight_edges(edges, place)?;
+    put_all(flow_graph, found, edges)?;
     land_on(flow_graph, found, stretch, place)?;
     aim(flow_graph, found, flow_graph.branched_to(place));
     Ok(())
@@ -183,10 +183,11 @@ fn follow(alloc: Global, flow_graph: &FlowGraph, found: &mut Found) -> Result<()
     let _end = flow_graph.end();
     let mut next = 0;
     let mut stretch = Stretch::new(alloc);
+    let mut edges = Vec::new(alloc);
     while next < found.places.len() {
         let place = found.places[next];
-        stretch = flow_graph.stretch_on(alloc, stretch, place)?;
-        visit(alloc, flow_graph, found, &stretch, place)?;
+        flow_graph.turn_stretch(alloc, &mut stretch, place)?;
+        visit(flow_graph, found, &mut edges, &stretch, place)?;
         next += 1;
     }
     Ok(())

@@ -1,6 +1,6 @@
 -- One event, from what a step and what came after it have done.
 use Rattle.std.specs.Prelude.{MatchOption}
-use Rattle.std.proofs.Common.{◌≡◌, ℕ, ◌%◌, ◌==◌, ◌<◌, List, [], ◌∷◌, drop, slice_get, cond, ◌⊎◌, inl, inr, Bool, true, false, Option, Some, None, IfSome, refl, sym, ap, ◌∙◌}
+use Rattle.std.proofs.Common.{◌≡◌, ℕ, ◌==◌, ◌<◌, List, [], cond, ◌⊎◌, inl, inr, Bool, true, false, Option, Some, None, IfSome, refl, sym, ap, subst, ◌∙◌}
 use Rattle.std.specs.Bool.{OnFalse, OnTrue}
 use Rattle.std.proofs.KnownBytes.{Appends-nil}
 use Rattle.std.proofs.lemmas.List.Elements.{All-nil}
@@ -13,11 +13,13 @@ use Rattle.eh_bus.specs.declared.fault.BusFault.TheVariants as bus
 use Rattle.thumb_core.specs.declared.regs.CoreTrap.{CoreTrap}
 use Rattle.thumb_core.specs.declared.regs.CoreTrap.TheVariants as core
 use Rattle.guest_gates.specs.Ends.{is_fault, bus_end, trap_end}
-use Rattle.guest_gates.specs.Gates.{gate_fails, gate_event, r0, with_r0, byte_or_end}
-use Rattle.guest_gates.specs.declared.gates.TheConstants.{NO_CALLER, EXIT_GATE, OUTPUT_GATE, INPUT_GATE}
+use Rattle.guest_gates.specs.Gates.{gate_fails, gate_may_fail, gate_event, r0}
+use Rattle.guest_gates.specs.declared.gates.TheConstants.{NO_CALLER}
 use Rattle.image_memory.specs.Start.{State}
 use Rattle.plain_run.specs.Machine.{went_event, in_memory, stepped_event, flat_event, may_fail, flat_machine, FlatRuns}
-use Rattle.thumb_core.specs.Laws.{LeavesMemory}
+use Rattle.plain_run.specs.Returning.{may_return}
+use Rattle.thumb_isa.specs.declared.instr.Instr.{Instr}
+use Rattle.thumb_core.specs.Laws.{Leaves, LeavesMemory, Returned}
 use Rattle.thumb_core.specs.Outcome.{Outcome}
 use Rattle.thumb_core.specs.Step.{step_of}
 use Rattle.thumb_core.specs.declared.regs.Regs.{Regs}
@@ -25,7 +27,6 @@ use Rattle.thumb_core.specs.declared.regs.Stepped.{Stepped}
 use Rattle.thumb_core.specs.declared.regs.Stepped.TheVariants.{Done, Call, Return, Gate, Trap}
 use Rattle.thumb_core.specs.declared.ends.End.{End}
 use Rattle.thumb_core.specs.declared.ends.End.TheVariants as the_end
-use Rattle.thumb_core.specs.declared.ends.TrapKind.TheVariants as kind
 
 on_false : (b : Bool) (P Q : Type 0) → OnFalse b P → (P → Q) → OnFalse b Q
 on_false true P Q p f = tt
@@ -85,18 +86,6 @@ module _ (old : State) (what : Stepped) (regs : Regs) (memory : Memory) (is : (w
         wrote = g.wrote;
       }
 
-  -- it goes on, and reads and writes nothing
-  pub done_goes : (told before : Option (List ℕ)) → what ≡ Done
-      → IfSome told (λ bytes. GoesOn (flat_event old bytes) (record { regs = regs; memory = memory }) told before before)
-  done_goes None before done = tt
-  done_goes (Some bytes) before done = record {
-    text = [];
-    rest = bytes;
-    is = event_is bytes ∙ ap (λ w. in_memory old.memory memory (went_event w old.regs regs bytes)) done;
-    leaves = refl;
-    wrote = Appends-nil before;
-  }
-
   -- the same on bytes that were given
   pub given_on : (before now : Option (List ℕ)) (result : Option End) (new : Regs) → LeavesMemory what old.memory memory
       → OnGiven (λ bytes left. MatchOption result
@@ -111,29 +100,57 @@ module _ (old : State) (what : Stepped) (regs : Regs) (memory : Memory) (is : (w
 pub given_none : (Holds : List ℕ → Option (List ℕ) → Type 0) → Holds [] (Some []) → OnGiven Holds
 given_none Holds holds = record { bytes = []; left = []; are = All-nil (λ (b : ℕ). b < 256); done = holds }
 
--- what an instruction that asks for nothing goes on to
+-- what an instruction goes on to, by what a source tells, and on bytes that it gave
+abbrev pub ToldOn : Stepped → Option End → Regs → Regs → Regs → Option (List ℕ) → Option (List ℕ) → Option (List ℕ) → Option (List ℕ) → Type 0
+ToldOn what result old regs new told left before now = IfSome told (λ bytes. MatchOption result (GoesOn (went_event what old regs bytes) new left before now)
+    (λ end. EndsBy is_fault (gate_fails what) (went_event what old regs bytes) end old new bytes left before now))
+
 abbrev pub WentOn : Stepped → Option End → Regs → Regs → Regs → Option (List ℕ) → Option (List ℕ) → Type 0
 WentOn what result old regs new before now = OnGiven (λ bytes left. MatchOption result (GoesOn (went_event what old regs bytes) new left before now)
     (λ end. EndsBy is_fault (gate_fails what) (went_event what old regs bytes) end old new bytes left before now))
 
-pub given_goes : (what : Stepped) (old regs : Regs) (out : Option (List ℕ)) → went_event what old regs [] ≡ Goes regs [] [] → WentOn what None old regs regs out out
-given_goes what old regs out e = given_none _ (record { text = []; rest = []; is = e; leaves = refl; wrote = Appends-nil out })
+-- one that asks for nothing and goes on
+pub told_goes : (what : Stepped) (old regs : Regs) (told out : Option (List ℕ)) → ((bytes : List ℕ) → went_event what old regs bytes ≡ Goes regs [] bytes)
+    → ToldOn what None old regs regs told told out out
+told_goes what old regs None out e = tt
+told_goes what old regs (Some bytes) out e = record { text = []; rest = bytes; is = e bytes; leaves = refl; wrote = Appends-nil out }
+
+pub given_goes : (what : Stepped) (old regs : Regs) (out : Option (List ℕ)) → ((bytes : List ℕ) → went_event what old regs bytes ≡ Goes regs [] bytes)
+    → WentOn what None old regs regs out out
+given_goes what old regs out e = given_none _ (record { text = []; rest = []; is = e []; leaves = refl; wrote = Appends-nil out })
 
 -- an instruction that is no gate, no trap and no return goes on; so does a return, but to where nobody called
-pub plain_goes : (what : Stepped) (old regs : Regs) → (what ≡ Done) ⊎ ((target : ℕ) × (ret : ℕ) × (what ≡ Call target ret)) → went_event what old regs [] ≡ Goes regs [] []
-plain_goes what old regs (inl e) = ap (λ (w : Stepped). went_event w old regs []) e
-plain_goes what old regs (inr w) = ap (λ (v : Stepped). went_event v old regs []) w.2
+pub plain_goes : (what : Stepped) (old regs : Regs) → (what ≡ Done) ⊎ ((target : ℕ) × (ret : ℕ) × (what ≡ Call target ret))
+    → (bytes : List ℕ) → went_event what old regs bytes ≡ Goes regs [] bytes
+plain_goes what old regs (inl e) bytes = ap (λ (w : Stepped). went_event w old regs bytes) e
+plain_goes what old regs (inr w) bytes = ap (λ (v : Stepped). went_event v old regs bytes) w.2
 
-pub returned_goes : (what : Stepped) (to : ℕ) (old regs : Regs) → what ≡ Return to → (to ≡ NO_CALLER → ⊥) → went_event what old regs [] ≡ Goes regs [] []
-returned_goes what to old regs is called = ap (λ (w : Stepped). went_event w old regs []) is ∙ go (to == NO_CALLER) refl
+pub returned_goes : (what : Stepped) (to : ℕ) (old regs : Regs) → what ≡ Return to → (to ≡ NO_CALLER → ⊥)
+    → (bytes : List ℕ) → went_event what old regs bytes ≡ Goes regs [] bytes
+returned_goes what to old regs is called bytes = ap (λ (w : Stepped). went_event w old regs bytes) is ∙ go (to == NO_CALLER) refl
   where
-    go : (b : Bool) → (to == NO_CALLER) ≡ b → cond b (Ends (the_end.Exit (r0 regs)) old) (Goes regs [] []) ≡ Goes regs [] []
+    go : (b : Bool) → (to == NO_CALLER) ≡ b → cond b (Ends (the_end.Exit (r0 regs)) old) (Goes regs [] bytes) ≡ Goes regs [] bytes
     go true e = absurd (called (eqb-true to NO_CALLER e))
     go false e = refl
 
-pub returned_ends : (what : Stepped) (to : ℕ) (old regs : Regs) → what ≡ Return to → to ≡ NO_CALLER → went_event what old regs [] ≡ Ends (the_end.Exit (r0 regs)) old
-returned_ends what to old regs is nobody =
-    ap (λ (w : Stepped). went_event w old regs []) is ∙ ap (λ (n : ℕ). went_event (Return n) old regs []) nobody
+pub returned_ends : (what : Stepped) (to : ℕ) (old regs : Regs) → what ≡ Return to → to ≡ NO_CALLER
+    → (bytes : List ℕ) → went_event what old regs bytes ≡ Ends (the_end.Exit (r0 regs)) old
+returned_ends what to old regs is nobody bytes =
+    ap (λ (w : Stepped). went_event w old regs bytes) is ∙ ap (λ (n : ℕ). went_event (Return n) old regs bytes) nobody
+
+-- the registers are kept before what returns
+abbrev instr_returns : Option (Instr × ℕ) → Bool
+instr_returns None = false
+instr_returns (Some at) = may_return at.0
+
+pub kept_before : (what : Stepped) (i : Instr) (size to : ℕ) (old : Regs) (m : Memory) (after before : Regs) → what ≡ Return to
+    → Leaves (Some (i, size)) what old m after → (may_return i ≡ true → before ≡ old) → before ≡ old
+kept_before what i size to old m after before is leaves kept =
+    by_return (subst (λ (w : Stepped). Leaves (Some (i, size)) w old m after) is leaves)
+  where
+    by_return : Returned (Some (i, size)) to old m after → before ≡ old
+    by_return (inl r) = kept (ap instr_returns r.2)
+    by_return (inr r) = kept (ap instr_returns r.2)
 
 -- a trap of the core is no fault of the outside
 bus_inside : (fault : BusFault) (pc : ℕ) → is_fault (bus_end fault pc) ≡ false
@@ -154,46 +171,103 @@ trap_inside (core.Memory fault) pc = bus_inside fault pc
 pub by_trap : (trap : CoreTrap) (pc : ℕ) (end : End) → end ≡ trap_end trap pc → is_fault end ≡ false
 by_trap trap pc end e = ap (λ (x : End). is_fault x) e ∙ trap_inside trap pc
 
-pub trap_ends : (what : Stepped) (trap : CoreTrap) (old regs : Regs) (end : End) → what ≡ Trap trap → end ≡ trap_end trap old.pc → went_event what old regs [] ≡ Ends end old
-trap_ends what trap old regs end is e = ap (λ (w : Stepped). went_event w old regs []) is ∙ ap (λ (x : End). Ends x old) (sym e)
+pub trap_ends : (what : Stepped) (trap : CoreTrap) (old regs : Regs) (end : End) → what ≡ Trap trap → end ≡ trap_end trap old.pc
+    → (bytes : List ℕ) → went_event what old regs bytes ≡ Ends end old
+trap_ends what trap old regs end is e bytes = ap (λ (w : Stepped). went_event w old regs bytes) is ∙ ap (λ (x : End). Ends x old) (sym e)
 
-pub given_ends : (what : Stepped) (end : End) (old regs : Regs) (out : Option (List ℕ)) → is_fault end ≡ false → went_event what old regs [] ≡ Ends end old
-    → WentOn what (Some end) old regs old out out
-given_ends what end old regs out inside e = given_none _ (record { is = any (is_fault end) e; fails = none (is_fault end) inside; leaves = refl; wrote = Appends-nil out })
-  where
-    any : (b : Bool) → went_event what old regs [] ≡ Ends end old → OnFalse b (went_event what old regs [] ≡ Ends end old)
-    any true e = tt
-    any false e = e
+-- one that ends the run by no fault of the outside
+module _ (what : Stepped) (end : End) (old regs : Regs) (out : Option (List ℕ)) (inside : is_fault end ≡ false)
+    (e : (bytes : List ℕ) → went_event what old regs bytes ≡ Ends end old) where
+  ends_by : (bytes : List ℕ) → EndsBy is_fault (gate_fails what) (went_event what old regs bytes) end old old bytes (Some bytes) out out
+  ends_by bytes = record { is = any (is_fault end) (e bytes); fails = none (is_fault end) inside; leaves = refl; wrote = Appends-nil out }
+    where
+      any : (b : Bool) → went_event what old regs bytes ≡ Ends end old → OnFalse b (went_event what old regs bytes ≡ Ends end old)
+      any true e = tt
+      any false e = e
 
-    none : (b : Bool) → b ≡ false → OnTrue b (Fails (gate_fails what) end old old)
-    none true f = absurd cc
-    none false f = tt
+      none : (b : Bool) → b ≡ false → OnTrue b (Fails (gate_fails what) end old old)
+      none true f = absurd cc
+      none false f = tt
 
--- a gate that goes on, whatever an end would leave
-module _ (number : ℕ) (new : Regs) (bytes : List ℕ) where
-  event : Bool → Bool → Bool → Regs → Event Regs End
-  event x y z old =
-      cond x (Ends (the_end.Exit (r0 new)) old)
-      (cond y (Goes new (r0 new % 256 ∷ []) bytes)
-      (cond z (Goes (with_r0 (byte_or_end (slice_get bytes 0)) new) [] (drop 1 bytes)) (Ends (the_end.Trap kind.UnknownGate number old.pc) old)))
+  pub told_ends : (told : Option (List ℕ)) → ToldOn what (Some end) old regs old told told out out
+  told_ends None = tt
+  told_ends (Some bytes) = ends_by bytes
 
-  goes_by : (x y z : Bool) (a b regs : Regs) (text rest : List ℕ) → event x y z a ≡ Goes regs text rest → event x y z b ≡ Goes regs text rest
-  unfolding event
-  goes_by true y z a b regs text rest e = absurd cc
-  goes_by false true z a b regs text rest e = e
-  goes_by false false true a b regs text rest e = e
-  goes_by false false false a b regs text rest e = absurd cc
+  pub given_ends : WentOn what (Some end) old regs old out out
+  given_ends = given_none _ (ends_by [])
 
-  gate_goes : (a b regs : Regs) (text rest : List ℕ) → gate_event number a new bytes ≡ Goes regs text rest → gate_event number b new bytes ≡ Goes regs text rest
-  unfolding event
-  gate_goes a b regs text rest e = goes_by (number == EXIT_GATE) (number == OUTPUT_GATE) (number == INPUT_GATE) a b regs text rest e
+-- a gate: the registers before it are those after its instruction, but for pc
+module _ (what : Stepped) (number : ℕ) (at : Option (Instr × ℕ)) (old regs new : Regs) (m : Memory) (before now : Option (List ℕ)) (result : Option End)
+    (is : what ≡ Gate number) (leaves : Leaves at what old m regs) where
+  same : record regs { pc = old.pc } ≡ old
+  same =
+      let l : Leaves at (Gate number) old m regs = subst (λ (w : Stepped). Leaves at w old m regs) is leaves in
+      ap (λ (r : Regs). record r { pc = old.pc }) l.2
 
-pub given_gate : (what : Stepped) (number : ℕ) (a old regs new : Regs) (before now : Option (List ℕ)) → what ≡ Gate number
-    → OnGiven (λ bytes left. GoesOn (gate_event number a regs bytes) new left before now) → WentOn what None old regs new before now
-given_gate what number a old regs new before now e g =
-    let there : went_event what old regs g.bytes ≡ Goes new g.done.text g.done.rest =
-    ap (λ (w : Stepped). went_event w old regs g.bytes) e ∙ gate_goes number regs g.bytes a old new g.done.text g.done.rest g.done.is in
-    record { bytes = g.bytes; left = g.left; are = g.are; done = record { text = g.done.text; rest = g.done.rest; is = there; leaves = g.done.leaves; wrote = g.done.wrote } }
+  gate_told : (told left : Option (List ℕ)) → IfSome told (λ bytes. let begun : Regs = record regs { pc = old.pc } in MatchOption result
+      (GoesOn (gate_event number begun regs bytes) new left before now)
+      (λ end. EndsBy is_fault (gate_may_fail number) (gate_event number begun regs bytes) end begun new bytes left before now))
+      → ToldOn what result old regs new told left before now
+  gate_told told left g =
+      let there : ToldOn (Gate number) result old regs new told left before now = subst (λ (r : Regs). IfSome told (λ bytes. MatchOption result
+      (GoesOn (gate_event number r regs bytes) new left before now)
+      (λ end. EndsBy is_fault (gate_may_fail number) (gate_event number r regs bytes) end r new bytes left before now))) same g in
+      subst (λ (w : Stepped). ToldOn w result old regs new told left before now) (sym is) there
+
+  gate_given : OnGiven (λ bytes left. let begun : Regs = record regs { pc = old.pc } in MatchOption result
+      (GoesOn (gate_event number begun regs bytes) new left before now)
+      (λ end. EndsBy is_fault (gate_may_fail number) (gate_event number begun regs bytes) end begun new bytes left before now))
+      → WentOn what result old regs new before now
+  gate_given g = record { bytes = g.bytes; left = g.left; are = g.are; done = gate_told (Some g.bytes) (Some g.left) g.done }
+
+-- the same of an event, from what a step did
+module _ (old : State) (what : Stepped) (regs : Regs) (memory : Memory) (is : (what, regs, memory) ≡ step_of old.regs old.memory)
+    (leaves : LeavesMemory what old.memory memory) where
+  pub goes_told : (told out : Option (List ℕ)) → ((bytes : List ℕ) → went_event what old.regs regs bytes ≡ Goes regs [] bytes)
+      → IfSome told (λ bytes. GoesOn (flat_event old bytes) (record { regs = regs; memory = memory }) told out out)
+  goes_told told out e = went_on old what regs memory is told told out out None regs leaves (told_goes what old.regs regs told out e)
+
+  pub goes_given : (out : Option (List ℕ)) → ((bytes : List ℕ) → went_event what old.regs regs bytes ≡ Goes regs [] bytes)
+      → OnGiven (λ bytes left. GoesOn (flat_event old bytes) (record { regs = regs; memory = memory }) left out out)
+  goes_given out e = given_on old what regs memory is out out None regs leaves (given_goes what old.regs regs out e)
+
+  pub ends_told : (told out : Option (List ℕ)) (end : End) (new : Regs) → new ≡ old.regs → is_fault end ≡ false
+      → ((bytes : List ℕ) → went_event what old.regs regs bytes ≡ Ends end old.regs)
+      → IfSome told (λ bytes. EndsBy is_fault (may_fail old) (flat_event old bytes) end old (record { regs = new; memory = memory }) bytes told out out)
+  ends_told told out end new same inside e =
+      went_on old what regs memory is told told out out (Some end) new leaves
+      (subst (λ (r : Regs). ToldOn what (Some end) old.regs regs r told told out out) (sym same) (told_ends what end old.regs regs out inside e told))
+
+  pub ends_given : (out : Option (List ℕ)) (end : End) (new : Regs) → new ≡ old.regs → is_fault end ≡ false
+      → ((bytes : List ℕ) → went_event what old.regs regs bytes ≡ Ends end old.regs)
+      → OnGiven (λ bytes left. EndsBy is_fault (may_fail old) (flat_event old bytes) end old (record { regs = new; memory = memory }) bytes left out out)
+  ends_given out end new same inside e =
+      given_on old what regs memory is out out (Some end) new leaves
+      (subst (λ (r : Regs). WentOn what (Some end) old.regs regs r out out) (sym same) (given_ends what end old.regs regs out inside e))
+
+  pub gate_told_on : (number : ℕ) (at : Option (Instr × ℕ)) → what ≡ Gate number → Leaves at what old.regs old.memory regs
+      → (told left before now : Option (List ℕ)) (result : Option End) (new : Regs)
+      → IfSome told (λ bytes. MatchOption result
+      (GoesOn (gate_event number (record regs { pc = old.regs.pc }) regs bytes) new left before now)
+      (λ end. EndsBy is_fault (gate_may_fail number) (gate_event number (record regs { pc = old.regs.pc }) regs bytes) end (record regs { pc = old.regs.pc }) new bytes left before now))
+      → IfSome told (λ bytes. MatchOption result
+      (GoesOn (flat_event old bytes) (record { regs = new; memory = memory }) left before now)
+      (λ end. EndsBy is_fault (may_fail old) (flat_event old bytes) end old (record { regs = new; memory = memory }) bytes left before now))
+  gate_told_on number at asks after told left before now result new g =
+      went_on old what regs memory is told left before now result new leaves
+      (gate_told what number at old.regs regs new old.memory before now result asks after told left g)
+
+  pub gate_given_on : (number : ℕ) (at : Option (Instr × ℕ)) → what ≡ Gate number → Leaves at what old.regs old.memory regs
+      → (before now : Option (List ℕ)) (result : Option End) (new : Regs)
+      → OnGiven (λ bytes left. MatchOption result
+      (GoesOn (gate_event number (record regs { pc = old.regs.pc }) regs bytes) new left before now)
+      (λ end. EndsBy is_fault (gate_may_fail number) (gate_event number (record regs { pc = old.regs.pc }) regs bytes) end (record regs { pc = old.regs.pc }) new bytes left before now))
+      → OnGiven (λ bytes left. MatchOption result
+      (GoesOn (flat_event old bytes) (record { regs = new; memory = memory }) left before now)
+      (λ end. EndsBy is_fault (may_fail old) (flat_event old bytes) end old (record { regs = new; memory = memory }) bytes left before now))
+  gate_given_on number at asks after before now result new g =
+      given_on old what regs memory is before now result new leaves
+      (gate_given what number at old.regs regs new old.memory before now result asks after g)
 
 -- a run, whatever it had to spare
 pub some_unspent : (budget : ℕ) (old : State) (end : End) (new : State) (unspent : ℕ) (told left before now : Option (List ℕ))

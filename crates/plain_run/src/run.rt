@@ -36,10 +36,11 @@ pub fn flat_run<B: Bus, I: Source, O: Sink>(
     ensures out_later { O.faults out.old ≤ O.faults out.new }
 {
     let mut cache = DecodeCache::new();
+    let mut before = *regs;
     let mut left = budget;
     while left > 0 {
         left -= 1;
-        match turn(&mut cache, regs, bus, input, out) {
+        match turn(&mut cache, &mut before, regs, bus, input, out) {
             None => {}
             Some(end) => return end,
         }

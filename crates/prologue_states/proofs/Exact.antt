@@ -9,13 +9,14 @@ use Rattle.accepted_code.specs.frame_facts.declared.facts.Fact.{Fact}
 use Rattle.accepted_code.specs.frame_facts.declared.saves.Prologue.{Prologue}
 use Rattle.accepted_code.specs.frame_facts.Saves.{saves_within, moved_to, stack_word, saves_of}
 use Rattle.accepted_code.specs.thumb_isa.declared.instr.Instr.{Instr}
-use Rattle.accepted_code.specs.thumb_isa.declared.instr.Instr.TheVariants.{Push, ShiftImm, AddSubReg, AddSubImm3, Imm8, Alu, AddHigh, CmpHigh, MovHigh, Bx, Blx, LdrLit, MemReg, MemImm, MemSp, Adr, AddRdSp, AddSp, SubSp, Extend, Rev, Pop, Hint, Stm, Ldm, BCond, Svc, B, Bl, Barrier, Cbz, BWide, MovW, MovT, Div}
+use Rattle.accepted_code.specs.thumb_isa.declared.instr.Instr.TheVariants.{Push}
+use Rattle.accepted_code.specs.thumb_isa.Nature.{Shifts, AddsThree, AddsEight, Combines, AddsToSp, NearPc, AtSum, AtOffset, AtSp, Nature, Works, Idles, Derives, AddsHigh, MovesHigh, Transfers, StoresList, LoadsList, RaisesSp, LowersSp, PushesList, PopsList, Goes, nature}
 use Rattle.accepted_code.specs.frame_facts.Facts.{lost, clobbered, source, bounded_depth, with_source}
 use Rattle.accepted_code.specs.thumb_core.Words.{listed}
-use Rattle.accepted_code.specs.frame_facts.After.{effect}
+use Rattle.accepted_code.specs.frame_facts.After.{nature_effect, effect}
 use Rattle.accepted_code.specs.frame_facts.Data.{add_sub_imm3, imm8, alu, copied, sp_set}
 use Rattle.accepted_code.specs.frame_facts.Access.{mem_reg, mem_imm}
-use Rattle.accepted_code.specs.frame_facts.Prologues.{may_stand, pushed_by, ended, taken}
+use Rattle.accepted_code.specs.frame_facts.Prologues.{nature_may_stand, may_stand, pushed_by, ended, taken}
 use Rattle.accepted_code.specs.frame_facts.Shifts.{shift_imm}
 use Rattle.accepted_code.specs.frame_facts.declared.saves.Save.{Save}
 use Rattle.accepted_code.specs.frame_facts.declared.straight.Straight.{Straight}
@@ -27,7 +28,7 @@ use Rattle.accepted_code.specs.frame_graph.Places.{standing_at}
 use Rattle.accepted_code.specs.frame_reach.Marks.{Marks}
 use Rattle.accepted_code.specs.frame_reach.Laws.{IsRun, begins, takes}
 use Rattle.accepted_code.proofs.frame_reach.Stands.{stands_size}
-use Rattle.prologue_states.proofs.Prologues.{IsDown, good, knows, after}
+use Rattle.prologue_states.proofs.Prologues.{IsDownwards, IsDown, good, knows, after}
 use Rattle.prologue_states.proofs.Ordered.{Between, between_ends, Holds16, taken_holds}
 use Rattle.prologue_states.proofs.Extends.{length_saves, step_of_run}
 
@@ -36,9 +37,12 @@ use Rattle.prologue_states.proofs.Extends.{length_saves, step_of_run}
 abbrev pub Frame : Prologue → Fact → Fact → Type 0
 Frame q f g = (g.below ≡ f.below) × ((g.kept ≡ f.kept) ⊎ (g.kept ≡ min f.kept (saves_within q g.depth)))
 
+abbrev pub NatureLeaves : Prologue → Nature → Fact → Fact → Type 0
+NatureLeaves q (PushesList list) f g = Unit {0}
+NatureLeaves q n f g = Frame q f g
+
 abbrev pub Leaves : Prologue → Instr → Fact → Fact → Type 0
-Leaves q (Push list) f g = Unit {0}
-Leaves q i f g = Frame q f g
+Leaves q i f g = NatureLeaves q (nature i) f g
 
 give : (q : Prologue) (f h g : Fact) → Frame q f h → Some h ≡ Some g → Frame q f g
 give q f h g l e = subst (Frame q f) (same_Some h g e) l
@@ -55,59 +59,47 @@ clobbered_kept : (regs : List ℕ) (f : Fact) → (clobbered regs f).kept ≡ f.
 clobbered_kept [] f = refl
 clobbered_kept (r ∷ more) f = clobbered_kept more (lost r f)
 
-pub other_frame : (q : Prologue) (at : ℕ) (i : Instr) (f g : Fact) → may_stand i ≡ true → IsDown i → effect q false at i f ≡ Some g → Leaves q i f g
-other_frame q at (ShiftImm op d m n) f g may down e = give q f (shift_imm op d m n f) g (either q f (with_source f d (source f m)) (lost d f) ((op == 0) && (n == 0)) (refl, inl refl) (refl, inl refl)) e
-other_frame q at (AddSubReg sub d n m) f g may down e = give q f (lost d f) g (refl, inl refl) e
-other_frame q at (AddSubImm3 sub d n imm) f g may down e = give q f (add_sub_imm3 sub d n imm f) g (refl, inl refl) e
-other_frame q at (Imm8 op d imm) f g may down e = give q f (imm8 op d imm f) g (either q f (lost d f) _ (op == 0) (refl, inl refl) (either q f f _ (op == 1) (refl, inl refl) (refl, inl refl))) e
-other_frame q at (Alu op d m) f g may down e = give q f (alu op d f) g (either q f f (lost d f) ((op == 8) || (op == 10) || (op == 11)) (refl, inl refl) (refl, inl refl)) e
-other_frame q at (AddHigh d m) f g may down e = go (d == 13) e
+nature_other_frame : (q : Prologue) (at : ℕ) (n : Nature) (f g : Fact) → nature_may_stand n ≡ true → IsDownwards n → nature_effect q false at n f ≡ Some g → NatureLeaves q n f g
+nature_other_frame q at (Derives (Shifts op d m n)) f g may down e = give q f (shift_imm op d m n f) g (either q f (with_source f d (source f m)) (lost d f) ((op == 0) && (n == 0)) (refl, inl refl) (refl, inl refl)) e
+nature_other_frame q at (Works d) f g may down e = give q f (lost d f) g (refl, inl refl) e
+nature_other_frame q at (Derives (AddsThree sub d n imm)) f g may down e = give q f (add_sub_imm3 sub d n imm f) g (refl, inl refl) e
+nature_other_frame q at (Derives (AddsEight op d imm)) f g may down e = give q f (imm8 op d imm f) g (either q f (lost d f) _ (op == 0) (refl, inl refl) (either q f f _ (op == 1) (refl, inl refl) (refl, inl refl))) e
+nature_other_frame q at (Derives (Combines op d m)) f g may down e = give q f (alu op d f) g (either q f f (lost d f) ((op == 8) || (op == 10) || (op == 11)) (refl, inl refl) (refl, inl refl)) e
+nature_other_frame q at (AddsHigh d m) f g may down e = go (d == 13) e
   where
     go : (b : Bool) → cond b None (Some (lost d f)) ≡ Some g → Frame q f g
     go true x = absurd cc
     go false x = give q f (lost d f) g (refl, inl refl) x
-other_frame q at (CmpHigh n m) f g may down e = give q f f g (refl, inl refl) e
-other_frame q at (MovHigh d m) f g may down e = go (d == 13) may e
+nature_other_frame q at Idles f g may down e = give q f f g (refl, inl refl) e
+nature_other_frame q at (MovesHigh d m) f g may down e = go (d == 13) may e
   where
     go : (b : Bool) → (not b && not (d == 15)) ≡ true → cond b (sp_set q (copied m f) f) (Some (with_source f d (copied m f))) ≡ Some g → Frame q f g
     go true x y = absurd cc
     go false x y = give q f (with_source f d (copied m f)) g (refl, inl refl) y
-other_frame q at (Bx m) f g may down e = absurd cc
-other_frame q at (Blx m) f g may down e = absurd cc
-other_frame q at (LdrLit t off) f g may down e = give q f (lost t f) g (refl, inl refl) e
-other_frame q at (MemReg op t n m) f g may down e = give q f (mem_reg op t f) g (either q f f (lost t f) (nat_lt op 3) (refl, inl refl) (refl, inl refl)) e
-other_frame q at (MemImm op t n off) f g may down e = give q f (mem_imm op t f) g (either q f (lost t f) f ((op == 1) || (op == 3) || (op == 5)) (refl, inl refl) (refl, inl refl)) e
-other_frame q at (MemSp load t off) f g may down e = go load e
+nature_other_frame q at (Goes b) f g may down e = absurd cc
+nature_other_frame q at (Transfers (NearPc t off)) f g may down e = give q f (lost t f) g (refl, inl refl) e
+nature_other_frame q at (Transfers (AtSum op t n m)) f g may down e = give q f (mem_reg op t f) g (either q f f (lost t f) (nat_lt op 3) (refl, inl refl) (refl, inl refl)) e
+nature_other_frame q at (Transfers (AtOffset op t n off)) f g may down e = give q f (mem_imm op t f) g (either q f (lost t f) f ((op == 1) || (op == 3) || (op == 5)) (refl, inl refl) (refl, inl refl)) e
+nature_other_frame q at (Transfers (AtSp load t off)) f g may down e = go load e
   where
     go : (b : Bool) → Some (cond b (with_source f t (stack_word q f off)) f) ≡ Some g → Frame q f g
     go true x = give q f (with_source f t (stack_word q f off)) g (refl, inl refl) x
     go false x = give q f f g (refl, inl refl) x
-other_frame q at (Adr d off) f g may down e = give q f (lost d f) g (refl, inl refl) e
-other_frame q at (AddRdSp d off) f g may down e = give q f (with_source f d _) g (refl, inl refl) e
-other_frame q at (AddSp off) f g may down e = absurd cc
-other_frame q at (SubSp (pos n)) f g may down e = by_depth (bounded_depth (pos f.depth +ℤ pos n)) e
+nature_other_frame q at (Derives (AddsToSp d off)) f g may down e = give q f (with_source f d _) g (refl, inl refl) e
+nature_other_frame q at (RaisesSp off) f g may down e = absurd cc
+nature_other_frame q at (LowersSp (pos n)) f g may down e = by_depth (bounded_depth (pos f.depth +ℤ pos n)) e
   where
     by_depth : (o : Option ℕ) → option_map (λ d. moved_to q d f) o ≡ Some g → Frame q f g
     by_depth None x = absurd cc
     by_depth (Some d) x = give q f (moved_to q d f) g (refl, inr refl) x
-other_frame q at (SubSp (negsuc n)) f g may down e = absurd down
-other_frame q at (Extend op d m) f g may down e = give q f (lost d f) g (refl, inl refl) e
-other_frame q at (Rev op d m) f g may down e = give q f (lost d f) g (refl, inl refl) e
-other_frame q at (Push list) f g may down e = tt
-other_frame q at (Pop list) f g may down e = absurd cc
-other_frame q at (Hint n) f g may down e = give q f f g (refl, inl refl) e
-other_frame q at (Stm n list) f g may down e = give q f (lost n f) g (refl, inl refl) e
-other_frame q at (Ldm n list) f g may down e = give q f (lost n (clobbered (listed list) f)) g (clobbered_below (listed list) f, inl (clobbered_kept (listed list) f)) e
-other_frame q at (BCond c off) f g may down e = absurd cc
-other_frame q at (Svc imm) f g may down e = absurd cc
-other_frame q at (B off) f g may down e = absurd cc
-other_frame q at (Bl off) f g may down e = absurd cc
-other_frame q at (Barrier op option) f g may down e = give q f f g (refl, inl refl) e
-other_frame q at (Cbz nonzero n off) f g may down e = absurd cc
-other_frame q at (BWide off) f g may down e = absurd cc
-other_frame q at (MovW d imm) f g may down e = give q f (lost d f) g (refl, inl refl) e
-other_frame q at (MovT d imm) f g may down e = give q f (lost d f) g (refl, inl refl) e
-other_frame q at (Div signed d n m) f g may down e = give q f (lost d f) g (refl, inl refl) e
+nature_other_frame q at (LowersSp (negsuc n)) f g may down e = absurd down
+nature_other_frame q at (PushesList list) f g may down e = tt
+nature_other_frame q at (PopsList list) f g may down e = absurd cc
+nature_other_frame q at (StoresList n list) f g may down e = give q f (lost n f) g (refl, inl refl) e
+nature_other_frame q at (LoadsList n list) f g may down e = give q f (lost n (clobbered (listed list) f)) g (clobbered_below (listed list) f, inl (clobbered_kept (listed list) f)) e
+
+pub other_frame : (q : Prologue) (at : ℕ) (i : Instr) (f g : Fact) → may_stand i ≡ true → IsDown i → effect q false at i f ≡ Some g → Leaves q i f g
+other_frame q at i f g may down e = nature_other_frame q at (nature i) f g may down e
 
 -- ---- all saves that a run has lie within its depth
 

@@ -13,15 +13,17 @@ use Rattle.accepted_code.specs.frame_facts.declared.saves.Prologue.{Prologue}
 use Rattle.accepted_code.specs.frame_facts.Saves.{saves_of, saves_within, lies_at, word, moved_to}
 use Rattle.accepted_code.specs.frame_facts.declared.facts.Source.TheVariants.{Entry, Other, SpAt}
 use Rattle.accepted_code.specs.thumb_isa.declared.instr.Instr.{Instr}
-use Rattle.accepted_code.specs.thumb_isa.declared.instr.Instr.TheVariants.{ShiftImm, AddSubReg, AddSubImm3, Imm8, Alu, AddHigh, CmpHigh, MovHigh, Bx, Blx, LdrLit, MemReg, MemImm, MemSp, Adr, AddRdSp, AddSp, SubSp, Extend, Rev, Push, Pop, Hint, Stm, Ldm, BCond, Svc, B, Bl, Barrier, Cbz, BWide, MovW, MovT, Div}
+use Rattle.accepted_code.specs.thumb_isa.declared.instr.Instr.TheVariants.{Push}
+use Rattle.accepted_code.specs.thumb_isa.Nature.{NearPc, AtSum, AtOffset, AtSp, Nature, Works, Idles, Derives, AddsHigh, MovesHigh, Transfers, StoresList, LoadsList, RaisesSp, LowersSp, PushesList, PopsList, Goes, nature}
 use Rattle.accepted_code.specs.thumb_core.Words.{listed}
 use Rattle.accepted_code.specs.frame_facts.declared.facts.Fact.{Fact}
 use Rattle.accepted_code.specs.frame_facts.declared.facts.Source.{Source}
-use Rattle.accepted_code.specs.frame_facts.After.{effect, after_of, gone_on}
+use Rattle.accepted_code.specs.frame_facts.Branches.{nature_is_indirect, nature_returns_to}
+use Rattle.accepted_code.specs.frame_facts.After.{nature_effect, effect, after_of, gone_on}
 use Rattle.accepted_code.specs.frame_facts.Facts.{bounded_depth, with_source, source}
 use Rattle.accepted_code.specs.frame_facts.Lists.{pushed_to}
 use Rattle.accepted_code.specs.frame_facts.Data.{sp_set, copied}
-use Rattle.accepted_code.specs.frame_facts.Prologues.{may_stand, is_callers, with_save, saved, with_pushed, pushed_by, ended, taken}
+use Rattle.accepted_code.specs.frame_facts.Prologues.{nature_may_stand, may_stand, is_callers, with_save, saved, with_pushed, pushed_by, ended, taken}
 use Rattle.accepted_code.specs.frame_facts.declared.cause.FrameCause.TheVariants.{IndirectBranch}
 use Rattle.accepted_code.specs.frame_facts.declared.straight.Straight.{Straight}
 use Rattle.accepted_code.specs.frame_facts.declared.saves.TheConstants.{MOST_SAVES}
@@ -74,35 +76,29 @@ word_same q P d kept at off l h =
 -- ---- effects
 
 -- by q an instruction that may stand in a prologue gives g; it gives the same by P
-pub effect_same : (q P : Prologue) (at : ℕ) (i : Instr) (f g : Fact) → may_stand i ≡ true → f.kept ≤ length (saves_of q) → nat_lt at q.end ≡ true → nat_lt at P.end ≡ true
-    → effect q false at i f ≡ Some g → Deeper q P g.depth → effect P false at i f ≡ Some g
-effect_same q P at (ShiftImm op d m n) f g may k a b e h = e
-effect_same q P at (AddSubReg sub d n m) f g may k a b e h = e
-effect_same q P at (AddSubImm3 sub d n imm) f g may k a b e h = e
-effect_same q P at (Imm8 op d imm) f g may k a b e h = e
-effect_same q P at (Alu op d m) f g may k a b e h = e
-effect_same q P at (AddHigh d m) f g may k a b e h = e
-effect_same q P at (CmpHigh n m) f g may k a b e h = e
-effect_same q P at (MovHigh d m) f g may k a b e h = go (d == 13) may e
+nature_effect_same : (q P : Prologue) (at : ℕ) (n : Nature) (f g : Fact) → nature_may_stand n ≡ true → f.kept ≤ length (saves_of q) → nat_lt at q.end ≡ true → nat_lt at P.end ≡ true
+    → nature_effect q false at n f ≡ Some g → Deeper q P g.depth → nature_effect P false at n f ≡ Some g
+nature_effect_same q P at (Derives v) f g may k a b e h = e
+nature_effect_same q P at (Works d) f g may k a b e h = e
+nature_effect_same q P at (AddsHigh d m) f g may k a b e h = e
+nature_effect_same q P at Idles f g may k a b e h = e
+nature_effect_same q P at (MovesHigh d m) f g may k a b e h = go (d == 13) may e
   where
     go : (s : Bool) → (not s && not (d == 15)) ≡ true → cond s (sp_set q (copied m f) f) (Some (with_source f d (copied m f))) ≡ Some g → cond s (sp_set P (copied m f) f) (Some (with_source f d (copied m f))) ≡ Some g
     go true x y = absurd cc
     go false x y = y
-effect_same q P at (Bx m) f g may k a b e h = absurd cc
-effect_same q P at (Blx m) f g may k a b e h = absurd cc
-effect_same q P at (LdrLit t off) f g may k a b e h = e
-effect_same q P at (MemReg op t n m) f g may k a b e h = e
-effect_same q P at (MemImm op t n off) f g may k a b e h = e
-effect_same q P at (MemSp load t off) f g may k a b e h =
+nature_effect_same q P at (Goes way) f g may k a b e h = absurd cc
+nature_effect_same q P at (Transfers (NearPc t off)) f g may k a b e h = e
+nature_effect_same q P at (Transfers (AtSum op t n m)) f g may k a b e h = e
+nature_effect_same q P at (Transfers (AtOffset op t n off)) f g may k a b e h = e
+nature_effect_same q P at (Transfers (AtSp load t off)) f g may k a b e h =
     ap (λ (s : Source). Some (cond load (with_source f t s) f)) (same f.below) ∙ e
   where
     same : (b : Bool) → cond b Other (word P f.kept f.depth off) ≡ cond b Other (word q f.kept f.depth off)
     same true = refl
     same false = word_same q P g.depth f.kept f.depth off k h
-effect_same q P at (Adr d off) f g may k a b e h = e
-effect_same q P at (AddRdSp d off) f g may k a b e h = e
-effect_same q P at (AddSp off) f g may k a b e h = absurd cc
-effect_same q P at (SubSp off) f g may k a b e h = go (bounded_depth (pos f.depth +ℤ off)) e
+nature_effect_same q P at (RaisesSp off) f g may k a b e h = absurd cc
+nature_effect_same q P at (LowersSp off) f g may k a b e h = go (bounded_depth (pos f.depth +ℤ off)) e
   where
     go : (o : Option ℕ) → option_map (λ d. moved_to q d f) o ≡ Some g → option_map (λ d. moved_to P d f) o ≡ Some g
     go None x = absurd cc
@@ -110,9 +106,7 @@ effect_same q P at (SubSp off) f g may k a b e h = go (bounded_depth (pos f.dept
         let is : moved_to q d f ≡ g = same_Some (moved_to q d f) g x in
         let depth : d ≡ g.depth = ap (λ (y : Fact). y.depth) is in
         ap (λ n. Some (let y : Fact = record f { depth = d; kept = min f.kept n } in y)) (within_same q P g.depth d (omega (arith, depth)) h) ∙ x
-effect_same q P at (Extend op d m) f g may k a b e h = e
-effect_same q P at (Rev op d m) f g may k a b e h = e
-effect_same q P at (Push list) f g may k a b e h = go (bounded_depth (pos f.depth +ℤ pos (4 * length (listed list)))) e
+nature_effect_same q P at (PushesList list) f g may k a b e h = go (bounded_depth (pos f.depth +ℤ pos (4 * length (listed list)))) e
   where
     to_q : (d : ℕ) → pushed_to q at d f ≡ (let y : Fact = record f { depth = d; kept = saves_within q d } in y)
     to_q d = ap (λ t. cond t (let y : Fact = record f { depth = d; kept = saves_within q d } in y) (moved_to q d f)) a
@@ -126,30 +120,23 @@ effect_same q P at (Push list) f g may k a b e h = go (bounded_depth (pos f.dept
         let is : (let y : Fact = record f { depth = d; kept = saves_within q d } in y) ≡ g = sym (to_q d) ∙ same_Some (pushed_to q at d f) g x in
         let depth : d ≡ g.depth = ap (λ (y : Fact). y.depth) is in
         ap (λ (y : Fact). Some y) (to_P d ∙ ap (λ n. let y : Fact = record f { depth = d; kept = n } in y) (within_same q P g.depth d (omega (arith, depth)) h) ∙ is)
-effect_same q P at (Pop list) f g may k a b e h = absurd cc
-effect_same q P at (Hint n) f g may k a b e h = e
-effect_same q P at (Stm n list) f g may k a b e h = e
-effect_same q P at (Ldm n list) f g may k a b e h = e
-effect_same q P at (BCond c off) f g may k a b e h = absurd cc
-effect_same q P at (Svc imm) f g may k a b e h = absurd cc
-effect_same q P at (B off) f g may k a b e h = absurd cc
-effect_same q P at (Bl off) f g may k a b e h = absurd cc
-effect_same q P at (Barrier op option) f g may k a b e h = e
-effect_same q P at (Cbz nonzero n off) f g may k a b e h = absurd cc
-effect_same q P at (BWide off) f g may k a b e h = absurd cc
-effect_same q P at (MovW d imm) f g may k a b e h = e
-effect_same q P at (MovT d imm) f g may k a b e h = e
-effect_same q P at (Div signed d n m) f g may k a b e h = e
+nature_effect_same q P at (PopsList list) f g may k a b e h = absurd cc
+nature_effect_same q P at (StoresList n list) f g may k a b e h = e
+nature_effect_same q P at (LoadsList n list) f g may k a b e h = e
+
+pub effect_same : (q P : Prologue) (at : ℕ) (i : Instr) (f g : Fact) → may_stand i ≡ true → f.kept ≤ length (saves_of q) → nat_lt at q.end ≡ true → nat_lt at P.end ≡ true
+    → effect q false at i f ≡ Some g → Deeper q P g.depth → effect P false at i f ≡ Some g
+effect_same q P at i f g may k a b e h = nature_effect_same q P at (nature i) f g may k a b e h
 
 -- an instruction that may stand there shows no cause but by its effect, and lowers sp by no unknown amount: none writes sp by a MOV
-pub plain_after : (p : Prologue) (lowers : Bool) (at : ℕ) (i : Instr) (f : Fact) → may_stand i ≡ true
-    → after_of p lowers at i f ≡ gone_on None (effect p false at i f)
-plain_after p lowers at (AddHigh d m) f may = go (d == 15) may
+nature_plain_after : (p : Prologue) (lowers : Bool) (at : ℕ) (n : Nature) (f : Fact) → nature_may_stand n ≡ true
+    → cond (nature_is_indirect n f) (Err IndirectBranch) (gone_on (nature_returns_to p n f) (nature_effect p lowers at n f)) ≡ gone_on None (nature_effect p false at n f)
+nature_plain_after p lowers at (AddsHigh d m) f may = go (d == 15) may
   where
-    go : (b : Bool) → (not (is_callers d) && not (d == 13) && not b) ≡ true → cond b (Err IndirectBranch) (gone_on None (effect p false at (AddHigh d m) f)) ≡ gone_on None (effect p false at (AddHigh d m) f)
+    go : (b : Bool) → (not (is_callers d) && not (d == 13) && not b) ≡ true → cond b (Err IndirectBranch) (gone_on None (nature_effect p false at (AddsHigh d m) f)) ≡ gone_on None (nature_effect p false at (AddsHigh d m) f)
     go true x = absurd (let two = and_parts (not (is_callers d) && not (d == 13)) false x in cc)
     go false x = refl
-plain_after p lowers at (MovHigh d m) f may = go (d == 13) (d == 15) may
+nature_plain_after p lowers at (MovesHigh d m) f may = go (d == 13) (d == 15) may
   where
     go : (b c : Bool) → (not b && not c) ≡ true
         → cond c (Err IndirectBranch) (gone_on None (cond b (cond lowers (Some (let y : Fact = record f { below = true } in y)) (sp_set p (copied m f) f)) (Some (with_source f d (copied m f)))))
@@ -157,39 +144,21 @@ plain_after p lowers at (MovHigh d m) f may = go (d == 13) (d == 15) may
     go true c x = absurd cc
     go false true x = absurd cc
     go false false x = refl
-plain_after p lowers at (Bx m) f may = absurd cc
-plain_after p lowers at (Pop list) f may = absurd cc
-plain_after p lowers at (ShiftImm op d m n) f may = refl
-plain_after p lowers at (AddSubReg sub d n m) f may = refl
-plain_after p lowers at (AddSubImm3 sub d n imm) f may = refl
-plain_after p lowers at (Imm8 op d imm) f may = refl
-plain_after p lowers at (Alu op d m) f may = refl
-plain_after p lowers at (CmpHigh n m) f may = refl
-plain_after p lowers at (Blx m) f may = refl
-plain_after p lowers at (LdrLit t off) f may = refl
-plain_after p lowers at (MemReg op t n m) f may = refl
-plain_after p lowers at (MemImm op t n off) f may = refl
-plain_after p lowers at (MemSp load t off) f may = refl
-plain_after p lowers at (Adr d off) f may = refl
-plain_after p lowers at (AddRdSp d off) f may = refl
-plain_after p lowers at (AddSp off) f may = refl
-plain_after p lowers at (SubSp off) f may = refl
-plain_after p lowers at (Extend op d m) f may = refl
-plain_after p lowers at (Rev op d m) f may = refl
-plain_after p lowers at (Push list) f may = refl
-plain_after p lowers at (Hint n) f may = refl
-plain_after p lowers at (Stm n list) f may = refl
-plain_after p lowers at (Ldm n list) f may = refl
-plain_after p lowers at (BCond c off) f may = refl
-plain_after p lowers at (Svc imm) f may = refl
-plain_after p lowers at (B off) f may = refl
-plain_after p lowers at (Bl off) f may = refl
-plain_after p lowers at (Barrier op option) f may = refl
-plain_after p lowers at (Cbz nonzero n off) f may = absurd cc
-plain_after p lowers at (BWide off) f may = absurd cc
-plain_after p lowers at (MovW d imm) f may = refl
-plain_after p lowers at (MovT d imm) f may = refl
-plain_after p lowers at (Div signed d n m) f may = refl
+nature_plain_after p lowers at (Goes b) f may = absurd cc
+nature_plain_after p lowers at (PopsList list) f may = absurd cc
+nature_plain_after p lowers at (Derives v) f may = refl
+nature_plain_after p lowers at (Works d) f may = refl
+nature_plain_after p lowers at Idles f may = refl
+nature_plain_after p lowers at (Transfers t) f may = refl
+nature_plain_after p lowers at (RaisesSp off) f may = refl
+nature_plain_after p lowers at (LowersSp off) f may = refl
+nature_plain_after p lowers at (PushesList list) f may = refl
+nature_plain_after p lowers at (StoresList n list) f may = refl
+nature_plain_after p lowers at (LoadsList n list) f may = refl
+
+pub plain_after : (p : Prologue) (lowers : Bool) (at : ℕ) (i : Instr) (f : Fact) → may_stand i ≡ true
+    → after_of p lowers at i f ≡ gone_on None (effect p false at i f)
+plain_after p lowers at i f may = nature_plain_after p lowers at (nature i) f may
 
 -- ---- a run, instruction by instruction
 

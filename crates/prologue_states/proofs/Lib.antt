@@ -10,6 +10,7 @@ pub use Rattle.accepted_code.proofs.flow
 pub use Rattle.accepted_code.proofs.eh_phase
 pub use Rattle.accepted_code.proofs.eh_cxa
 pub use Rattle.accepted_code.proofs.thumb_core
+pub use Rattle.accepted_code.proofs.thumb_isa
 pub use Rattle.accepted_code.proofs.eh_bus
 mod Widths
 pub mod Straight

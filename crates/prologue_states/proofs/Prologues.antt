@@ -7,7 +7,8 @@ use Rattle.std.specs.Option.{option_map_or}
 use Rattle.std.proofs.lemmas.Bool.{lt-ltb}
 use Rattle.std.proofs.lemmas.List.{append_assoc}
 use Rattle.accepted_code.specs.thumb_isa.declared.instr.Instr.{Instr}
-use Rattle.accepted_code.specs.thumb_isa.declared.instr.Instr.TheVariants.{SubSp, ShiftImm, AddSubReg, AddSubImm3, Imm8, Alu, AddHigh, CmpHigh, MovHigh, Bx, Blx, LdrLit, MemReg, MemImm, MemSp, Adr, AddRdSp, AddSp, Extend, Rev, Push, Pop, Hint, Stm, Ldm, BCond, Svc, B, Bl, Barrier, Cbz, BWide, MovW, MovT, Div}
+use Rattle.accepted_code.specs.thumb_isa.declared.instr.Instr.TheVariants.{SubSp}
+use Rattle.accepted_code.specs.thumb_isa.Nature.{Shifts, AddsThree, AddsEight, Combines, AddsToSp, NearPc, AtSum, AtOffset, AtSp, Nature, Works, Idles, Derives, AddsHigh, MovesHigh, Transfers, StoresList, LoadsList, RaisesSp, LowersSp, PushesList, PopsList, Goes, nature}
 use Rattle.accepted_code.specs.frame_facts.declared.facts.Fact.{Fact}
 use Rattle.accepted_code.specs.frame_facts.Facts.{lost, clobbered, bounded_depth, source, with_source, IsFit}
 use Rattle.accepted_code.specs.frame_facts.declared.facts.TheConstants.{DEEPEST}
@@ -15,10 +16,10 @@ use Rattle.accepted_code.specs.frame_facts.declared.saves.Prologue.{Prologue}
 use Rattle.accepted_code.specs.frame_facts.Lists.{pushed_to}
 use Rattle.accepted_code.specs.frame_facts.Saves.{moved_to, saves_within, stack_word, saves_of}
 use Rattle.accepted_code.specs.thumb_core.Words.{listed}
-use Rattle.accepted_code.specs.frame_facts.After.{effect, after_of, gone_on}
+use Rattle.accepted_code.specs.frame_facts.After.{nature_effect, effect, after_of, gone_on}
 use Rattle.accepted_code.specs.frame_facts.Data.{add_sub_imm3, imm8, alu, copied, sp_set}
 use Rattle.accepted_code.specs.frame_facts.Access.{mem_reg, mem_imm}
-use Rattle.accepted_code.specs.frame_facts.Prologues.{may_stand, taken, run_on}
+use Rattle.accepted_code.specs.frame_facts.Prologues.{nature_may_stand, may_stand, taken, run_on}
 use Rattle.accepted_code.specs.frame_facts.Shifts.{shift_imm}
 use Rattle.accepted_code.specs.frame_graph.declared.places.Standing.TheVariants.{Instruction}
 use Rattle.accepted_code.specs.frame_graph.FlowGraph.{FlowGraph}
@@ -40,9 +41,12 @@ use Rattle.prologue_states.proofs.Straight.{EffectsAgree}
 -- ---- in a prologue the depth never falls
 
 -- SUB sp has an offset of 0 or more, as every instruction that is decoded
+abbrev pub IsDownwards : Nature → Type 0
+IsDownwards (LowersSp (negsuc n)) = ⊥
+IsDownwards n = Unit {0}
+
 abbrev pub IsDown : Instr → Type 0
-IsDown (SubSp (negsuc n)) = ⊥
-IsDown i = Unit {0}
+IsDown i = IsDownwards (nature i)
 
 deeper : (f h g : Fact) → f.depth ≤ h.depth → Some h ≡ Some g → f.depth ≤ g.depth
 deeper f h g l e = subst (λ (x : Fact). f.depth ≤ x.depth) (same_Some h g e) l
@@ -76,57 +80,45 @@ pushed_depth q at f d = go (nat_lt at q.end)
     go true = refl
     go false = refl
 
-pub effect_deeper : (q : Prologue) (at : ℕ) (i : Instr) (f g : Fact) → may_stand i ≡ true → IsDown i → effect q false at i f ≡ Some g → f.depth ≤ g.depth
-effect_deeper q at (ShiftImm op d m n) f g may down e = deeper f (shift_imm op d m n f) g (either f (with_source f d (source f m)) (lost d f) ((op == 0) && (n == 0)) (omega arith) (omega arith)) e
-effect_deeper q at (AddSubReg sub d n m) f g may down e = deeper f (lost d f) g (omega arith) e
-effect_deeper q at (AddSubImm3 sub d n imm) f g may down e = deeper f (add_sub_imm3 sub d n imm f) g (omega arith) e
-effect_deeper q at (Imm8 op d imm) f g may down e = deeper f (imm8 op d imm f) g (either f (lost d f) _ (op == 0) (omega arith) (either f f _ (op == 1) (omega arith) (omega arith))) e
-effect_deeper q at (Alu op d m) f g may down e = deeper f (alu op d f) g (either f f (lost d f) ((op == 8) || (op == 10) || (op == 11)) (omega arith) (omega arith)) e
-effect_deeper q at (AddHigh d m) f g may down e = go (d == 13) e
+nature_effect_deeper : (q : Prologue) (at : ℕ) (n : Nature) (f g : Fact) → nature_may_stand n ≡ true → IsDownwards n → nature_effect q false at n f ≡ Some g → f.depth ≤ g.depth
+nature_effect_deeper q at (Derives (Shifts op d m n)) f g may down e = deeper f (shift_imm op d m n f) g (either f (with_source f d (source f m)) (lost d f) ((op == 0) && (n == 0)) (omega arith) (omega arith)) e
+nature_effect_deeper q at (Works d) f g may down e = deeper f (lost d f) g (omega arith) e
+nature_effect_deeper q at (Derives (AddsThree sub d n imm)) f g may down e = deeper f (add_sub_imm3 sub d n imm f) g (omega arith) e
+nature_effect_deeper q at (Derives (AddsEight op d imm)) f g may down e = deeper f (imm8 op d imm f) g (either f (lost d f) _ (op == 0) (omega arith) (either f f _ (op == 1) (omega arith) (omega arith))) e
+nature_effect_deeper q at (Derives (Combines op d m)) f g may down e = deeper f (alu op d f) g (either f f (lost d f) ((op == 8) || (op == 10) || (op == 11)) (omega arith) (omega arith)) e
+nature_effect_deeper q at (AddsHigh d m) f g may down e = go (d == 13) e
   where
     go : (b : Bool) → cond b None (Some (lost d f)) ≡ Some g → f.depth ≤ g.depth
     go true x = absurd cc
     go false x = deeper f (lost d f) g (omega arith) x
-effect_deeper q at (CmpHigh n m) f g may down e = deeper f f g (omega arith) e
-effect_deeper q at (MovHigh d m) f g may down e = go (d == 13) may e
+nature_effect_deeper q at Idles f g may down e = deeper f f g (omega arith) e
+nature_effect_deeper q at (MovesHigh d m) f g may down e = go (d == 13) may e
   where
     go : (b : Bool) → (not b && not (d == 15)) ≡ true → cond b (sp_set q (copied m f) f) (Some (with_source f d (copied m f))) ≡ Some g → f.depth ≤ g.depth
     go true x y = absurd cc
     go false x y = deeper f (with_source f d (copied m f)) g (omega arith) y
-effect_deeper q at (Bx m) f g may down e = absurd cc
-effect_deeper q at (Blx m) f g may down e = absurd cc
-effect_deeper q at (LdrLit t off) f g may down e = deeper f (lost t f) g (omega arith) e
-effect_deeper q at (MemReg op t n m) f g may down e = deeper f (mem_reg op t f) g (either f f (lost t f) (nat_lt op 3) (omega arith) (omega arith)) e
-effect_deeper q at (MemImm op t n off) f g may down e = deeper f (mem_imm op t f) g (either f (lost t f) f ((op == 1) || (op == 3) || (op == 5)) (omega arith) (omega arith)) e
-effect_deeper q at (MemSp load t off) f g may down e = go load e
+nature_effect_deeper q at (Goes b) f g may down e = absurd cc
+nature_effect_deeper q at (Transfers (NearPc t off)) f g may down e = deeper f (lost t f) g (omega arith) e
+nature_effect_deeper q at (Transfers (AtSum op t n m)) f g may down e = deeper f (mem_reg op t f) g (either f f (lost t f) (nat_lt op 3) (omega arith) (omega arith)) e
+nature_effect_deeper q at (Transfers (AtOffset op t n off)) f g may down e = deeper f (mem_imm op t f) g (either f (lost t f) f ((op == 1) || (op == 3) || (op == 5)) (omega arith) (omega arith)) e
+nature_effect_deeper q at (Transfers (AtSp load t off)) f g may down e = go load e
   where
     go : (b : Bool) → Some (cond b (with_source f t (stack_word q f off)) f) ≡ Some g → f.depth ≤ g.depth
     go true x = deeper f (with_source f t (stack_word q f off)) g (omega arith) x
     go false x = deeper f f g (omega arith) x
-effect_deeper q at (Adr d off) f g may down e = deeper f (lost d f) g (omega arith) e
-effect_deeper q at (AddRdSp d off) f g may down e = deeper f (with_source f d _) g (omega arith) e
-effect_deeper q at (AddSp off) f g may down e = absurd cc
-effect_deeper q at (SubSp (pos n)) f g may down e = to_deeper f g (pos f.depth +ℤ pos n) (f.depth + n) (λ d. moved_to q d f) (λ d. refl) (let z : pos f.depth +ℤ pos n ≡ pos (f.depth + n) = omega (arith, ints) in z) (omega arith) e
-effect_deeper q at (SubSp (negsuc n)) f g may down e = absurd down
-effect_deeper q at (Extend op d m) f g may down e = deeper f (lost d f) g (omega arith) e
-effect_deeper q at (Rev op d m) f g may down e = deeper f (lost d f) g (omega arith) e
-effect_deeper q at (Push list) f g may down e =
+nature_effect_deeper q at (Derives (AddsToSp d off)) f g may down e = deeper f (with_source f d _) g (omega arith) e
+nature_effect_deeper q at (RaisesSp off) f g may down e = absurd cc
+nature_effect_deeper q at (LowersSp (pos n)) f g may down e = to_deeper f g (pos f.depth +ℤ pos n) (f.depth + n) (λ d. moved_to q d f) (λ d. refl) (let z : pos f.depth +ℤ pos n ≡ pos (f.depth + n) = omega (arith, ints) in z) (omega arith) e
+nature_effect_deeper q at (LowersSp (negsuc n)) f g may down e = absurd down
+nature_effect_deeper q at (PushesList list) f g may down e =
     let n = 4 * length (listed list) in
     to_deeper f g (pos f.depth +ℤ pos n) (f.depth + n) (λ d. pushed_to q at d f) (λ d. pushed_depth q at f d) (let z : pos f.depth +ℤ pos n ≡ pos (f.depth + n) = omega (arith, ints) in z) (omega arith) e
-effect_deeper q at (Pop list) f g may down e = absurd cc
-effect_deeper q at (Hint n) f g may down e = deeper f f g (omega arith) e
-effect_deeper q at (Stm n list) f g may down e = deeper f (lost n f) g (omega arith) e
-effect_deeper q at (Ldm n list) f g may down e = deeper f (lost n (clobbered (listed list) f)) g (omega (arith, clobbered_depth (listed list) f)) e
-effect_deeper q at (BCond c off) f g may down e = absurd cc
-effect_deeper q at (Svc imm) f g may down e = absurd cc
-effect_deeper q at (B off) f g may down e = absurd cc
-effect_deeper q at (Bl off) f g may down e = absurd cc
-effect_deeper q at (Barrier op option) f g may down e = deeper f f g (omega arith) e
-effect_deeper q at (Cbz nonzero n off) f g may down e = absurd cc
-effect_deeper q at (BWide off) f g may down e = absurd cc
-effect_deeper q at (MovW d imm) f g may down e = deeper f (lost d f) g (omega arith) e
-effect_deeper q at (MovT d imm) f g may down e = deeper f (lost d f) g (omega arith) e
-effect_deeper q at (Div signed d n m) f g may down e = deeper f (lost d f) g (omega arith) e
+nature_effect_deeper q at (PopsList list) f g may down e = absurd cc
+nature_effect_deeper q at (StoresList n list) f g may down e = deeper f (lost n f) g (omega arith) e
+nature_effect_deeper q at (LoadsList n list) f g may down e = deeper f (lost n (clobbered (listed list) f)) g (omega (arith, clobbered_depth (listed list) f)) e
+
+pub effect_deeper : (q : Prologue) (at : ℕ) (i : Instr) (f g : Fact) → may_stand i ≡ true → IsDown i → effect q false at i f ≡ Some g → f.depth ≤ g.depth
+effect_deeper q at i f g may down e = nature_effect_deeper q at (nature i) f g may down e
 
 never_up : (s : FlowGraph) (p : ℕ) (i : Instr) (size : ℕ) → standing_at s p ≡ Instruction i size → IsDown i
 never_up s p (SubSp (pos n)) size e = tt

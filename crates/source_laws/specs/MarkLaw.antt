@@ -13,24 +13,14 @@ use Rattle.source_laws.specs.RowLaw.{walk_over}
 -- whether a statement's own bytes are code: instructions are, and so is what fills a text up to a multiple; data is not. None for
 -- directives that give no bytes, and for `.pool`, which gives both
 abbrev pub is_code : StmtKind → Option Bool
-is_code (statement.MovsImm _ _) = Some true
-is_code (statement.MovsReg _ _) = Some true
-is_code (statement.Mov _ _) = Some true
-is_code (statement.CmpImm _ _) = Some true
-is_code (statement.CmpReg _ _) = Some true
-is_code (statement.AddSubTwo _ _ _) = Some true
-is_code (statement.AddSubReg _ _ _ _) = Some true
-is_code (statement.AddSubThree _ _ _ _) = Some true
-is_code (statement.AddReg _ _) = Some true
+is_code (statement.TwoRegisters _ _ _) = Some true
+is_code (statement.ThreeRegisters _ _ _ _) = Some true
+is_code (statement.RegisterNumber _ _ _) = Some true
+is_code (statement.TwoRegistersNumber _ _ _ _) = Some true
 is_code (statement.AddRdSp _ _) = Some true
 is_code (statement.AddSp _) = Some true
 is_code (statement.SubSp _) = Some true
-is_code (statement.ShiftImm _ _ _ _) = Some true
-is_code (statement.Alu _ _ _) = Some true
 is_code (statement.Rsbs _ _) = Some true
-is_code (statement.MovW _ _) = Some true
-is_code (statement.MovT _ _) = Some true
-is_code (statement.Div _ _ _ _) = Some true
 is_code (statement.Adr _ _) = Some true
 is_code (statement.LdrLabel _ _) = Some true
 is_code (statement.LdrPool _ _) = Some true
@@ -42,8 +32,6 @@ is_code (statement.Pop _) = Some true
 is_code (statement.Stm _ _) = Some true
 is_code (statement.LdmBack _ _) = Some true
 is_code (statement.Ldm _ _) = Some true
-is_code (statement.Extend _ _ _) = Some true
-is_code (statement.Rev _ _ _) = Some true
 is_code (statement.B _) = Some true
 is_code (statement.BCond _ _) = Some true
 is_code (statement.Bl _) = Some true

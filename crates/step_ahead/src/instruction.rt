@@ -8,6 +8,7 @@ use crate::span::{count_of, reg};
 use thumb_core::branch::{passes, takes};
 use thumb_core::regs::{PC, Regs, SP};
 use thumb_isa::instr::Instr;
+use thumb_isa::plain;
 
 /// What is told of an instruction.
 #[derive(Clone, Copy)]
@@ -48,7 +49,6 @@ pub fn look_ahead(i: Instr, regs: &Regs) -> Ahead
         Instr::Push { list } => Ahead::Pushes {
             count: count_of(list),
         },
-        Instr::Stm { .. } => Ahead::FallThrough,
         Instr::B { off } => Ahead::Jumps {
             to: target_of(off, regs),
         },
@@ -88,24 +88,6 @@ pub fn look_ahead(i: Instr, regs: &Regs) -> Ahead
         | Instr::Blx { .. }
         | Instr::Bl { .. }
         | Instr::Svc { .. } => Ahead::Other { branches: false },
-        Instr::MemReg { .. }
-        | Instr::MemImm { .. }
-        | Instr::MemSp { .. }
-        | Instr::ShiftImm { .. }
-        | Instr::AddSubReg { .. }
-        | Instr::AddSubImm3 { .. }
-        | Instr::Imm8 { .. }
-        | Instr::Alu { .. }
-        | Instr::CmpHigh { .. }
-        | Instr::LdrLit { .. }
-        | Instr::Adr { .. }
-        | Instr::AddRdSp { .. }
-        | Instr::Extend { .. }
-        | Instr::Rev { .. }
-        | Instr::Hint { .. }
-        | Instr::Barrier { .. }
-        | Instr::MovW { .. }
-        | Instr::MovT { .. }
-        | Instr::Div { .. } => Ahead::FallThrough,
+        plain!() | Instr::Stm { .. } => Ahead::FallThrough,
     }
 }

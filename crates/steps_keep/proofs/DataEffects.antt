@@ -1,5 +1,5 @@
 -- What an instruction of the data group does, and what its fact says: one register is written, and both sp and memory stay.
-use Rattle.std.proofs.Common.{◌≡◌, ℕ, Bool, cond, List, true, false, [], Some, None, refl, subst, Option, pos, negsuc}
+use Rattle.std.proofs.Common.{◌≡◌, ℕ, Bool, cond, List, true, false, [], Some, None, Err, refl, sym, ap, ◌∙◌, subst, Option, pos, negsuc}
 use Rattle.std.specs.Prelude.{slice_set, ◌==◌, ◌&&◌, ◌||◌}
 use Rattle.std.proofs.lemmas.Option.{same_Some, none-some}
 use Rattle.stands_for.specs.frame_facts.declared.facts.Fact.{Fact}
@@ -10,16 +10,21 @@ use Rattle.stands_for.specs.thumb_core.Data.{data_effect, with_value}
 use Rattle.stands_for.specs.thumb_core.Step.{effect as done_by}
 use Rattle.stands_for.specs.thumb_core.declared.regs.Regs.{Regs}
 use Rattle.stands_for.specs.thumb_core.declared.regs.Stepped.TheVariants.{Done}
-use Rattle.stands_for.specs.step_ahead.Ahead.{branches, pushed}
-use Rattle.stands_for.specs.frame_facts.After.{after_of, effect, gone_on}
+use Rattle.stands_for.specs.step_ahead.Ahead.{nature_branches, nature_pushed, branches, pushed}
+use Rattle.stands_for.specs.frame_facts.After.{nature_effect, after_of, effect, gone_on}
+use Rattle.stands_for.specs.frame_facts.Branches.{nature_is_indirect, nature_returns_to}
+use Rattle.stands_for.specs.frame_facts.declared.cause.FrameCause.TheVariants.{IndirectBranch}
 use Rattle.stands_for.specs.frame_facts.declared.saves.Prologue.{Prologue}
-use Rattle.stands_for.specs.frame_graph.Edges.{reaches_next}
-use Rattle.stands_for.specs.thumb_isa.declared.instr.Instr.TheVariants.{ShiftImm, AddSubReg, AddSubImm3, Imm8, Alu, Adr, AddRdSp, Extend, Rev, MovW, MovT, Div}
+use Rattle.stands_for.specs.frame_graph.Edges.{nature_reaches_next, reaches_next}
+use Rattle.stands_for.specs.thumb_isa.declared.instr.Instr.TheVariants.{ShiftImm, AddSubImm3, Imm8, Alu, AddRdSp}
+use Rattle.stands_for.specs.thumb_isa.Nature.{Derived, Shifts, AddsThree, AddsEight, Combines, AddsToSp, Nature, Works, Derives, nature}
+use Rattle.stands_for.proofs.thumb_isa.Natures.{derived_instr, derived_is}
+use Rattle.stands_for.proofs.thumb_core.Natures.{work}
 use Rattle.stands_for.specs.frame_facts.Facts.{source, with_source, lost, sp_plus}
 use Rattle.stands_for.specs.frame_facts.Shifts.{shift_imm}
 use Rattle.stands_for.specs.frame_facts.Data.{add_sub_imm3, imm8, alu}
 use Rattle.stands_for.specs.thumb_core.Alu.{alu_of}
-use Rattle.stands_for.specs.frame_facts.Machine.{works_on}
+use Rattle.stands_for.specs.frame_facts.Machine.{derived_on, nature_works_on, works_on}
 
 -- ---- what such an instruction is
 
@@ -72,8 +77,8 @@ same_of f g h x e = subst (SameFrame f) (same_Some h g e) x
 to_d : (i : Instr) (e d : ℕ) → (let o : Option ℕ = Some e in o) ≡ Some d → IsData i e → IsData i d
 to_d i e d h x = subst (IsData i) (same_Some e d h) x
 
-pub data_is : (i : Instr) (d : ℕ) → works_on i ≡ Some d → IsData i d
-data_is (ShiftImm op e m n) d h = to_d (ShiftImm op e m n) e d h (record {
+derived_data : (v : Derived) (d : ℕ) → derived_on v ≡ Some d → IsData (derived_instr v) d
+derived_data (Shifts op e m n) d h = to_d (ShiftImm op e m n) e d h (record {
   on = refl;
   taken = λ regs. refl;
   pushes = refl;
@@ -83,17 +88,7 @@ data_is (ShiftImm op e m n) d h = to_d (ShiftImm op e m n) e d h (record {
   stays = λ regs. refl;
   writes = λ regs. written e _ regs.r;
 })
-data_is (AddSubReg sub e n m) d h = to_d (AddSubReg sub e n m) e d h (record {
-  on = refl;
-  taken = λ regs. refl;
-  pushes = refl;
-  plain = λ p l a f. refl;
-  frame = λ p l a f g k. same_of f g (lost e f) (refl, refl) k;
-  does = λ size regs m. refl;
-  stays = λ regs. refl;
-  writes = λ regs. written e _ regs.r;
-})
-data_is (AddSubImm3 sub e n imm) d h = to_d (AddSubImm3 sub e n imm) e d h (record {
+derived_data (AddsThree sub e n imm) d h = to_d (AddSubImm3 sub e n imm) e d h (record {
   on = refl;
   taken = λ regs. refl;
   pushes = refl;
@@ -103,7 +98,7 @@ data_is (AddSubImm3 sub e n imm) d h = to_d (AddSubImm3 sub e n imm) e d h (reco
   stays = λ regs. refl;
   writes = λ regs. written e _ regs.r;
 })
-data_is (Imm8 op e imm) d h = to_d (Imm8 op e imm) e d h (record {
+derived_data (AddsEight op e imm) d h = to_d (Imm8 op e imm) e d h (record {
   on = refl;
   taken = λ regs. refl;
   pushes = refl;
@@ -113,7 +108,7 @@ data_is (Imm8 op e imm) d h = to_d (Imm8 op e imm) e d h (record {
   stays = λ regs. either_pc regs.pc (op == 0) (with_value e imm regs) _ refl (either_pc regs.pc (op == 1) _ _ refl (either_pc regs.pc (op == 2) _ _ refl refl));
   writes = λ regs. either e regs.r (op == 0) (with_value e imm regs) _ (written e _ regs.r) (either e regs.r (op == 1) _ _ (as_was e regs.r) (either e regs.r (op == 2) _ _ (written e _ regs.r) (written e _ regs.r)));
 })
-data_is (Alu op e m) d h = to_d (Alu op e m) e d h (record {
+derived_data (Combines op e m) d h = to_d (Alu op e m) e d h (record {
   on = refl;
   taken = λ regs. refl;
   pushes = refl;
@@ -123,17 +118,7 @@ data_is (Alu op e m) d h = to_d (Alu op e m) e d h (record {
   stays = λ regs. refl;
   writes = λ regs. either_list e regs.r (alu_of op (reg regs e) (reg regs m) regs).written _ _ (written e _ regs.r) (as_was e regs.r);
 })
-data_is (Adr e off) d h = to_d (Adr e off) e d h (record {
-  on = refl;
-  taken = λ regs. refl;
-  pushes = refl;
-  plain = λ p l a f. refl;
-  frame = λ p l a f g k. same_of f g (lost e f) (refl, refl) k;
-  does = λ size regs m. refl;
-  stays = λ regs. refl;
-  writes = λ regs. written e _ regs.r;
-})
-data_is (AddRdSp e (pos off)) d h = to_d (AddRdSp e (pos off)) e d h (record {
+derived_data (AddsToSp e (pos off)) d h = to_d (AddRdSp e (pos off)) e d h (record {
   on = refl;
   taken = λ regs. refl;
   pushes = refl;
@@ -143,55 +128,26 @@ data_is (AddRdSp e (pos off)) d h = to_d (AddRdSp e (pos off)) e d h (record {
   stays = λ regs. refl;
   writes = λ regs. written e _ regs.r;
 })
-data_is (AddRdSp e (negsuc off)) d h = absurd (none-some d h)
-data_is (Extend op e m) d h = to_d (Extend op e m) e d h (record {
-  on = refl;
-  taken = λ regs. refl;
-  pushes = refl;
-  plain = λ p l a f. refl;
-  frame = λ p l a f g k. same_of f g (lost e f) (refl, refl) k;
-  does = λ size regs m. refl;
-  stays = λ regs. refl;
-  writes = λ regs. written e _ regs.r;
-})
-data_is (Rev op e m) d h = to_d (Rev op e m) e d h (record {
-  on = refl;
-  taken = λ regs. refl;
-  pushes = refl;
-  plain = λ p l a f. refl;
-  frame = λ p l a f g k. same_of f g (lost e f) (refl, refl) k;
-  does = λ size regs m. refl;
-  stays = λ regs. refl;
-  writes = λ regs. written e _ regs.r;
-})
-data_is (MovW e imm) d h = to_d (MovW e imm) e d h (record {
-  on = refl;
-  taken = λ regs. refl;
-  pushes = refl;
-  plain = λ p l a f. refl;
-  frame = λ p l a f g k. same_of f g (lost e f) (refl, refl) k;
-  does = λ size regs m. refl;
-  stays = λ regs. refl;
-  writes = λ regs. written e _ regs.r;
-})
-data_is (MovT e imm) d h = to_d (MovT e imm) e d h (record {
-  on = refl;
-  taken = λ regs. refl;
-  pushes = refl;
-  plain = λ p l a f. refl;
-  frame = λ p l a f g k. same_of f g (lost e f) (refl, refl) k;
-  does = λ size regs m. refl;
-  stays = λ regs. refl;
-  writes = λ regs. written e _ regs.r;
-})
-data_is (Div signed e n m) d h = to_d (Div signed e n m) e d h (record {
-  on = refl;
-  taken = λ regs. refl;
-  pushes = refl;
-  plain = λ p l a f. refl;
-  frame = λ p l a f g k. same_of f g (lost e f) (refl, refl) k;
-  does = λ size regs m. refl;
-  stays = λ regs. refl;
-  writes = λ regs. written e _ regs.r;
-})
-data_is i d h = absurd (none-some d h)
+derived_data (AddsToSp e (negsuc off)) d h = absurd (none-some d h)
+
+works_data : (i : Instr) (d : ℕ) → nature i ≡ Works d → IsData i d
+works_data i d s =
+    let w = work i d s in
+    record {
+      on = ap nature_reaches_next s;
+      taken = λ regs. ap (λ n. nature_branches n regs) s;
+      pushes = ap nature_pushed s;
+      plain = λ p l a f. subst (λ n. cond (nature_is_indirect n f) (Err IndirectBranch) (gone_on (nature_returns_to p n f) (nature_effect p l a n f)) ≡ gone_on None (nature_effect p l a n f)) (sym s) refl;
+      frame = λ p l a f g k. same_of f g (lost d f) (refl, refl) (sym (ap (λ n. nature_effect p l a n f) s) ∙ k);
+      does = w.does;
+      stays = w.stays;
+      writes = λ regs. subst (Writes d regs.r) (sym (w.writes regs)) (written d _ regs.r);
+    }
+
+pub data_is : (i : Instr) (d : ℕ) → works_on i ≡ Some d → IsData i d
+data_is i d h = by_nature (nature i) refl h
+  where
+    by_nature : (n : Nature) → nature i ≡ n → nature_works_on n ≡ Some d → IsData i d
+    by_nature (Works e) s h = to_d i e d h (works_data i e s)
+    by_nature (Derives v) s h = subst (λ j. IsData j d) (sym (derived_is i v s)) (derived_data v d h)
+    by_nature n s h = absurd (none-some d h)

@@ -44,11 +44,14 @@ pub struct ThreadBus<B: Bus> {
     inner: B,
     guards: Guards,
     thread: usize,
+    /// The home of that thread.
+    home: (u32, u32),
     /// From this slot of the pool on each is free.
     used: u32,
     ghost rising: { AreGuards guards } by { AreGuards-prop guards },
     ghost within: { thread < THREADS },
     ghost at_home: { IsHome (home_of thread) },
+    ghost its_own: { home ≡ home_of thread },
     ghost plain: { (B.memory inner).guards ≡ [] },
     ghost few: { used ≤ SLOTS },
     ghost free: { AreFree (word (B.memory inner)) used },
@@ -65,6 +68,7 @@ impl<B: Bus + Drop> ThreadBus<B> {
             inner,
             guards,
             thread: 0,
+            home: home_of(0),
             used: SLOTS,
         })
     }
@@ -83,6 +87,7 @@ impl<B: Bus> ThreadBus<B> {
         owners.show(ran, thread, &mut self.inner);
         self.used = owners.used;
         self.thread = thread;
+        self.home = home_of(thread);
     }
 
     /// The thread that is entered.
@@ -184,7 +189,7 @@ impl<B: Bus> Bus for ThreadBus<B> {
     }
 
     fn release_below(&mut self, a: u32) {
-        let (low, _) = home_of(self.thread);
+        let (low, _) = self.home;
         self.guards.release_from(low, a);
     }
 
@@ -198,7 +203,7 @@ impl<B: Bus> Bus for ThreadBus<B> {
     }
 
     fn home(&self) -> (u32, u32) {
-        home_of(self.thread)
+        self.home
     }
 
     ghost is_map = { λ bus. record { segments = (B.is_map bus.inner).segments; guards = bus.rising; home = bus.at_home } };

@@ -1,5 +1,5 @@
 -- An event that is done in its thread's own place among the threads.
-use Rattle.std.proofs.Common.{◌≡◌, ℕ, zero, suc, ◌-◌, Bool, true, false, List, [], ◌∷◌, get_or, set, Option, Some, None, is_some, if◌then◌else◌, refl, ap, ◌∙◌}
+use Rattle.std.proofs.Common.{◌≡◌, ℕ, zero, suc, ◌-◌, Bool, true, false, List, [], ◌∷◌, get_or, set, Option, Some, None, is_some, if◌then◌else◌, refl, ap, ◌∙◌, sym}
 use Rattle.std.specs.Prelude.{slice_index}
 use Rattle.guest_gates.specs.Gates.{r0}
 use Rattle.thumb_core.specs.declared.ends.End.{End}
@@ -111,3 +111,25 @@ pub ends_there : (p : Program) (threads before : List (Option Thread)) (thread :
     → threads ≡ put_thread before thread core None → outcome ≡ after_end p thread core end threads → outcome ≡ after_end p thread core end before
 ends_there p threads before thread core end outcome there is e =
     e ∙ ap (λ (ts : List (Option Thread)). after_end p thread core end ts) is ∙ end_in_place p thread core core before there end
+
+-- what was put there stands there
+put_there : {A : Type 0} (l : List (Option A)) (i : ℕ) (x : Option A) → is_some (get_or l i None) ≡ true → get_or (set l i x) i None ≡ x
+put_there [] i x there = absurd (not_none there)
+put_there (y ∷ l) zero x there = refl
+put_there (y ∷ l) (suc i) x there = put_there l i x there
+
+there_now : (threads before : List (Option Thread)) (thread : ℕ) (core : Core) → is_some (get_or before thread None) ≡ true
+    → threads ≡ put_thread before thread core None → get_or threads thread None ≡ Some (record { core = core; ended = None })
+there_now threads before thread core there is = rw is (put_there before thread (Some (record { core = core; ended = None })) there)
+
+abbrev core_in : Core → Option Thread → Core
+core_in core None = core
+core_in core (Some t) = t.core
+
+-- the end of a thread that stands there as its event left it
+pub ended_there : (p : Program) (threads before : List (Option Thread)) (thread : ℕ) (core : Core) (left : Thread) (end : End) (outcome : Outcome)
+    → get_or threads thread None ≡ Some left → is_some (get_or before thread None) ≡ true → threads ≡ put_thread before thread core None
+    → outcome ≡ after_end p thread left.core end threads → outcome ≡ after_end p thread core end before
+ended_there p threads before thread core left end outcome stands there is e =
+    let same : left.core ≡ core = ap (core_in core) (sym stands ∙ there_now threads before thread core there is) in
+    ends_there p threads before thread core end outcome there is (e ∙ ap (λ (k : Core). after_end p thread k end threads) same)

@@ -74,8 +74,7 @@ impl<'a, B: Bus> Threads<'a, B> {
             input,
             out,
         );
-        let core = slot.core;
-        let answer = apply_turn(self.accepted, &mut self.threads, thread, &core, did);
+        let answer = apply_turn(self.accepted, &mut self.threads, thread, did);
         self.tags.reach(thread as u8, self.events.kept().len());
         answer
     }

@@ -76,21 +76,40 @@ fn after_end(
     }
 }
 
-/// What an event of a thread does to the threads, once it was done in the thread's own place and left this core there.
+/// What the end of a thread's event does that was done in the thread's own place. It is a call of its own, so that an event that doesn't end
+/// pays nothing for it.
+#[cold]
+#[inline(never)]
+fn end_in_place(
+    a: &Accepted,
+    threads: &mut [Option<Thread>; THREADS],
+    thread: usize,
+    end: End,
+) -> Turned
+    requires { thread < THREADS }
+    ensures { (before : List (Option Thread)) (core : Core) → is_some (slice_index_or before thread None) ≡ true → threads.old ≡ put_thread before thread core None
+        → ◌≡◌ {A = Outcome} (result, threads.new) (after_end (program_of a.now) thread core end before) }
+{
+    let Some(stood) = threads[thread] else {
+        return Turned::Ended(end);
+    };
+    after_end(a, threads, thread, &stood.core, end)
+}
+
+/// What an event of a thread does to the threads, once it was done in the thread's own place and left its core there.
 #[inline(always)]
 pub(crate) fn apply_turn(
     a: &Accepted,
     threads: &mut [Option<Thread>; THREADS],
     thread: usize,
-    core: &Core,
     turned: Turned,
 ) -> Turned
     requires { thread < THREADS }
-    ensures { (before : List (Option Thread)) → is_some (slice_index_or before thread None) ≡ true → threads.old ≡ put_thread before thread core.now None
-        → ◌≡◌ {A = Outcome} (result, threads.new) (turn_outcome (program_of a.now) thread core.now turned before) }
+    ensures { (before : List (Option Thread)) (core : Core) → is_some (slice_index_or before thread None) ≡ true → threads.old ≡ put_thread before thread core None
+        → ◌≡◌ {A = Outcome} (result, threads.new) (turn_outcome (program_of a.now) thread core turned before) }
 {
     match turned {
         Turned::Went => Turned::Went,
-        Turned::Ended(end) => after_end(a, threads, thread, core, end),
+        Turned::Ended(end) => end_in_place(a, threads, thread, end),
     }
 }

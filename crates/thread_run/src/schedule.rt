@@ -4,18 +4,15 @@ ghost use Rattle.thread_memory.specs.declared.homes.TheConstants.{THREADS};
 ghost use Rattle.thread_run.specs.Schedules.{thread_of, thread_at, place_after};
 
 use thread_memory::THREADS;
-use thread_schedule::schedule::{FIRST_DIGIT, LAST_DIGIT};
+use thread_schedule::schedule::FIRST_DIGIT;
 
 /// The thread that a byte names.
 fn thread_of(byte: u8) -> Option<usize>
     ensures is { result ≡ thread_of byte }
     ensures within { IfSome result (λ thread. thread < THREADS) }
 {
-    if (FIRST_DIGIT..=LAST_DIGIT).contains(&byte) {
-        Some(usize::from(byte - FIRST_DIGIT))
-    } else {
-        None
-    }
+    let thread = usize::from(byte.wrapping_sub(FIRST_DIGIT));
+    if thread < THREADS { Some(thread) } else { None }
 }
 
 /// The thread that the element at a place names.

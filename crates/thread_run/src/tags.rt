@@ -55,7 +55,21 @@ impl Tags {
     }
 
     /// Of so many events those that have no tag yet are the thread's. Takes no memory.
+    #[inline(always)]
     pub(crate) fn reach(&mut self, thread: u8, count: usize)
+        requires { thread < TAGS }
+        ensures { self.new ≡ tags_up_to thread count self.old }
+    {
+        // most events keep none
+        if self.len() < count {
+            self.catch_up(thread, count);
+        }
+    }
+
+    /// The same as a call of its own.
+    #[cold]
+    #[inline(never)]
+    fn catch_up(&mut self, thread: u8, count: usize)
         requires { thread < TAGS }
         ensures { self.new ≡ tags_up_to thread count self.old }
     {

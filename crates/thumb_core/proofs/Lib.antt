@@ -8,3 +8,4 @@ pub mod PopLaws
 pub mod Acts
 pub mod Popped
 pub mod Divided
+pub mod Natures

@@ -13,3 +13,4 @@ pub mod Lists
 pub mod Step
 pub mod Stores
 pub mod Laws
+pub mod NatureLaws

@@ -58,7 +58,7 @@ fn end_load(answer: Result<u32, BusFault>, t: u8, size: u32, regs: &mut Regs) ->
 {
     match answer {
         Ok(value) => {
-            regs.put(t, value);
+            regs.put_low(t, value);
             regs.advance(size);
             Stepped::Done
         }

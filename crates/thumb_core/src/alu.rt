@@ -2,7 +2,7 @@
 ghost use Rattle.std.specs.Prelude.{◌≡◌, ◌<◌};
 ghost use Rattle.thumb_core.specs.Alu.{logic, of_sum, of_shift, alu_of, alu, with_answer};
 
-use crate::arith::{Sum, add};
+use crate::arith::{Sum, add, subtract};
 use crate::regs::Regs;
 use crate::shift::{self, rotation_of, shift_of};
 
@@ -63,7 +63,7 @@ fn take_answer(answer: Answer, d: u8, regs: &mut Regs)
     ensures { regs.new ≡ with_answer answer d regs.old }
 {
     if answer.written {
-        regs.put(d, answer.value);
+        regs.put_low(d, answer.value);
     }
     regs.set_nz(answer.value);
     regs.c = answer.carry;
@@ -118,8 +118,8 @@ fn alu_of(op: u8, x: u32, y: u32, regs: &Regs) -> Answer
         SBC => of_sum(add(x, !y, regs.c), true),
         ROR => of_shift(rotation_of(x, y % 256, regs.c), regs),
         TST => logic(x & y, false, regs),
-        RSB => of_sum(add(0, !y, true), true),
-        CMP => of_sum(add(x, !y, true), false),
+        RSB => of_sum(subtract(0, y), true),
+        CMP => of_sum(subtract(x, y), false),
         CMN => of_sum(add(x, y, false), false),
         ORR => logic(x | y, true, regs),
         MUL => logic(x.wrapping_mul(y), true, regs),

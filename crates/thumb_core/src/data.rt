@@ -3,7 +3,7 @@ ghost use Rattle.std.specs.Prelude.{◌≡◌, ◌+◌, ◌*◌, ◌%◌, ◌^�
 ghost use Rattle.thumb_core.specs.Arith.{sum_or_difference, sign_extension};
 ghost use Rattle.thumb_core.specs.Data.{forward, backward, with_value, with_sum, shift_imm, add_sub_reg, add_sub_imm, imm8, cmp_high, extension_of, half_reversal, reversal_of};
 
-use crate::arith::{Sum, add};
+use crate::arith::{Sum, add, subtract};
 use crate::regs::Regs;
 use crate::shift::shift_of;
 
@@ -50,7 +50,7 @@ fn set_value(d: u8, x: u32, regs: &mut Regs)
     requires { d < 8 }
     ensures { regs.new ≡ with_value d x regs.old }
 {
-    regs.put(d, x);
+    regs.put_low(d, x);
     regs.set_nz(x);
 }
 
@@ -58,7 +58,7 @@ fn set_sum(d: u8, sum: Sum, regs: &mut Regs)
     requires { d < 8 }
     ensures { regs.new ≡ with_sum d sum regs.old }
 {
-    regs.put(d, sum.value);
+    regs.put_low(d, sum.value);
     regs.set_flags(sum);
 }
 
@@ -67,7 +67,7 @@ fn sum_or_difference(sub: bool, x: u32, y: u32) -> Sum
     ensures { result ≡ sum_or_difference sub x y }
 {
     if sub {
-        add(x, !y, true)
+        subtract(x, y)
     } else {
         add(x, y, false)
     }

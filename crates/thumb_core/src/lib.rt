@@ -10,6 +10,7 @@ pub mod data;
 pub mod division;
 pub mod ends;
 pub mod lists;
+pub mod nature_laws;
 pub mod regs;
 pub mod shift;
 pub mod step;

@@ -85,6 +85,14 @@ impl Regs {
         self.r[d as usize] = word_in(d, x);
     }
 
+    /// Writes one of the low registers, each of which keeps a word whole.
+    pub(crate) fn put_low(&mut self, d: u8, x: u32)
+        requires { d < 8 }
+        ensures { self.new ≡ with_reg self.old d x }
+    {
+        self.r[d as usize] = x;
+    }
+
     /// Goes to an address.
     pub(crate) fn go_to(&mut self, x: u32)
         ensures { self.new ≡ with_pc self.old x }

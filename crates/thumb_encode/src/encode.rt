@@ -1,9 +1,15 @@
-//! From an instruction to its code, the inverse of the decoder; docs/instruction-set.md states the table.
-ghost use Rattle.std.specs.Prelude.{◌≡◌, IfOk, OnErr};
-ghost use Rattle.thumb_encode.specs.Codes.{IsCodeIn, IsCodeOf, HasNoCode, GivesBack, encoded_of, least_profile};
+//! From an instruction to its code, the inverse of the decoder; docs/instruction-set.md states the table. Shifts, data processing, moves of
+//! registers and numbers and hints have their codes here; branches, loads and stores and lists in the files of their groups.
+ghost use Rattle.std.specs.Prelude.{◌≡◌, ℕ, ◌*◌, ◌^◌, ◌<◌, ◌≤◌, Bool, ℤ, pos, IfOk, OnErr};
+ghost use Rattle.thumb_isa.specs.Range.{IsGeneral};
+ghost use Rattle.thumb_isa.specs.declared.profile.Profile.TheVariants.{One, Two};
+ghost use Rattle.thumb_isa.specs.declared.instr.Decoded.TheVariants.{Is};
+ghost use Rattle.thumb_isa.specs.declared.instr.Instr.TheVariants.{ShiftImm, AddSubReg, AddSubImm3, Imm8, Alu, AddHigh, CmpHigh, MovHigh, Extend, Rev, Hint, MovW, MovT, Div};
+ghost use Rattle.thumb_encode.specs.Codes.{IsCodeIn, IsCodeOf, HasNoCode, GivesBack, encoded_of, least_profile, sixteen_code, is_general};
 
 use crate::code::Code;
-use crate::{branch, lists, memory, registers, wide};
+use crate::operand::{high_fields, low_fields};
+use crate::{branch, lists, memory};
 use thumb_isa::encode_fault::EncodeFault;
 use thumb_isa::instr::Instr;
 
@@ -26,14 +32,14 @@ fn code_of(i: &Instr) -> Result<Code, EncodeFault>
     ensures exact { result ≡ encoded_of i.now }
 {
     match *i {
-        Instr::ShiftImm { op, d, m, n } => registers::shift(op, d, m, n),
-        Instr::AddSubReg { sub, d, n, m } => registers::add_sub_reg(sub, d, n, m),
-        Instr::AddSubImm3 { sub, d, n, imm } => registers::add_sub_imm(sub, d, n, imm),
-        Instr::Imm8 { op, d, imm } => registers::imm8(op, d, imm),
-        Instr::Alu { op, d, m } => registers::alu(op, d, m),
-        Instr::AddHigh { d, m } => registers::add_high(d, m),
-        Instr::CmpHigh { n, m } => registers::cmp_high(n, m),
-        Instr::MovHigh { d, m } => registers::mov_high(d, m),
+        Instr::ShiftImm { op, d, m, n } => shift(op, d, m, n),
+        Instr::AddSubReg { sub, d, n, m } => add_sub_reg(sub, d, n, m),
+        Instr::AddSubImm3 { sub, d, n, imm } => add_sub_imm(sub, d, n, imm),
+        Instr::Imm8 { op, d, imm } => imm8(op, d, imm),
+        Instr::Alu { op, d, m } => alu(op, d, m),
+        Instr::AddHigh { d, m } => add_high(d, m),
+        Instr::CmpHigh { n, m } => cmp_high(n, m),
+        Instr::MovHigh { d, m } => mov_high(d, m),
         Instr::Bx { m } => branch::bx(m),
         Instr::Blx { m } => branch::blx(m),
         Instr::LdrLit { t, off } => memory::ldr_lit(t, off),
@@ -44,11 +50,11 @@ fn code_of(i: &Instr) -> Result<Code, EncodeFault>
         Instr::AddRdSp { d, off } => memory::add_rd_sp(d, off),
         Instr::AddSp { off } => memory::add_sp(off),
         Instr::SubSp { off } => memory::sub_sp(off),
-        Instr::Extend { op, d, m } => registers::extend(op, d, m),
-        Instr::Rev { op, d, m } => registers::reverse(op, d, m),
+        Instr::Extend { op, d, m } => extend(op, d, m),
+        Instr::Rev { op, d, m } => reverse(op, d, m),
         Instr::Push { list } => lists::push(list),
         Instr::Pop { list } => lists::pop(list),
-        Instr::Hint { n } => registers::hint(n),
+        Instr::Hint { n } => hint(n),
         Instr::Stm { n, list } => lists::stm(n, list),
         Instr::Ldm { n, list } => lists::ldm(n, list),
         Instr::BCond { cond, off } => branch::b_cond(cond, off),
@@ -58,8 +64,221 @@ fn code_of(i: &Instr) -> Result<Code, EncodeFault>
         Instr::Barrier { op, option } => branch::barrier(op, option),
         Instr::Cbz { nonzero, n, off } => branch::cbz(nonzero, n, off),
         Instr::BWide { off } => branch::b_wide(off),
-        Instr::MovW { d, imm } => wide::mov_w(d, imm),
-        Instr::MovT { d, imm } => wide::mov_t(d, imm),
-        Instr::Div { signed, d, n, m } => wide::div(signed, d, n, m),
+        Instr::MovW { d, imm } => mov_w(d, imm),
+        Instr::MovT { d, imm } => mov_t(d, imm),
+        Instr::Div { signed, d, n, m } => div(signed, d, n, m),
     }
+}
+
+/// LSL, LSR, ASR (immediate).
+#[tactic(auto, using(thumb_isa::proofs::Table::table))]
+fn shift(op: u8, d: u8, m: u8, n: u32) -> Result<Code, EncodeFault>
+    ensures ok { IfOk result (λ code. IsCodeIn One code (ShiftImm op d m n)) }
+    ensures exact { result ≡ encoded_of (ShiftImm op d m n) }
+{
+    if op > 2 || d > 7 || m > 7 {
+        return Err(EncodeFault::RegisterRange);
+    }
+    let registers = (u16::from(op) << 11) + low_fields(0, m, d);
+    if op == 0 {
+        if n > 31 {
+            return Err(EncodeFault::ImmediateRange);
+        }
+        return Ok(Code::Half(registers + ((n as u16) << 6)));
+    }
+    if n == 0 || n > 32 {
+        return Err(EncodeFault::ImmediateRange);
+    }
+    Ok(Code::Half(registers + ((n as u16 % 32) << 6)))
+}
+
+/// ADD, SUB (register).
+#[tactic(auto, using(thumb_isa::proofs::Table::table))]
+fn add_sub_reg(sub: bool, d: u8, n: u8, m: u8) -> Result<Code, EncodeFault>
+    ensures ok { IfOk result (λ code. IsCodeIn One code (AddSubReg sub d n m)) }
+    ensures exact { result ≡ encoded_of (AddSubReg sub d n m) }
+{
+    if d > 7 || n > 7 || m > 7 {
+        return Err(EncodeFault::RegisterRange);
+    }
+    Ok(Code::Half(0x1800 + (u16::from(sub) << 9) + low_fields(m, n, d)))
+}
+
+/// ADD, SUB (immediate) with three bits.
+#[tactic(auto, using(thumb_isa::proofs::Table::table))]
+fn add_sub_imm(sub: bool, d: u8, n: u8, imm: u32) -> Result<Code, EncodeFault>
+    ensures ok { IfOk result (λ code. IsCodeIn One code (AddSubImm3 sub d n imm)) }
+    ensures exact { result ≡ encoded_of (AddSubImm3 sub d n imm) }
+{
+    if d > 7 || n > 7 {
+        return Err(EncodeFault::RegisterRange);
+    }
+    if imm > 7 {
+        return Err(EncodeFault::ImmediateRange);
+    }
+    Ok(Code::Half(0x1c00 + (u16::from(sub) << 9) + low_fields(imm as u8, n, d)))
+}
+
+/// MOV, CMP, ADD, SUB (immediate) with eight bits.
+#[tactic(auto, using(thumb_isa::proofs::Table::table))]
+fn imm8(op: u8, d: u8, imm: u32) -> Result<Code, EncodeFault>
+    ensures ok { IfOk result (λ code. IsCodeIn One code (Imm8 op d imm)) }
+    ensures exact { result ≡ encoded_of (Imm8 op d imm) }
+{
+    if op > 3 || d > 7 {
+        return Err(EncodeFault::RegisterRange);
+    }
+    if imm > 255 {
+        return Err(EncodeFault::ImmediateRange);
+    }
+    Ok(Code::Half(0x2000 + (u16::from(op) << 11) + (u16::from(d) << 8) + imm as u16))
+}
+
+/// Data processing of two low registers.
+#[tactic(auto, using(thumb_isa::proofs::Table::table))]
+fn alu(op: u8, d: u8, m: u8) -> Result<Code, EncodeFault>
+    ensures ok { IfOk result (λ code. IsCodeIn One code (Alu op d m)) }
+    ensures exact { result ≡ encoded_of (Alu op d m) }
+{
+    if op > 15 || d > 7 || m > 7 {
+        return Err(EncodeFault::RegisterRange);
+    }
+    Ok(Code::Half(0x4000 + (u16::from(op) << 6) + low_fields(0, m, d)))
+}
+
+/// ADD (register) of any registers.
+#[tactic(auto, using(thumb_isa::proofs::Table::table))]
+fn add_high(d: u8, m: u8) -> Result<Code, EncodeFault>
+    ensures ok { IfOk result (λ code. IsCodeIn One code (AddHigh d m)) }
+    ensures exact { result ≡ encoded_of (AddHigh d m) }
+{
+    if d > 15 || m > 15 || d == 15 && m == 15 {
+        return Err(EncodeFault::RegisterRange);
+    }
+    Ok(Code::Half(0x4400 + high_fields(d, m)))
+}
+
+/// CMP (register) with a high register.
+#[tactic(auto, using(thumb_isa::proofs::Table::table))]
+fn cmp_high(n: u8, m: u8) -> Result<Code, EncodeFault>
+    ensures ok { IfOk result (λ code. IsCodeIn One code (CmpHigh n m)) }
+    ensures exact { result ≡ encoded_of (CmpHigh n m) }
+{
+    if n > 14 || m > 14 || n < 8 && m < 8 {
+        return Err(EncodeFault::RegisterRange);
+    }
+    Ok(Code::Half(0x4500 + high_fields(n, m)))
+}
+
+/// MOV (register) of any registers.
+#[tactic(auto, using(thumb_isa::proofs::Table::table))]
+fn mov_high(d: u8, m: u8) -> Result<Code, EncodeFault>
+    ensures ok { IfOk result (λ code. IsCodeIn One code (MovHigh d m)) }
+    ensures exact { result ≡ encoded_of (MovHigh d m) }
+{
+    if d > 15 || m > 15 {
+        return Err(EncodeFault::RegisterRange);
+    }
+    Ok(Code::Half(0x4600 + high_fields(d, m)))
+}
+
+/// SXTH, SXTB, UXTH, UXTB.
+#[tactic(auto, using(thumb_isa::proofs::Table::table))]
+fn extend(op: u8, d: u8, m: u8) -> Result<Code, EncodeFault>
+    ensures ok { IfOk result (λ code. IsCodeIn One code (Extend op d m)) }
+    ensures exact { result ≡ encoded_of (Extend op d m) }
+{
+    if op > 3 || d > 7 || m > 7 {
+        return Err(EncodeFault::RegisterRange);
+    }
+    Ok(Code::Half(0xb200 + low_fields(op, m, d)))
+}
+
+/// REV, REV16, REVSH.
+#[tactic(auto, using(thumb_isa::proofs::Table::table))]
+fn reverse(op: u8, d: u8, m: u8) -> Result<Code, EncodeFault>
+    ensures ok { IfOk result (λ code. IsCodeIn One code (Rev op d m)) }
+    ensures exact { result ≡ encoded_of (Rev op d m) }
+{
+    if op > 3 || op == 2 || d > 7 || m > 7 {
+        return Err(EncodeFault::RegisterRange);
+    }
+    Ok(Code::Half(0xba00 + low_fields(op, m, d)))
+}
+
+/// NOP, YIELD, WFE, WFI, SEV and the other hints.
+#[tactic(auto, using(thumb_isa::proofs::Table::table))]
+fn hint(n: u8) -> Result<Code, EncodeFault>
+    ensures ok { IfOk result (λ code. IsCodeIn One code (Hint n)) }
+    ensures exact { result ≡ encoded_of (Hint n) }
+{
+    if n > 15 {
+        return Err(EncodeFault::ImmediateRange);
+    }
+    Ok(Code::Half(0xbf00 + (u16::from(n) << 4)))
+}
+
+/// Whether a register is neither sp nor pc nor above.
+fn is_general(register: u8) -> bool
+    ensures { result ≡ is_general register }
+{
+    register < 15 && register != 13
+}
+
+/// MOVW.
+#[tactic(auto, using(crate::proofs::LateForms::mov_w_code, crate::proofs::LateForms::general))]
+fn mov_w(d: u8, imm: u32) -> Result<Code, EncodeFault>
+    ensures ok { IfOk result (λ code. IsCodeIn Two code (MovW d imm)) }
+    ensures exact { result ≡ encoded_of (MovW d imm) }
+{
+    if !is_general(d) {
+        return Err(EncodeFault::RegisterRange);
+    }
+    if imm > 0xffff {
+        return Err(EncodeFault::ImmediateRange);
+    }
+    Ok(sixteen(0xf240, d, imm))
+}
+
+/// MOVT.
+#[tactic(auto, using(crate::proofs::LateForms::mov_t_code, crate::proofs::LateForms::general))]
+fn mov_t(d: u8, imm: u32) -> Result<Code, EncodeFault>
+    ensures ok { IfOk result (λ code. IsCodeIn Two code (MovT d imm)) }
+    ensures exact { result ≡ encoded_of (MovT d imm) }
+{
+    if !is_general(d) {
+        return Err(EncodeFault::RegisterRange);
+    }
+    if imm > 0xffff {
+        return Err(EncodeFault::ImmediateRange);
+    }
+    Ok(sixteen(0xf2c0, d, imm))
+}
+
+/// The halfwords of a MOVW or MOVT: imm4:i:imm3:imm8 of the immediate, round the register.
+fn sixteen(base: u16, d: u8, imm: u32) -> Code
+    requires base_in { base ≤ 0xf2c0 }
+    requires d_in { d < 16 }
+    requires imm_in { imm < 2 ^ 16 }
+    ensures { result ≡ sixteen_code base d imm }
+{
+    Code::Pair(
+        base + (((imm >> 11) % 2) << 10) as u16 + (imm >> 12) as u16,
+        (((imm >> 8) % 8) << 12) as u16 + (u16::from(d) << 8) + (imm % 0x100) as u16,
+    )
+}
+
+/// SDIV, UDIV.
+#[tactic(auto, using(crate::proofs::LateForms::div_code, crate::proofs::LateForms::general))]
+fn div(signed: bool, d: u8, n: u8, m: u8) -> Result<Code, EncodeFault>
+    ensures ok { IfOk result (λ code. IsCodeIn Two code (Div signed d n m)) }
+    ensures exact { result ≡ encoded_of (Div signed d n m) }
+{
+    if !is_general(d) || !is_general(n) || !is_general(m) {
+        return Err(EncodeFault::RegisterRange);
+    }
+    Ok(Code::Pair(
+        0xfb90 + (u16::from(!signed) << 5) + u16::from(n),
+        0xf0f0 + (u16::from(d) << 8) + u16::from(m),
+    ))
 }

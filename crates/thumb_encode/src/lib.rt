@@ -8,8 +8,6 @@ pub mod encode;
 mod lists;
 mod memory;
 mod operand;
-mod registers;
-mod wide;
 
 pub use code::Code;
 pub use thumb_isa::encode_fault::EncodeFault;

@@ -1,10 +1,11 @@
 -- How the second profile differs from the first (docs/instruction-set.md, "Profiles").
 use Rattle.std.specs.Prelude.{◌≡◌, ℕ, Bool, true, false, ◌||◌, ◌⊎◌, List, [], ◌∷◌}
 use Rattle.thumb_isa.specs.declared.instr.Instr.{Instr}
-use Rattle.thumb_isa.specs.declared.instr.Instr.TheVariants.{ShiftImm, AddSubReg, AddSubImm3, Imm8, Alu, AddHigh, CmpHigh, MovHigh, Bx, Blx, LdrLit, MemReg, MemImm, MemSp, Adr, AddRdSp, AddSp, SubSp, Extend, Rev, Push, Pop, Hint, Stm, Ldm, BCond, Svc, B, Bl, Barrier, Cbz, BWide, MovW, MovT, Div}
+use Rattle.thumb_isa.specs.declared.instr.Instr.TheVariants.{Cbz}
 use Rattle.thumb_isa.specs.declared.instr.Decoded.{Decoded}
 use Rattle.thumb_isa.specs.declared.instr.Decoded.TheVariants.{Is, Undefined}
 use Rattle.thumb_isa.specs.declared.profile.Profile.TheVariants.{One, Two}
+use Rattle.thumb_isa.specs.Nature.{known}
 use Rattle.thumb_isa.specs.Range.{InRange}
 use Rattle.thumb_isa.specs.Rows.{Row, fits, first_fit, late_rows, decoded_for}
 
@@ -18,41 +19,7 @@ any_fits (row ∷ more) first second = fits row first second || any_fits more fi
 
 -- the instructions that the second profile has and the first one has not
 abbrev pub is_late : Instr → Bool
-is_late (ShiftImm op d m n) = false
-is_late (AddSubReg sub d n m) = false
-is_late (AddSubImm3 sub d n imm) = false
-is_late (Imm8 op d imm) = false
-is_late (Alu op d m) = false
-is_late (AddHigh d m) = false
-is_late (CmpHigh n m) = false
-is_late (MovHigh d m) = false
-is_late (Bx m) = false
-is_late (Blx m) = false
-is_late (LdrLit t off) = false
-is_late (MemReg op t n m) = false
-is_late (MemImm op t n off) = false
-is_late (MemSp load t off) = false
-is_late (Adr d off) = false
-is_late (AddRdSp d off) = false
-is_late (AddSp off) = false
-is_late (SubSp off) = false
-is_late (Extend op d m) = false
-is_late (Rev op d m) = false
-is_late (Push list) = false
-is_late (Pop list) = false
-is_late (Hint n) = false
-is_late (Stm n list) = false
-is_late (Ldm n list) = false
-is_late (BCond cond off) = false
-is_late (Svc imm) = false
-is_late (B off) = false
-is_late (Bl off) = false
-is_late (Barrier op option) = false
-is_late (Cbz nonzero n off) = true
-is_late (BWide off) = true
-is_late (MovW d imm) = true
-is_late (MovT d imm) = true
-is_late (Div signed d n m) = true
+is_late i = (known i).late
 
 -- the size of one of the five
 abbrev pub late_size : Instr → ℕ

@@ -7,5 +7,6 @@ pub mod encode_fault;
 pub mod fields;
 pub mod instr;
 pub mod late;
+pub mod nature;
 pub mod profile;
 pub mod profile_laws;

@@ -1,5 +1,4 @@
 use Rattle.std.proofs.Common.{sym, ◌∙◌}
-use Rattle.std.proofs.lemmas.Bool.{not-false}
 use Rattle.asm_read.proofs.Rising.{row_miss, row_rises}
 use Rattle.asm_read.proofs.choice.first_fit.Goals as goal
 
@@ -8,7 +7,7 @@ pub loop-row-preserved : goal.loop-row-preserved
 loop-row-preserved c =
     let rs = c.args.rows.now in
     let i = c.loop-row.row-index in
-    let is_word = not-false _ (sym c.if-ne.ensures) in
+    let is_word = sym c.if-not-is_same.ensures in
     record {
       stop = c.in-Err.ensures.stop;
       rise = row_rises rs i _ c.args.word.now c.loop-row-test.true is_word c.loop-row.invariant.rise;

@@ -1,4 +1,7 @@
-use Rattle.std.proofs.Common.{refl}
+use Rattle.std.proofs.Common.{refl, subst}
+use Rattle.eh_bus.specs.Memory.{Memory}
+use Rattle.eh_bus.specs.Map.{SameMap}
+use Rattle.eh_machine.proofs.Confirmed.{passes_map}
 use Rattle.thumb_core.specs.declared.regs.Stepped.TheVariants.{Done}
 use Rattle.eh_gates.specs.State.{State, state_of}
 use Rattle.machines_agree.specs.two_machines.Checked.{program_of}
@@ -39,3 +42,13 @@ returns-then-fast_path-clause-given g c =
     let p = program_of c.args.a.now in
     let s : State = state_of c.args.core.now (g.B.Bus.memory c.args.shared.now.bus) c.args.events.now in
     given_plain (g.O.Sink.written c.args.out.now) p s Done _ (((c.if-fast_path.ensures p c.requires).done refl).does c.args.events.now) (λ number e. absurd (cc))
+
+-- ---- the map
+
+pub returns-then-fast_path-clause-map : goal.returns-then-fast_path-clause-map
+returns-then-fast_path-clause-map g c = λ e. passes_map (program_of c.args.a.now) _ _ _ _ _ ((c.if-fast_path.ensures (program_of c.args.a.now) c.requires).done refl)
+
+pub returns-clause-map : goal.returns-clause-map
+returns-clause-map g c = λ e.
+    subst (λ (k : Memory). SameMap k.segments (g.B.Bus.memory c.slow_path.new.shared.bus).segments)
+    ((c.if-fast_path.ensures (program_of c.args.a.now) c.requires).left refl).1 (c.slow_path.ensures.map e)

@@ -1,47 +1,35 @@
-use Rattle.std.proofs.Common.{rules, ◌≡◌, refl, true, Some, None, Ok, Err}
-use Rattle.eh_phase.specs.Firsts.{first_some}
-use Rattle.eh_phase.specs.Phases.{entered_item, from_address}
-use Rattle.eh_phase.specs.Frames.{MOST_FRAMES, covered_at, outer}
-use Rattle.eh_phase.specs.Calls.{stack_of, cursor_of}
-use Rattle.eh_phase.proofs.Outer.{few}
-use Rattle.eh_phase.proofs.Steps.{bare, advance_on, advance_ended, advance_entered, advance_uncovered, lower}
+use Rattle.std.proofs.Common.{rules, ◌≡◌, None, Ok, Err}
+use Rattle.eh_phase.specs.Frames.{outer}
+use Rattle.eh_phase.specs.Calls.{stack_of, cursor_of, frame_at}
+use Rattle.eh_phase.specs.declared.phase1.Passed.{Passed}
+use Rattle.eh_phase.specs.Passed.{enters_at, IsQuiet}
+use Rattle.eh_phase.proofs.Steps.{lower}
+use Rattle.eh_phase.proofs.Passing.{quiet_entered, quiet_ended, quiet_on, kept_if}
 use Rattle.eh_phase.proofs.phase2.advance.Goals as goal
-
-pub loop-codes-init : goal.loop-codes-init
-loop-codes-init g c = (MOST_FRAMES, few _ true _ (g.met.B.Bus.is_map c.args.bus.now).home.high, refl)
-
-pub returns-in_default : goal.returns-in_default
-returns-in_default g c =
-    let d : covered_at c.args.t.now.index c.loop-codes.cursor.site ≡ None = search rules in
-    advance_uncovered _ _ _ _ _ c.loop-codes.cursor c.loop-codes.invariant d
-
-pub returns-in-Some-entered_in : goal.returns-in-Some-entered_in
-returns-in-Some-entered_in g c =
-    let here = bare c.loop-codes.cursor.site c.loop-codes.cursor.vrs.r in
-    let d : covered_at c.args.t.now.index c.loop-codes.cursor.site ≡ Some (record { codes = c.in-Some.codes; descs = c.in-Some.descs }) = search rules in
-    let k : first_some (entered_item c.args.goal.now here) (from_address c.loop-codes.next c.in-Some.descs) ≡ Some c.in-Some-entered_in.entered = search rules in
-    advance_entered _ _ _ _ _ c.loop-codes.cursor _ _ c.loop-codes.invariant d k
 
 pub returns-in-Err : goal.returns-in-Err
 returns-in-Err g c =
-    let stack = stack_of (g.B.Bus.memory c.args.bus.now) in
-    let here = bare c.loop-codes.cursor.site c.loop-codes.cursor.vrs.r in
-    let d : covered_at c.args.t.now.index c.loop-codes.cursor.site ≡ Some (record { codes = c.in-Some.codes; descs = c.in-Some.descs }) = search rules in
-    let k : first_some (entered_item c.args.goal.now here) (from_address c.loop-codes.next c.in-Some.descs) ≡ None = search rules in
-    let o : cursor_of (outer stack None c.loop-codes.cursor.innermost c.in-Some.codes c.loop-codes.cursor.vrs.r) ≡ Err c.in-Err.cause = search rules in
-    advance_ended _ _ _ stack _ c.loop-codes.cursor _ _ c.loop-codes.invariant d k o
+    let k : enters_at c.args.goal.now c.loop-here.next c.args.t.now.index (frame_at c.loop-here.cursor) ≡ Err c.in-Err.entered = search rules in
+    quiet_entered _ _ _ _ _ c.loop-here.cursor _ c.loop-here.invariant.0 k
 
-pub loop-codes-smaller : goal.loop-codes-smaller
-loop-codes-smaller g c =
+pub returns-in-Err-outer : goal.returns-in-Err-outer
+returns-in-Err-outer g c =
     let stack = stack_of (g.B.Bus.memory c.args.bus.now) in
-    let o : cursor_of (outer stack None c.loop-codes.cursor.innermost c.in-Some.codes c.loop-codes.cursor.vrs.r) ≡ Ok c.in-Ok.further = search rules in
-    lower stack _ _ c.loop-codes.cursor c.in-Ok.further o
+    let k : enters_at c.args.goal.now c.loop-here.next c.args.t.now.index (frame_at c.loop-here.cursor) ≡ Ok c.in-Ok.here.codes = search rules in
+    let o : cursor_of (outer stack None c.loop-here.cursor.innermost c.in-Ok.here.codes c.loop-here.cursor.vrs.r) ≡ Err c.in-Err-outer.cause = search rules in
+    quiet_ended _ _ _ stack _ c.loop-here.cursor _ _ c.loop-here.invariant.0 k o
 
-pub loop-codes-preserved : goal.loop-codes-preserved
-loop-codes-preserved g c =
+pub loop-here-smaller : goal.loop-here-smaller
+loop-here-smaller g c =
     let stack = stack_of (g.B.Bus.memory c.args.bus.now) in
-    let here = bare c.loop-codes.cursor.site c.loop-codes.cursor.vrs.r in
-    let d : covered_at c.args.t.now.index c.loop-codes.cursor.site ≡ Some (record { codes = c.in-Some.codes; descs = c.in-Some.descs }) = search rules in
-    let k : first_some (entered_item c.args.goal.now here) (from_address c.loop-codes.next c.in-Some.descs) ≡ None = search rules in
-    let o : cursor_of (outer stack None c.loop-codes.cursor.innermost c.in-Some.codes c.loop-codes.cursor.vrs.r) ≡ Ok c.in-Ok.further = search rules in
-    advance_on _ _ _ stack _ c.loop-codes.cursor c.in-Ok.further _ c.loop-codes.invariant d k o
+    let o : cursor_of (outer stack None c.loop-here.cursor.innermost c.in-Ok.here.codes c.loop-here.cursor.vrs.r) ≡ Ok c.in-Ok-outer.further = search rules in
+    lower stack _ _ c.loop-here.cursor c.in-Ok-outer.further o
+
+pub loop-here-preserved : goal.loop-here-preserved
+loop-here-preserved g c =
+    let stack = stack_of (g.B.Bus.memory c.args.bus.now) in
+    let k : enters_at c.args.goal.now c.loop-here.next c.args.t.now.index (frame_at c.loop-here.cursor) ≡ Ok c.in-Ok.here.codes = search rules in
+    let o : cursor_of (outer stack None c.loop-here.cursor.innermost c.in-Ok.here.codes c.loop-here.cursor.vrs.r) ≡ Ok c.in-Ok-outer.further = search rules in (
+      quiet_on _ _ _ stack _ c.loop-here.cursor c.in-Ok-outer.further _ c.loop-here.invariant.0 k o,
+      kept_if (λ (p : Passed). IsQuiet c.args.goal.now c.args.t.now.index p.site p.codes) c.loop-here.next c.in-Ok.here _ c.kept-last.ensures c.in-Ok.ensures.quiet,
+    )

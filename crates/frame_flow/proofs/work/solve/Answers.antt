@@ -17,8 +17,8 @@ loop-place-init c =
       stretch = c.new-stretch.ensures.stretch c.args.x.now.flow_graph;
     }
 
-pub stretch_on-requires-clause-place : goal.stretch_on-requires-clause-place
-stretch_on-requires-clause-place c =
+pub turn_stretch-requires-clause-place : goal.turn_stretch-requires-clause-place
+turn_stretch-requires-clause-place c =
     let x = framed_of c.args.x.now in
     let sound = subst (λ (w : List ℕ). IsSound x c.loop-place.facts w []) c.in-Some.ensures.items c.loop-place.invariant.sound in
     let start : c.x.inside.flow_graph.now.start ≡ c.args.x.now.flow_graph.start = ap (λ (a : Parts). a.flow_graph.start) c.x.view_is in
@@ -29,7 +29,7 @@ pub visit-requires-clause-sound : goal.visit-requires-clause-sound
 visit-requires-clause-sound c = subst (λ (w : List ℕ). IsSound (framed_of c.args.x.now) c.loop-place.facts w []) c.in-Some.ensures.items c.loop-place.invariant.sound
 
 pub visit-requires-clause-tells : goal.visit-requires-clause-tells
-visit-requires-clause-tells c = subst (λ (a : Parts). TellsOn a.flow_graph c.in-Ok-stretch_on.next c.in-Some.place) c.x.view_is c.in-Ok-stretch_on.ensures.tells
+visit-requires-clause-tells c = subst (λ (a : Parts). TellsOn a.flow_graph c.turn_stretch.new.held c.in-Some.place) c.x.view_is c.in-Ok-turn_stretch.ensures.tells
 
 pub loop-place-smaller : goal.loop-place-smaller
 loop-place-smaller c =

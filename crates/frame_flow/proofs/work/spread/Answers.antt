@@ -1,4 +1,4 @@
-use Rattle.std.proofs.Common.{ℕ, ◌≡◌, List, [], map, drop, get_or, ap, subst, arith}
+use Rattle.std.proofs.Common.{ℕ, ◌≡◌, List, [], map, drop, get_or, ap, subst, refl, arith}
 use Rattle.std.proofs.lemmas.List.{drop_all}
 use Rattle.frame_facts.specs.declared.facts.Fact.{Fact}
 use Rattle.frame_graph.specs.declared.edges.Edge.{Edge}
@@ -11,22 +11,22 @@ use Rattle.frame_flow.proofs.work.spread.Goals as goal
 abbrev none : Edge
 none = record { to = 0; clobbers = 0 }
 
-pub merge-requires : goal.merge-requires
-merge-requires c =
+pub take-requires : goal.take-requires
+take-requires c =
     let x = framed_of c.args.x.now in
-    let s = next_transfer x c.loop-edge.facts c.loop-edge.work.items c.args.fact.now c.args.edges.now c.loop-edge.edge-index none c.clobber-next.result c.loop-edge-test.true c.clobber-next.ensures c.loop-edge.invariant.sound in
-    omega (arith, transfer_within x c.loop-edge.facts c.loop-edge.work.items (get_or c.args.edges.now c.loop-edge.edge-index none).to c.clobber-next.result _ s)
+    let s = next_transfer x c.loop-edge.facts c.loop-edge.work.items c.args.fact.now c.args.edges.now c.loop-edge.edge-index none _ c.loop-edge-test.true refl c.loop-edge.invariant.sound in
+    omega (arith, transfer_within x c.loop-edge.facts c.loop-edge.work.items (get_or c.args.edges.now c.loop-edge.edge-index none).to _ _ s)
 
 pub returns-in-Err : goal.returns-in-Err
 returns-in-Err c =
     let x = framed_of c.args.x.now in
-    let s = next_transfer x c.loop-edge.facts c.loop-edge.work.items c.args.fact.now c.args.edges.now c.loop-edge.edge-index none c.clobber-next.result c.loop-edge-test.true c.clobber-next.ensures c.loop-edge.invariant.sound in
+    let s = next_transfer x c.loop-edge.facts c.loop-edge.work.items c.args.fact.now c.args.edges.now c.loop-edge.edge-index none _ c.loop-edge-test.true refl c.loop-edge.invariant.sound in
     merged_keeps x _ _ _ _ _ _ _ _ c.in-Err.ensures s
 
 pub loop-edge-preserved : goal.loop-edge-preserved
 loop-edge-preserved c =
     let x = framed_of c.args.x.now in
-    let s = next_transfer x c.loop-edge.facts c.loop-edge.work.items c.args.fact.now c.args.edges.now c.loop-edge.edge-index none c.clobber-next.result c.loop-edge-test.true c.clobber-next.ensures c.loop-edge.invariant.sound in
+    let s = next_transfer x c.loop-edge.facts c.loop-edge.work.items c.args.fact.now c.args.edges.now c.loop-edge.edge-index none _ c.loop-edge-test.true refl c.loop-edge.invariant.sound in
     let k = merged_keeps x _ _ _ _ _ _ _ _ c.in-Ok.ensures s in
     record { sound = k.0; lighter = omega (arith, k.1, c.loop-edge.invariant.lighter) }
 

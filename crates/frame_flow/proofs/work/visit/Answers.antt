@@ -11,18 +11,18 @@ get-requires c = (place_within (framed_of c.args.x.now) c.args.facts.now c.args.
 pub passed-requires-clause-low : goal.passed-requires-clause-low
 passed-requires-clause-low c = omega (arith, c.requires.short, (place_within (framed_of c.args.x.now) c.args.facts.now c.args.work.now.items c.args.place c.requires.sound).0)
 
-pub edges_on-requires-clause-place : goal.edges_on-requires-clause-place
-edges_on-requires-clause-place c =
+pub put_edges-requires-clause-place : goal.put_edges-requires-clause-place
+put_edges-requires-clause-place c =
     let start : c.x.inside.flow_graph.now.start ≡ c.args.x.now.flow_graph.start = ap (λ (a : Parts). a.flow_graph.start) c.x.view_is in
     omega (arith, start, c.requires.short, (place_within (framed_of c.args.x.now) c.args.facts.now c.args.work.now.items c.args.place c.requires.sound).0)
 
-pub edges_on-requires-clause-tells : goal.edges_on-requires-clause-tells
-edges_on-requires-clause-tells c = subst (λ (a : Parts). TellsOn a.flow_graph c.args.stretch.now c.args.place) (sym c.x.view_is) c.requires.tells
+pub put_edges-requires-clause-tells : goal.put_edges-requires-clause-tells
+put_edges-requires-clause-tells c = subst (λ (a : Parts). TellsOn a.flow_graph c.args.stretch.now c.args.place) (sym c.x.view_is) c.requires.tells
 
 pub spread-requires : goal.spread-requires
 spread-requires c =
     let passed = sym c.in-Ok-Some.ensures ∙ ap Ok c.in-Ok-Some.field-0-is in
-    let edges = same_edges c.deref.result.now c.in-Ok.edges.items c.x.inside.flow_graph.now c.args.x.now.flow_graph c.args.place c.deref.ensures.value (ap (λ (a : Parts). a.flow_graph) c.x.view_is) c.in-Ok.ensures in
+    let edges = same_edges c.deref.result.now c.put_edges.new.edges.items c.x.inside.flow_graph.now c.args.x.now.flow_graph c.args.place c.deref.ensures.value (ap (λ (a : Parts). a.flow_graph) c.x.view_is) c.in-Ok.ensures in
     visit_leads (framed_of c.args.x.now) c.args.facts.now c.args.work.now.items c.args.place c.in-Some.fact c.in-Ok-Some.next c.deref.result.now c.requires.sound
     (sym c.get.ensures ∙ c.in-Some.is) passed edges
 

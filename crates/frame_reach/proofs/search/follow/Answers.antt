@@ -4,8 +4,8 @@ use Rattle.frame_reach.specs.Search.{held}
 use Rattle.frame_reach.proofs.Found.{low, at_index, listed_reached, followed_more, all_marked, not_too_long}
 use Rattle.frame_reach.proofs.search.follow.Goals as goal
 
-pub stretch_on-requires-clause-place : goal.stretch_on-requires-clause-place
-stretch_on-requires-clause-place c =
+pub turn_stretch-requires-clause-place : goal.turn_stretch-requires-clause-place
+turn_stretch-requires-clause-place c =
     let s = c.args.flow_graph.now in
     let h = held c.loop-next.found in
     let l : c.loop-next.next < length h.places = omega (arith, c.len.ensures, c.loop-next-test.true) in
@@ -37,7 +37,7 @@ loop-next-preserved c =
     record {
       sound = now.0;
       entry = now.1.reached 0 i.entry;
-      stretch = c.in_ok-stretch.ensures.stretch;
+      stretch = c.in_ok-turn_stretch.ensures.stretch;
       within = omega (arith, l, now.1.longer);
       visited = followed_more s h (held c.visit.new.found) c.loop-next.next c.index-place.result.now now.1 l is i.visited now.2;
     }

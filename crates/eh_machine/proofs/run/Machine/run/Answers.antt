@@ -18,7 +18,8 @@ loop-self-init g c = record {
   input_kept = refl;
   out_kept = refl;
   same = refl;
-  cache = c.new-cache.ensures (program_of c.args.self.now.accepted.now);
+  cache = c.new-cache.ensures.cache (program_of c.args.self.now.accepted.now);
+  confirmed = c.new-cache.ensures.confirmed (g.B.Bus.memory c.args.self.now.shared.bus);
 }
 
 pub loop-self-preserved : goal.loop-self-preserved
@@ -31,6 +32,7 @@ loop-self-preserved g c = record {
   out_kept = c.in-Went.ensures.faults.out.kept (λ e. cc) ∙ c.loop-self.invariant.out_kept;
   same = c.loop-self.invariant.same;
   cache = c.in-Went.ensures.cache;
+  confirmed = c.in-Went.ensures.confirmed;
 }
 
 pub returns-in-Ended-clause-told : goal.returns-in-Ended-clause-told

@@ -5,7 +5,7 @@ use Rattle.eh_gates.specs.State.{State, state_of}
 use Rattle.machines_agree.specs.two_machines.Machine.{machine_of}
 use Rattle.thumb_core.specs.declared.ends.End.{End}
 use Rattle.machines_agree.specs.two_machines.Checked.{program_of}
-use Rattle.eh_machine.specs.Cached.{IsCache}
+use Rattle.eh_machine.specs.Cached.{IsCache, IsConfirmed}
 use Rattle.eh_machine.proofs.run.Machine.run.Given as goal
 
 -- what was done and what is left are the whole run, no count has changed, and the cache is of the program
@@ -21,6 +21,7 @@ invariant-loop-self g l = record {
   out_kept : g.O.Sink.faults l.out ≡ g.O.Sink.faults l.initial.out;
   same : l.self.accepted ≡ l.initial.self.accepted;
   cache : IsCache (program_of l.initial.self.accepted.now) l.cache;
+  confirmed : IsConfirmed (g.B.Bus.memory l.self.shared.bus) l.cache;
 }
 
 abbrev pub decreases-loop-self : goal.decreases-loop-self

@@ -8,6 +8,7 @@ invariant_of-self g c = record {
   rising = c.args.self.now.rising;
   within = c.requires;
   at_home = home_is c.args.thread c.requires;
+  its_own = c.home_of-self.ensures;
   plain = stays_plain (changes_from c.args.ran c.args.thread 0 c.note.new.self.slots) (g.B.Bus.memory c.args.self.now.inner) (g.B.Bus.memory c.show.new.bus) c.show.ensures.memory c.args.self.now.plain;
   few = c.note.new.self.few;
   free = c.show.ensures.free c.note.ensures.free;

@@ -8,6 +8,7 @@ invariant_of-self g c = record {
   rising = rw (c.release_from.ensures STACK_END) (filter_rises _ _ _ c.args.self.now.rising);
   within = c.args.self.now.within;
   at_home = c.args.self.now.at_home;
+  its_own = c.args.self.now.its_own;
   plain = c.args.self.now.plain;
   few = c.args.self.now.few;
   free = c.args.self.now.free;

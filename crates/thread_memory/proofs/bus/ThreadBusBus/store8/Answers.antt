@@ -25,6 +25,7 @@ invariant_of-self g c = record {
   rising = c.args.self.now.rising;
   within = c.args.self.now.within;
   at_home = c.args.self.now.at_home;
+  its_own = c.args.self.now.its_own;
   plain = plain_after_store 1 _ c.args.a c.args.v _ _ c.store8.ensures.stored c.args.self.now.plain;
   few = c.args.self.now.few;
   free = free_after_store 1 _ c.args.a c.args.v _ _ c.args.self.now.used (inl refl) c.store8.ensures.stored c.args.self.now.free;

@@ -29,7 +29,7 @@ returns-clause-told g c =
     (seen (g.B.Bus.memory c.enter.new.bus.inner) c.enter.new.bus.guards c.enter.new.bus.thread) c.enter.new.owners.slots b c.turn-did.result c.apply_turn-answer.result
     c.apply_turn-answer.new.threads c.reach.new.self (g.I.Source.left c.args.input.now) (g.I.Source.left c.turn-did.new.input) (g.O.Sink.written c.args.out.now) (g.O.Sink.written c.turn-did.new.out)
     runs c.enter.ensures.owners c.enter.ensures.memory told
-    (c.apply_turn-answer.ensures c.args.self.now.threads (ap (λ (o : Option Thread). is_some o) c.in-Some-threads.is)
+    (c.apply_turn-answer.ensures c.args.self.now.threads c.turn-did.new.core (ap (λ (o : Option Thread). is_some o) c.in-Some-threads.is)
     (left_there c.args.self.now.threads c.in-Some.thread t c.turn-did.new.core none))
     (c.reach.ensures ∙ ap (λ (es : List Event). tags_up_to c.in-Some.thread (length es) c.args.self.now.tags) c.kept.ensures)
 
@@ -38,5 +38,5 @@ returns-clause-faults g c =
     let t : Thread = c.in-Some-threads.slot in
     let none : t.ended ≡ None = stands_there c.args.self.now.threads c.in-Some.thread t c.in-Some-threads.is c.in-Some.ensures.runs in
     settled_counts (program_of c.args.self.now.accepted.now) c.in-Some.thread c.turn-did.new.core c.turn-did.result c.apply_turn-answer.result c.args.self.now.threads c.apply_turn-answer.new.threads
-    _ _ _ _ (c.apply_turn-answer.ensures c.args.self.now.threads (ap (λ (o : Option Thread). is_some o) c.in-Some-threads.is)
+    _ _ _ _ (c.apply_turn-answer.ensures c.args.self.now.threads c.turn-did.new.core (ap (λ (o : Option Thread). is_some o) c.in-Some-threads.is)
     (left_there c.args.self.now.threads c.in-Some.thread t c.turn-did.new.core none)) c.turn-did.ensures.faults
