@@ -1,9 +1,14 @@
 -- The memory after a switch.
-use Rattle.std.proofs.Common.{◌≡◌, ℕ, List, [], ◌∷◌, refl, sym, ap, ◌∙◌}
+use Rattle.std.proofs.Common.{◌≡◌, ℕ, suc, ◌+◌, ◌*◌, ◌<◌, ◌≤◌, Bool, true, false, ◌==◌, cond, List, [], ◌∷◌, ◌++◌, length, refl, sym, ap, ◌∙◌, arith}
+use Rattle.eh_bus.specs.Map.{IsMap, SameMap}
 use Rattle.eh_bus.specs.Memory.{Memory}
-use Rattle.eh_cxa.specs.Words.{Write, put, put_all}
+use Rattle.eh_bus.specs.declared.map.TheConstants.{POOL_START, SLOT_SIZE}
+use Rattle.eh_bus.proofs.MapLaws.{map_refl, map_trans, host_is_map}
+use Rattle.eh_bus.proofs.PartLaws.{host_map}
+use Rattle.eh_cxa.specs.Words.{Write, write, put, put_all}
+use Rattle.eh_cxa.specs.declared.layout.TheConstants.{SLOTS, STATE}
 use Rattle.thread_memory.specs.Homes.{home_of}
-use Rattle.thread_memory.specs.Owners.{changes_from, switched}
+use Rattle.thread_memory.specs.Owners.{seen_by, changes_from, switched}
 use Rattle.thread_memory.specs.Seen.{seen}
 use Rattle.thread_memory.specs.declared.owners.Holding.{Holding}
 
@@ -31,3 +36,28 @@ pub enters : (old new home : ℕ) (owners : List Holding) (m m' : Memory) (guard
     → seen m' guards new ≡ switched old new owners (seen m guards home)
 enters old new home owners m m' guards e =
     rw e (sym (ap (λ (n : Memory). record n { home = home_of new }) (all_seen (changes_from old new 0 owners) m guards home)))
+
+-- ---- the map stays
+
+put_map : (m : Memory) (slot v : ℕ) → IsMap m → slot < SLOTS → SameMap m.segments (put m slot STATE v).segments
+unfolding put
+put_map m slot v x l = host_map m (POOL_START + SLOT_SIZE * slot + 4 * STATE) v x.segments (omega arith) (omega (arith, l))
+
+put_is_map : (m : Memory) (slot v : ℕ) → IsMap m → IsMap (put m slot STATE v)
+unfolding put
+put_is_map m slot v x = host_is_map m (POOL_START + SLOT_SIZE * slot + 4 * STATE) v x
+
+changes_map : (old new i : ℕ) (owners : List Holding) (m : Memory) → IsMap m → i + length owners ≤ SLOTS → SameMap m.segments (put_all (changes_from old new i owners) m).segments
+changes_map old new i [] m x l = map_refl m.segments
+changes_map old new i (h ∷ more) m x l = go (seen_by old h == seen_by new h) (λ n y. changes_map old new (suc i) more n y (omega arith))
+  where
+    go : (t : Bool) → ((n : Memory) → IsMap n → SameMap n.segments (put_all (changes_from old new (suc i) more) n).segments)
+        → SameMap m.segments (put_all (cond t [] (write i STATE (seen_by new h) ∷ []) ++ changes_from old new (suc i) more) m).segments
+    go true next = next m x
+    go false next =
+        map_trans m.segments (put m i STATE (seen_by new h)).segments (put_all (changes_from old new (suc i) more) (put m i STATE (seen_by new h))).segments
+        (put_map m i (seen_by new h) x (omega arith)) (next (put m i STATE (seen_by new h)) (put_is_map m i (seen_by new h) x))
+
+pub map_stays : (old new : ℕ) (owners : List Holding) (m m' : Memory) → m' ≡ put_all (changes_from old new 0 owners) m → IsMap m → length owners ≡ SLOTS
+    → SameMap m.segments m'.segments
+map_stays old new owners m m' e x sized = rw e (changes_map old new 0 owners m x (omega (arith, sized)))

@@ -1,7 +1,7 @@
 //! The memory of a run of several threads, as the thread sees it that runs; docs/threads.md states its rules.
 ghost use Rattle.std.specs.Prelude.{◌≡◌, ℕ, ◌+◌, ◌*◌, ◌%◌, ◌^◌, ◌<◌, ◌≤◌, ◌==◌, [], List, length, Option, Some, None, IfOk, IfSome, IfNone, IsTrue, true, false};
 ghost use Rattle.eh_bus.specs.Guards.{AreGuards, AreGuards-prop};
-ghost use Rattle.eh_bus.specs.Map.{AreSegments, IsHome};
+ghost use Rattle.eh_bus.specs.Map.{AreSegments, IsHome, SameMap};
 ghost use Rattle.thread_memory.specs.Homes.{home_of};
 ghost use Rattle.eh_bus.specs.Memory.{run_fault};
 ghost use Rattle.eh_bus.specs.Place.{IsWidth};
@@ -76,12 +76,13 @@ impl<B: Bus + Drop> ThreadBus<B> {
 
 impl<B: Bus> ThreadBus<B> {
     /// Enters a thread after another one, which has run. What each slot holds is told by the states that the one that ran reads now, and the
-    /// slots read as the thread sees them that is entered. Guarded words stay.
+    /// slots read as the thread sees them that is entered. Guarded words stay, and so does the map.
     pub fn enter(&mut self, owners: &mut Owners, ran: usize, thread: usize)
         requires { thread < THREADS }
         ensures owners { owners.new.slots ≡ owners_after ran (word (B.memory self.old.inner)) owners.old.slots }
         ensures memory { seen (B.memory self.new.inner) self.new.guards self.new.thread ≡ switched ran thread owners.new.slots (seen (B.memory self.old.inner) self.old.guards self.old.thread) }
         ensures thread { self.new.thread ≡ thread }
+        ensures map { SameMap (B.memory self.old.inner).segments (B.memory self.new.inner).segments }
     {
         owners.note(ran, self.used, &self.inner);
         owners.show(ran, thread, &mut self.inner);

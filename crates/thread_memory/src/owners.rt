@@ -1,5 +1,6 @@
 //! Whose exception each slot of the pool holds; docs/threads.md states the rules.
 ghost use Rattle.std.specs.Prelude.{◌≡◌, ◌<◌, ◌≤◌, ℕ, length, slice_index_or, IsTrue, false};
+ghost use Rattle.eh_bus.specs.Map.{SameMap};
 ghost use Rattle.eh_cxa.specs.Words.{word, put_all};
 ghost use Rattle.eh_cxa.specs.declared.layout.TheConstants.{SLOTS};
 ghost use Rattle.thread_memory.specs.Owners.{seen_by, held_after, held_from, owners_after, change_of, changes_from, nobodys_from, unused, AreFree, AreUnused, Noted};
@@ -100,6 +101,7 @@ impl Owners {
     pub(crate) fn show<B: Bus>(&self, old: usize, new: usize, bus: &mut B)
         ensures memory { B.memory bus.new ≡ put_all (changes_from old new 0 self.now.slots) (B.memory bus.old) }
         ensures free { AreFree (word (B.memory bus.old)) self.now.used → AreFree (word (B.memory bus.new)) self.now.used }
+        ensures map { SameMap (B.memory bus.old).segments (B.memory bus.new).segments }
     {
         for slot in 0..self.used {
             show_slot(&self.slots, slot, old, new, bus);

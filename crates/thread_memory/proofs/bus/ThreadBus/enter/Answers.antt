@@ -17,3 +17,6 @@ invariant_of-self g c = record {
 pub returns-clause-memory : goal.returns-clause-memory
 returns-clause-memory g c =
     enters c.args.ran c.args.thread c.args.self.now.thread c.note.new.self.slots (g.B.Bus.memory c.args.self.now.inner) (g.B.Bus.memory c.show.new.bus) c.args.self.now.guards c.show.ensures.memory
+
+pub returns-clause-map : goal.returns-clause-map
+returns-clause-map g c = c.show.ensures.map
