@@ -1,5 +1,5 @@
 -- What was confirmed stands fast as long as no gate of the runtime is done.
-use Rattle.std.proofs.Common.{◌≡◌, ℕ, ◌+◌, ◌%◌, ◌^◌, ◌<◌, ◌≤◌, nat_le, nat_lt, Bool, true, false, not, ◌==◌, List, [], ◌∷◌, length, Option, Some, None, Result, Ok, Err, slice_index, slice_index_or, slice_set, cond, if◌then◌else◌, refl, sym, ap, subst, ◌∙◌, inl, inr, arith}
+use Rattle.std.proofs.Common.{◌≡◌, ℕ, ◌+◌, ◌%◌, ◌^◌, ◌<◌, nat_le, nat_lt, Bool, true, false, not, ◌==◌, List, [], ◌∷◌, length, Option, Some, None, Result, Ok, Err, slice_index, slice_index_or, slice_set, cond, if◌then◌else◌, refl, sym, ap, subst, ◌∙◌, inl, inr, arith}
 use Rattle.std.proofs.lemmas.Bool.{cases_eq}
 use Rattle.std.proofs.lemmas.List.{get_or-set_same, get_or-set_other}
 use Rattle.eh_bus.specs.Segment.{Segment, holds}
@@ -24,8 +24,8 @@ use Rattle.eh_trace.specs.Trace.{no_events}
 use Rattle.eh_gates.specs.declared.state.Core.{Core}
 use Rattle.eh_gates.specs.State.{State, state_of, reg}
 use Rattle.machines_agree.specs.two_machines.Program.{Program, profile_in}
-use Rattle.machines_agree.specs.two_machines.Machine.{Passed, tests, reguarded, saved_words, tested, stepped, checked, passed}
-use Rattle.eh_machine.specs.Cached.{StandFast, IsOfRound, IsRoundsLine, IsConfirmed}
+use Rattle.machines_agree.specs.two_machines.Machine.{Passed, reguarded, saved_words, tested, stepped, checked, passed}
+use Rattle.eh_machine.specs.Cached.{StandFast, IsOfRound, IsRoundsLine, IsConfirmed, IsCountedLine, IsCounting}
 use Rattle.eh_machine.specs.Passes.{Passes}
 use Rattle.eh_machine.specs.declared.decode_cache.TheConstants.{LINES}
 use Rattle.eh_machine.specs.declared.decode_cache.CacheLine.{CacheLine}
@@ -102,12 +102,34 @@ stays m n cache p is = record { begun = is.begun; lines = λ k below. go (slice_
     go None x = tt
     go (Some line) x = record { within = x.within; stands = λ e. record { always = λ m' q. (x.stands e).always m' (map_trans _ _ _ p q) } }
 
+-- rounds are counted whatever the memory
+pub counting : (m : Memory) (cache : DecodeCache) → IsConfirmed m cache → IsCounting cache
+counting m cache is = record { begun = is.begun; lines = λ k below. go (slice_index_or cache.lines k None) (is.lines k below) }
+  where
+    go : (o : Option CacheLine) → IsRoundsLine cache.round m o → IsCountedLine cache.round o
+    go None x = tt
+    go (Some line) x = x.within
+
 -- no line is of the next round
-pub next_round : (m n : Memory) (round next : ℕ) (o : Option CacheLine) → next ≡ round + 1 → IsRoundsLine round m o → IsRoundsLine next n o
-next_round m n round next None e x = tt
-next_round m n round next (Some line) e x =
-    let below : line.confirmed ≤ round = x.within in
-    record { within = omega (arith, below, e); stands = λ f. absurd (omega (arith, below, e, f)) }
+next_line : (n : Memory) (round next : ℕ) (o : Option CacheLine) → next ≡ round + 1 → IsCountedLine round o → IsRoundsLine next n o
+next_line n round next None e x = tt
+next_line n round next (Some line) e x = record { within = omega (arith, x, e); stands = λ f. absurd (omega (arith, x, e, f)) }
+
+pub counts_on : (old new : DecodeCache) → new.lines ≡ old.lines → new.round ≡ old.round + 1 → IsCounting old → IsCounting new
+counts_on old new same e is = record {
+  begun = omega (arith, e);
+  lines = λ k below. rw same (go (slice_index_or old.lines k None) (is.lines k below));
+}
+  where
+    go : (o : Option CacheLine) → IsCountedLine old.round o → IsCountedLine new.round o
+    go None x = tt
+    go (Some line) x = omega (arith, x, e)
+
+pub next_round : (n : Memory) (old new : DecodeCache) → new.lines ≡ old.lines → new.round ≡ old.round + 1 → IsCounting old → IsConfirmed n new
+next_round n old new same e is = record {
+  begun = omega (arith, e);
+  lines = λ k below. rw same (next_line n old.round new.round (slice_index_or old.lines k None) e (is.lines k below));
+}
 
 -- ---- an instruction up to its gate keeps the map
 

@@ -45,3 +45,12 @@ IsRoundsLine round m (Some line) = IsOfRound round m line
 pub record IsConfirmed (m : Memory) (cache : DecodeCache) : Type 0 where
   pub begun : 0 < cache.round
   pub lines : (k : ℕ) → k < LINES → IsRoundsLine cache.round m (slice_index_or cache.lines k None)
+
+-- no line is of a later round, whatever the memory
+abbrev pub IsCountedLine : ℕ → Option CacheLine → Type 0
+IsCountedLine round None = Unit {0}
+IsCountedLine round (Some line) = line.confirmed ≤ round
+
+pub record IsCounting (cache : DecodeCache) : Type 0 where
+  pub begun : 0 < cache.round
+  pub lines : (k : ℕ) → k < LINES → IsCountedLine cache.round (slice_index_or cache.lines k None)

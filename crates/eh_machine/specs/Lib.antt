@@ -18,3 +18,4 @@ pub mod Guarded
 pub mod Turns
 pub mod Follows
 pub mod Cached
+pub mod Ready

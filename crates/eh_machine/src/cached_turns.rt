@@ -1,12 +1,14 @@
 //! Events of one accepted image, by a decode cache that is kept from one to the next (docs/machine.md, "An event").
 ghost use Rattle.std.specs.Prelude.{◌≡◌, IfSome};
+ghost use Rattle.eh_bus.specs.Memory.{Memory};
 ghost use Rattle.eh_gates.specs.State.{State, state_of};
 ghost use Rattle.given_input.specs.Given.{OnGiven};
 ghost use Rattle.machines_agree.specs.two_machines.Checked.{program_of};
 ghost use Rattle.eh_machine.specs.Turns.{TurnedOnce, CountsFaults};
+ghost use Rattle.eh_machine.specs.Ready.{IsReady};
 
 use crate::decode_cache::DecodeCache;
-use crate::event::{Shared, turn_cached};
+use crate::event::{Shared, turn_confirmed};
 use eh_bus::bus::Bus;
 use eh_gates::{Core, Turned};
 use eh_port::{Sink, Source};
@@ -22,21 +24,22 @@ pub struct CachedTurns<'a> {
 }
 
 impl<'a> Model for CachedTurns<'a> {
-    ghost use Rattle.frame_check.specs.Accepts.{Accepted as Parts};
     ghost use Rattle.machines_agree.specs.two_machines.Checked.{program_of};
-    ghost use Rattle.eh_machine.specs.Cached.{IsCache};
+    ghost use Rattle.eh_machine.specs.Cached.{IsCache, IsCounting};
+    ghost use Rattle.eh_machine.specs.Ready.{Decoded};
 
-    ghost Value = { Parts };
+    ghost Value = { Decoded };
 
-    ghost view = { λ t. t.accepted.now };
+    ghost view = { λ t. record { image = t.accepted.now; cache = t.cache } };
 
-    ghost invariant = { λ t. IsCache (program_of t.accepted.now) t.cache };
+    ghost invariant = { λ t. IsCache (program_of t.accepted.now) t.cache × IsCounting t.cache };
 }
 
 impl<'a> CachedTurns<'a> {
     /// Of an image, with nothing decoded yet.
     pub fn of(a: &'a Accepted<'a>) -> CachedTurns<'a>
-        ensures { result ≡ a.now }
+        ensures image { result.image ≡ a.now }
+        ensures ready { (m : Memory) → IsReady m result }
     {
         CachedTurns {
             accepted: a,
@@ -44,9 +47,19 @@ impl<'a> CachedTurns<'a> {
         }
     }
 
-    /// One event of a run of the image, as `turn` does it. What was decoded before isn't fetched again. Takes no memory.
+    /// From here on what was decoded counts in no memory before it is compared there: so it is ready for every one. Takes no memory.
+    pub fn doubt(&mut self)
+        ensures image { self.new.image ≡ self.old.image }
+        ensures ready { (m : Memory) → IsReady m self.new }
+    {
+        self.cache.doubt();
+    }
+
+    /// One event of a run of the image, as `turn` does it, in a memory that this is ready for, and after it is again. What was decoded before
+    /// isn't fetched again, and memory isn't asked for what was confirmed. Takes no memory.
     #[inline(always)]
-    pub fn turn<B: Bus, I: Source, O: Sink>(
+    #[tactic(auto, using(crate::proofs::Confirmed::counting))]
+    pub fn turn_confirmed<B: Bus, I: Source, O: Sink>(
         &mut self,
         core: &mut Core,
         shared: &mut Shared<B>,
@@ -54,18 +67,20 @@ impl<'a> CachedTurns<'a> {
         input: &mut I,
         out: &mut O,
     ) -> Turned
-        ensures image { self.new ≡ self.old }
+        requires { IsReady (B.memory shared.old.bus) self.old }
+        ensures image { self.new.image ≡ self.old.image }
+        ensures ready { IsReady (B.memory shared.new.bus) self.new }
         ensures told { IfSome (I.left input.old) (λ bytes.
             let old : State = state_of core.old (B.memory shared.old.bus) events.old in
             let new : State = state_of core.new (B.memory shared.new.bus) events.new in
-            TurnedOnce (program_of self.old) old bytes result new (I.left input.new) (O.written out.old) (O.written out.new)) }
+            TurnedOnce (program_of self.old.image) old bytes result new (I.left input.new) (O.written out.old) (O.written out.new)) }
         ensures given { OnGiven (λ bytes left.
             let old : State = state_of core.old (B.memory shared.old.bus) events.old in
             let new : State = state_of core.new (B.memory shared.new.bus) events.new in
-            TurnedOnce (program_of self.old) old bytes result new left (O.written out.old) (O.written out.new)) }
+            TurnedOnce (program_of self.old.image) old bytes result new left (O.written out.old) (O.written out.new)) }
         ensures faults { CountsFaults (λ end. result ≡ Turned.Ended end) (I.faults input.old) (I.faults input.new) (O.faults out.old) (O.faults out.new) }
     {
-        turn_cached(
+        turn_confirmed(
             self.accepted,
             &mut self.cache,
             core,

@@ -4,7 +4,7 @@ ghost use Rattle.std.specs.Prelude.{◌≡◌, ◌<◌, ◌≤◌, true, false, 
 ghost use Rattle.eh_bus.specs.Memory.{Memory};
 ghost use Rattle.eh_bus.specs.Map.{SameMap};
 ghost use Rattle.machines_agree.specs.two_machines.Program.{Program};
-ghost use Rattle.eh_machine.specs.Cached.{IsCache, IsOfLine, IsConfirmed, IsOfRound, StandFast};
+ghost use Rattle.eh_machine.specs.Cached.{IsCache, IsOfLine, IsConfirmed, IsCounting, IsOfRound, StandFast};
 ghost use Rattle.eh_machine.specs.Passes.{IsFetched};
 
 use crate::pass::Fetched;
@@ -54,6 +54,7 @@ impl DecodeCache {
     pub(crate) fn new() -> DecodeCache
         ensures cache { (p : Program) → IsCache p result }
         ensures confirmed { (m : Memory) → IsConfirmed m result }
+        ensures counting { IsCounting result }
     {
         DecodeCache {
             lines: [None; LINES],
@@ -113,21 +114,6 @@ impl DecodeCache {
         self.lines[line_of(line.address)] = Some(line);
     }
 
-    /// Keeps what was fetched at an address.
-    pub(crate) fn insert<B: Bus>(&mut self, address: u32, fetched: Fetched, bus: &B)
-        ensures { (p : Program) → IsCache p self.old → IsFetched p address (B.memory bus.now) fetched → IsCache p self.new }
-    {
-        let Some(halfwords) = halfwords_at(address, bus) else {
-            return;
-        };
-        self.put(CacheLine {
-            address,
-            halfwords,
-            fetched,
-            confirmed: NO_ROUND,
-        });
-    }
-
     /// This round, for halfwords that stand fast, and else none.
     fn round_of(&self, is_fast: bool) -> u32
         ensures within { 0 < self.now.round → result ≤ self.now.round }
@@ -158,7 +144,8 @@ impl DecodeCache {
     /// Begins a new round, in which nothing is confirmed yet.
     pub(crate) fn doubt(&mut self)
         ensures cache { (p : Program) → IsCache p self.old → IsCache p self.new }
-        ensures confirmed { (m n : Memory) → IsConfirmed m self.old → IsConfirmed n self.new }
+        ensures confirmed { (n : Memory) → IsCounting self.old → IsConfirmed n self.new }
+        ensures counting { IsCounting self.old → IsCounting self.new }
     {
         match self.round.checked_add(1) {
             Some(round) => self.round = round,

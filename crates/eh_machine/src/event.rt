@@ -69,68 +69,7 @@ pub fn turn<B: Bus, I: Source, O: Sink>(
     }
 }
 
-/// The same by a decode cache, which is kept up.
-#[inline(always)]
-pub(crate) fn turn_cached<B: Bus, I: Source, O: Sink>(
-    a: &Accepted,
-    cache: &mut DecodeCache,
-    core: &mut Core,
-    shared: &mut Shared<B>,
-    events: &mut Events,
-    input: &mut I,
-    out: &mut O,
-) -> Turned
-    requires { IsCache (program_of a.now) cache.old }
-    ensures cache { IsCache (program_of a.now) cache.new }
-    ensures told { IfSome (I.left input.old) (λ bytes.
-        let old : State = state_of core.old (B.memory shared.old.bus) events.old in
-        let new : State = state_of core.new (B.memory shared.new.bus) events.new in
-        TurnedOnce (program_of a.now) old bytes result new (I.left input.new) (O.written out.old) (O.written out.new)) }
-    ensures given { OnGiven (λ bytes left.
-        let old : State = state_of core.old (B.memory shared.old.bus) events.old in
-        let new : State = state_of core.new (B.memory shared.new.bus) events.new in
-        TurnedOnce (program_of a.now) old bytes result new left (O.written out.old) (O.written out.new)) }
-    ensures faults { CountsFaults (λ end. result ≡ Turned.Ended end) (I.faults input.old) (I.faults input.new) (O.faults out.old) (O.faults out.new) }
-{
-    if let Some(at) = cache.find(core.regs.pc, &shared.bus) {
-        return turn_at(a, at, core, shared, events, input, out).turned;
-    }
-    turn_anew(a, cache, core, shared, events, input, out)
-}
-
-/// The same, where the cache has not what stands at pc: it keeps what is fetched. A call of its own, so that no other event pays for it.
-#[inline(never)]
-fn turn_anew<B: Bus, I: Source, O: Sink>(
-    a: &Accepted,
-    cache: &mut DecodeCache,
-    core: &mut Core,
-    shared: &mut Shared<B>,
-    events: &mut Events,
-    input: &mut I,
-    out: &mut O,
-) -> Turned
-    requires { IsCache (program_of a.now) cache.old }
-    ensures cache { IsCache (program_of a.now) cache.new }
-    ensures told { IfSome (I.left input.old) (λ bytes.
-        let old : State = state_of core.old (B.memory shared.old.bus) events.old in
-        let new : State = state_of core.new (B.memory shared.new.bus) events.new in
-        TurnedOnce (program_of a.now) old bytes result new (I.left input.new) (O.written out.old) (O.written out.new)) }
-    ensures given { OnGiven (λ bytes left.
-        let old : State = state_of core.old (B.memory shared.old.bus) events.old in
-        let new : State = state_of core.new (B.memory shared.new.bus) events.new in
-        TurnedOnce (program_of a.now) old bytes result new left (O.written out.old) (O.written out.new)) }
-    ensures faults { CountsFaults (λ end. result ≡ Turned.Ended end) (I.faults input.old) (I.faults input.new) (O.faults out.old) (O.faults out.new) }
-{
-    match fetch_checked(a, core, &shared.bus) {
-        Ok(at) => {
-            cache.insert(core.regs.pc, at, &shared.bus);
-            turn_at(a, &at, core, shared, events, input, out).turned
-        }
-        Err(end) => Turned::Ended(end),
-    }
-}
-
-/// The same of a run that alone changes its memory from one event to the next: what was confirmed isn't fetched again.
+/// The same by a decode cache, which is kept up, in a memory of which its confirmed lines tell: what was confirmed isn't fetched again.
 #[inline(always)]
 pub(crate) fn turn_confirmed<B: Bus, I: Source, O: Sink>(
     a: &Accepted,

@@ -11,6 +11,8 @@ use Rattle.eh_gates.specs.declared.state.Core.{Core}
 use Rattle.eh_gates.specs.declared.state.Turned.{Turned}
 use Rattle.eh_gates.specs.declared.state.Turned.TheVariants.{Went, Ended}
 use Rattle.eh_gates.specs.State.{State, state_of}
+use Rattle.frame_check.specs.Accepts.{Accepted}
+use Rattle.eh_machine.specs.Ready.{Decoded}
 use Rattle.eh_machine.specs.Turns.{TurnedOnce}
 use Rattle.eh_machine.specs.two_machines.Program.{Program}
 use Rattle.eh_machine.specs.two_machines.Machine.{machine_event, may_fail}
@@ -20,8 +22,16 @@ use Rattle.thread_run.specs.Threads.{running, put_thread}
 use Rattle.thread_run.specs.Starting.{Outcome}
 use Rattle.thread_run.specs.Ending.{after_end, turn_outcome}
 use Rattle.thread_run.specs.Tags.{tags_up_to}
-use Rattle.thread_run.specs.Elements.{Joint, joint_of, owners_seen, memory_seen, as_entered, state_in, core_in, with_event, by_outcome, after_event, element_of, element}
+use Rattle.thread_run.specs.Elements.{Joint, joint_of, decoded_of, owners_seen, memory_seen, as_entered, state_in, core_in, with_event, by_outcome, after_event, element_of, element}
 use Rattle.thread_run.specs.Done.{ElementDone}
+
+-- ---- what was decoded is of the image
+
+pub is_of : (image : Accepted) (turns : Decoded) → turns ≡ decoded_of image turns → turns.image ≡ image
+is_of image turns e = ap (λ (d : Decoded). d.image) e
+
+pub still_of : (image : Accepted) (old new : Decoded) → old ≡ decoded_of image old → new.image ≡ old.image → new ≡ decoded_of image new
+still_of image old new e same = ap (λ (i : Accepted). decoded_of i new) (same ∙ is_of image old e)
 
 -- ---- an element is what the event of its thread makes it
 

@@ -1,9 +1,11 @@
--- Threads that are looked at one after the other.
-use Rattle.std.proofs.Common.{◌≡◌, ℕ, suc, ◌+◌, ◌<◌, ◌≤◌, true, false, List, [], length, get_or, drop, Option, Some, None, is_some, refl, ◌∙◌, arith}
+-- Threads, and bytes of a schedule, that are looked at one after the other.
+use Rattle.std.proofs.Common.{◌≡◌, ℕ, suc, ◌+◌, ◌<◌, ◌≤◌, true, false, List, [], length, get_or, drop, Option, Some, None, is_some, refl, sym, ap, ◌∙◌, arith}
 use Rattle.std.proofs.lemmas.List.{at_drop_more, drop_all}
+use Rattle.std.proofs.lemmas.Option.{slice_get-get_or}
 use Rattle.thread_run.specs.declared.thread.Thread.{Thread}
 use Rattle.thread_run.specs.Threads.{core_of, none_runs}
 use Rattle.thread_run.specs.Starting.{unstarted_from}
+use Rattle.thread_run.specs.Schedules.{thread_of, thread_in, thread_at}
 
 -- ---- whether one runs
 
@@ -32,3 +34,8 @@ unstarted_next threads i h some e =
 
 pub all_started : (threads : List (Option Thread)) (i : ℕ) → length threads ≤ i → unstarted_from 0 threads ≡ unstarted_from i (drop i threads) → unstarted_from 0 threads ≡ None
 all_started threads i h e = let all : drop i threads ≡ [] = drop_all i threads h in rw all at e
+
+-- ---- a byte of a schedule
+
+pub named_at : (schedule : List ℕ) (at : ℕ) (d : ℕ) → at < length schedule → thread_of (get_or schedule at d) ≡ thread_at schedule at
+named_at schedule at d h = sym (ap thread_in (slice_get-get_or schedule at d h))

@@ -1,8 +1,8 @@
 -- A run of a schedule, from the elements that its loop has done.
-use Rattle.std.proofs.Common.{◌≡◌, ℕ, ◌-◌, ◌<◌, false, List, [], Option, Some, None, IfSome, inl, inr, refl, sym, ap, subst, arith, append-nil}
+use Rattle.std.proofs.Common.{◌≡◌, ℕ, zero, suc, ◌-◌, ◌<◌, false, List, [], ◌∷◌, length, Option, Some, None, IfSome, inl, inr, refl, sym, ap, subst, ◌∙◌, arith, append-nil}
 use Rattle.std.specs.Io.KnownBytes.{Appends}
 use Rattle.std.proofs.KnownBytes.{Appends-nil, Appends-trans}
-use Rattle.eh_machine.specs.event_runs.Runs.{Event, Machine, run, GoesOn, EndsBy, Runs}
+use Rattle.eh_machine.specs.event_runs.Runs.{Event, Goes, Machine, follow, prepend, run, GoesOn, EndsBy, Runs}
 use Rattle.eh_machine.proofs.event_runs.Progress.{Progress, goes_on, ends, spent}
 use Rattle.thumb_core.specs.declared.ends.End.{End}
 use Rattle.thumb_core.specs.declared.ends.End.TheVariants.{Exit, Budget}
@@ -12,6 +12,7 @@ use Rattle.eh_machine.specs.two_machines.Program.{Program}
 use Rattle.thread_run.specs.Threads.{all_over}
 use Rattle.thread_run.specs.Elements.{Joint, element}
 use Rattle.thread_run.specs.Schedules.{Scheduled, thread_at, place_after, placed, at_first, unless_all_over, next_element, schedule_run}
+use Rattle.thread_run.proofs.Elements.{element_passed}
 use Rattle.thread_run.specs.Done.{ElementDone, ElementEnds, FaultAt, RanWhole, RanUpTo, RunsSchedule}
 
 -- faults of the outside stand beside it
@@ -143,3 +144,28 @@ pub over_before : (p : Program) (schedule : List ℕ) (n : ℕ) (w : Joint) (lef
 over_before p schedule n w None out number over = tt
 over_before p schedule n w (Some bytes) out number over =
     inl (rw (is_over p schedule n w bytes number (sym over)) (record { ends = refl; threads = refl; leaves = refl; wrote = Appends-nil out }))
+
+-- ---- a schedule without elements
+
+next_passed : (p : Program) (w : Joint) (input : List ℕ) → next_element p [] (at_first w) input ≡ Goes (at_first w) [] input
+unfolding next_element
+next_passed p w input = ap (placed 0) (element_passed p None w input refl)
+
+all_passed : (p : Program) (n : ℕ) (w : Joint) (input : List ℕ)
+    → run (next_element p []) Budget n (at_first w) input ≡ record { text = []; end = Budget; state = at_first w; left = input; spare = 0 }
+unfolding run
+all_passed p zero w input = refl
+all_passed p (suc n) w input =
+    ap (λ (e : Event Scheduled End). follow e (run (next_element p []) Budget n) n input) (next_passed p w input)
+    ∙ ap (prepend []) (all_passed p n w input)
+
+is_nothing : (schedule : List ℕ) → length schedule ≡ 0 → schedule ≡ []
+is_nothing [] e = refl
+is_nothing (byte ∷ more) e = absurd (omega arith)
+
+pub none_named : (p : Program) (schedule : List ℕ) (n : ℕ) (w : Joint) (left out : Option (List ℕ)) → length schedule ≡ 0 → all_over w.threads ≡ None
+    → IfSome left (λ bytes. RunsSchedule p schedule n w bytes Budget w left out out)
+none_named p schedule n w None out none not_over = tt
+none_named p schedule n w (Some bytes) out none not_over =
+    rw (is_nothing schedule none)
+    (inl (rw (is_run p [] n w bytes not_over ∙ all_passed p n w bytes) (record { ends = refl; threads = refl; leaves = refl; wrote = Appends-nil out })))

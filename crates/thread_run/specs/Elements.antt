@@ -10,6 +10,8 @@ use Rattle.eh_gates.specs.declared.state.Core.{Core}
 use Rattle.eh_gates.specs.declared.state.Turned.{Turned}
 use Rattle.eh_gates.specs.declared.state.Turned.TheVariants.{Went, Ended}
 use Rattle.eh_gates.specs.State.{State, state_of}
+use Rattle.frame_check.specs.Accepts.{Accepted}
+use Rattle.eh_machine.specs.Ready.{Decoded}
 use Rattle.eh_machine.specs.two_machines.Program.{Program}
 use Rattle.eh_machine.specs.two_machines.Machine.{machine_event}
 use Rattle.thread_memory.specs.Owners.{nobodys_from, owners_after, switched}
@@ -22,6 +24,10 @@ use Rattle.thread_run.specs.Ending.{after_end}
 use Rattle.thread_run.specs.Tags.{tags_up_to}
 
 -- ---- the state
+
+-- what was decoded, of this image
+abbrev pub decoded_of : Accepted → Decoded → Decoded
+decoded_of image turns = record { image = image; cache = turns.cache }
 
 -- The threads by their numbers; the one that is entered; what each slot of the pool held when it was entered; the memory as it sees it; the
 -- events of all threads, and the thread of each that is kept.

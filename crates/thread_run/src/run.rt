@@ -1,5 +1,6 @@
 //! The run of at most so many elements of a schedule (docs/threads.md, "A run").
 ghost use Rattle.std.specs.Prelude.{◌≡◌, IfSome, None};
+ghost use Rattle.eh_machine.specs.Ready.{IsReady};
 ghost use Rattle.eh_machine.specs.Turns.{CountsFaults};
 ghost use Rattle.thread_memory.specs.Seen.{seen};
 ghost use Rattle.eh_machine.specs.two_machines.Checked.{program_of};
@@ -19,6 +20,7 @@ impl<'a, B: Bus> Threads<'a, B> {
     /// Runs at most `budget` elements of a schedule, whose bytes are digits of threads, and from the first again after the last. A byte that
     /// is no such digit names no thread, and its element is passed over. Where each thread that was started has ended, the run ends with the
     /// number of the first, before any element too. A further run goes on with the threads as this one left them. Takes no memory.
+    #[tactic(auto, using(crate::proofs::Elements::still_of))]
     pub fn run_schedule<I: Source, O: Sink>(
         &mut self,
         schedule: &[u8],
@@ -37,11 +39,15 @@ impl<'a, B: Bus> Threads<'a, B> {
     {
         match all_over(&self.threads) {
             Some(number) => End::Exit(number),
-            None => self.elements(schedule, budget, input, out),
+            None => {
+                // since the last run the memory may have changed
+                self.turns.doubt();
+                self.elements(schedule, budget, input, out)
+            }
         }
     }
 
-    /// The same where a thread runs.
+    /// The same where a thread runs, in a memory that what was decoded is ready for.
     fn elements<I: Source, O: Sink>(
         &mut self,
         schedule: &[u8],
@@ -49,7 +55,8 @@ impl<'a, B: Bus> Threads<'a, B> {
         input: &mut I,
         out: &mut O,
     ) -> End
-        requires { all_over self.old.threads ≡ None }
+        requires runs { all_over self.old.threads ≡ None }
+        requires ready { IsReady (seen (B.memory self.old.shared.bus.inner) self.old.shared.bus.guards self.old.shared.bus.thread) self.old.turns }
         ensures told { IfSome (I.left input.old) (λ bytes.
             let old : Joint = joint_of self.old.threads self.old.entered self.old.owners.slots
             (seen (B.memory self.old.shared.bus.inner) self.old.shared.bus.guards self.old.shared.bus.thread) self.old.events self.old.tags in
@@ -59,10 +66,14 @@ impl<'a, B: Bus> Threads<'a, B> {
         ensures faults { CountsFaults (λ end. result ≡ end) (I.faults input.old) (I.faults input.new) (O.faults out.old) (O.faults out.new) }
         ensures accepted { self.new.accepted ≡ self.old.accepted }
     {
+        // no element of it names a thread
+        if schedule.is_empty() {
+            return End::Budget;
+        }
         let mut left = budget;
         let mut at = 0;
         while left > 0 {
-            match self.element(thread_at(schedule, at), input, out) {
+            match self.element_confirmed(thread_at(schedule, at), input, out) {
                 Turned::Went => {
                     left -= 1;
                     at = place_after(schedule, at);

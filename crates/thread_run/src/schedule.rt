@@ -1,5 +1,5 @@
 //! The elements of a schedule, one after the other (docs/threads.md, "Schedules").
-ghost use Rattle.std.specs.Prelude.{◌≡◌, ◌<◌, ◌≤◌, length, IfSome};
+ghost use Rattle.std.specs.Prelude.{◌≡◌, ◌<◌, length, IfSome};
 ghost use Rattle.thread_memory.specs.declared.homes.TheConstants.{THREADS};
 ghost use Rattle.thread_run.specs.Schedules.{thread_of, thread_at, place_after};
 
@@ -7,6 +7,7 @@ use thread_memory::THREADS;
 use thread_schedule::schedule::FIRST_DIGIT;
 
 /// The thread that a byte names.
+#[inline(always)]
 fn thread_of(byte: u8) -> Option<usize>
     ensures is { result ≡ thread_of byte }
     ensures within { IfSome result (λ thread. thread < THREADS) }
@@ -16,21 +17,23 @@ fn thread_of(byte: u8) -> Option<usize>
 }
 
 /// The thread that the element at a place names.
+#[inline(always)]
+#[tactic(auto, using(crate::proofs::Looking::named_at))]
 pub(crate) fn thread_at(schedule: &[u8], at: usize) -> Option<usize>
+    requires { at < length schedule.now }
     ensures is { result ≡ thread_at schedule.now at }
     ensures within { IfSome result (λ thread. thread < THREADS) }
 {
-    match schedule.get(at) {
-        None => None,
-        Some(byte) => thread_of(*byte),
-    }
+    thread_of(schedule[at])
 }
 
 /// The place of the next element: after the last comes the first again.
+#[inline(always)]
 pub(crate) fn place_after(schedule: &[u8], at: usize) -> usize
-    requires { at ≤ length schedule.now }
+    requires { at < length schedule.now }
     ensures is { result ≡ place_after schedule.now at }
-    ensures within { result ≤ length schedule.now }
+    ensures within { result < length schedule.now }
 {
-    if at + 1 < schedule.len() { at + 1 } else { 0 }
+    let next = at + 1;
+    if next < schedule.len() { next } else { 0 }
 }

@@ -1,4 +1,3 @@
-use Rattle.std.proofs.Common.{refl}
 use Rattle.eh_machine.proofs.Cached.{is_fetched}
 use Rattle.eh_machine.proofs.Confirmed.{stands_at}
 use Rattle.eh_machine.proofs.decode_cache.DecodeCache.find_confirmed.Goals as goal

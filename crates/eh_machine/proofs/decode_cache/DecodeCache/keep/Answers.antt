@@ -1,4 +1,3 @@
-use Rattle.std.proofs.Common.{subst}
 use Rattle.eh_machine.proofs.Cached.{is_of_line}
 use Rattle.eh_machine.proofs.decode_cache.DecodeCache.keep.Goals as goal
 

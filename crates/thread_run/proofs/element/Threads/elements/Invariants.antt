@@ -1,6 +1,7 @@
-use Rattle.std.proofs.Common.{◌≡◌, ◌≤◌, IfSome, length}
+use Rattle.std.proofs.Common.{◌≡◌, ◌<◌, IfSome, length}
 use Rattle.eh_machine.proofs.event_runs.Progress.{Progress}
 use Rattle.thumb_core.specs.declared.ends.End.{End}
+use Rattle.eh_machine.specs.Ready.{IsReady}
 use Rattle.eh_machine.specs.two_machines.Checked.{program_of}
 use Rattle.thread_memory.specs.Seen.{seen}
 use Rattle.thread_run.specs.Elements.{joint_of}
@@ -8,7 +9,7 @@ use Rattle.thread_run.specs.Schedules.{Scheduled, at_first}
 use Rattle.thread_run.proofs.Running.{elements_of, at_place}
 use Rattle.thread_run.proofs.element.Threads.elements.Given as goal
 
--- what was done and what is left are the whole run, and no count has changed
+-- what was done and what is left are the whole run, no count has changed, and what was decoded is ready for the memory
 abbrev pub invariant-loop-left : goal.invariant-loop-left
 invariant-loop-left g l = record {
   progress : IfSome (g.I.Source.left l.initial.input) (λ bytes. Progress Scheduled End (elements_of (program_of l.initial.self.accepted.now) l.schedule) l.budget
@@ -20,7 +21,8 @@ invariant-loop-left g l = record {
   input_kept : g.I.Source.faults l.input ≡ g.I.Source.faults l.initial.input;
   out_kept : g.O.Sink.faults l.out ≡ g.O.Sink.faults l.initial.out;
   same : l.self.accepted ≡ l.initial.self.accepted;
-  place : l.at ≤ length l.schedule;
+  place : l.at < length l.schedule;
+  ready : IsReady (seen (g.B.Bus.memory l.self.shared.bus.inner) l.self.shared.bus.guards l.self.shared.bus.thread) l.self.turns;
 }
 
 abbrev pub decreases-loop-left : goal.decreases-loop-left
