@@ -1,5 +1,5 @@
 //! Statements of the operands that a line has (docs/source-language.md).
-ghost use Rattle.std.specs.Prelude.{◌≡◌, ◌+◌, ◌<◌, ◌≤◌, ◌++◌, ◌∷◌, [], false, length, Option, IfOk, OnOk};
+ghost use Rattle.std.specs.Prelude.{◌≡◌, ◌==◌, ◌+◌, ◌<◌, ◌≤◌, ◌++◌, ◌∷◌, [], false, length, count_by, Option, IfOk, OnOk};
 ghost use Rattle.asm_read.specs.Tokens.{unescaped};
 ghost use Rattle.asm_read.specs.Operands.{bytes_of};
 ghost use Rattle.asm_read.specs.Expressions.{expr_of, expr_from, expressions_at, exprs_of};
@@ -94,6 +94,19 @@ fn expr_from(alloc: Global, line: &[u8], from: usize) -> Result<Expr, NameMemory
     }
 }
 
+/// How many expressions stand between the commas of bytes, or fewer: a text or a comment may have commas of its own.
+fn most_expressions(bytes: &[u8]) -> usize
+    ensures { result ≡ count_by (λ b. b == 44) bytes.now + 1 }
+{
+    let mut most = 1;
+    for b in bytes {
+        if *b == b',' {
+            most += 1;
+        }
+    }
+    most
+}
+
 fn push_expr(exprs: &mut Vec<Expr>, expr: Expr) -> Result<(), AllocError>
     ensures { OnOk result (exprs.new.items ≡ exprs.old.items ++ expr ∷ []) }
 {
@@ -107,8 +120,7 @@ fn exprs_from(alloc: Global, word: bool, line: &[u8], from: usize) -> Result<Vec
     requires { from ≤ length line.now }
     ensures { IfOk result (λ v. v.items ≡ exprs_of line.now (expressions_at (length line.now) word line.now from)) }
 {
-    // most lists have one
-    let mut exprs = Vec::with_capacity(alloc, 1)?;
+    let mut exprs = Vec::with_capacity(alloc, most_expressions(&line[from..]))?;
     let mut at = from;
     let mut left = line.len();
     while left > 0 {
