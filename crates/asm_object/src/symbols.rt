@@ -26,8 +26,9 @@ fn symbol(name: Name, label: Label) -> ObjSymbol
 pub fn symbols(alloc: Global, labels: Labels) -> Result<ObjSymbols, AllocError>
     ensures { IfOk result (λ symbols. symbols ≡ map symbol_of labels) }
 {
-    let mut symbols = Vec::new(alloc);
-    for (name, label) in labels.into_map() {
+    let map = labels.into_map();
+    let mut symbols = Vec::with_capacity(alloc, map.len())?;
+    for (name, label) in map {
         symbols.push(symbol(name, label))?;
     }
     Ok(ObjSymbols::of_vec(symbols))
