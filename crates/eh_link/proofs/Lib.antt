@@ -4,6 +4,7 @@ pub mod Equations
 pub mod Holding
 pub mod Images
 pub mod Layouts
+pub mod Lent
 pub mod Reading
 pub mod Sorting
 pub mod Standing

@@ -108,8 +108,8 @@ fn bytes_from(bytes: &[u8], offset: usize) -> &[u8]
 /// What a relocation does to the bytes of a section that begins at an address.
 #[tactic(auto, using(crate::proofs::Changes::change_fits), unfolding(crate::specs::Fields::change_of))]
 fn change_of(
-    own: &Meanings,
-    global: &Meanings,
+    own: &Meanings<'_>,
+    global: &Meanings<'_>,
     section: Section,
     start: u32,
     bytes: &[u8],
@@ -132,8 +132,8 @@ fn change_of(
 #[tactic(auto, using(crate::proofs::Changes::fills))]
 fn fill(
     bytes: &mut [u8],
-    own: &Meanings,
-    global: &Meanings,
+    own: &Meanings<'_>,
+    global: &Meanings<'_>,
     section: Section,
     start: u32,
     relocs: &[Reloc],
@@ -155,8 +155,8 @@ fn fill(
 fn filled_part(
     alloc: Global,
     placed: &Placed,
-    own: &Meanings,
-    global: &Meanings,
+    own: &Meanings<'_>,
+    global: &Meanings<'_>,
     section: Section,
 ) -> Result<(OwnBytes, Option<u32>), AllocError>
     ensures bytes { IfOk result (λ part. part.0 ≡ filled_in (looked_up own.now global.now) placed.now section) }
@@ -180,7 +180,7 @@ fn filled_part(
 fn filled_object(
     alloc: Global,
     placed: &Placed,
-    global: &Meanings,
+    global: &Meanings<'_>,
 ) -> Result<(Filled, Option<u32>), AllocError>
     ensures parts { IfOk result (λ r. r.0 ≡ filled_by (meaning_by global.now placed.now) placed.now) }
     ensures lowest { IfOk result (λ r. r.1 ≡ unreachable_by (meaning_by global.now placed.now) placed.now) }

@@ -35,7 +35,7 @@ fn check_names(alloc: Global, objects: &[Object]) -> Result<(), LinkFault>
     ensures err { IfErr result (λ fault. (fault ≡ OutOfMemory) ⊎ ((later : Result ImageParts LinkFault) → unless_misnamed objects.now later ≡ Err fault)) }
 {
     let mut names = NameSet::new(alloc);
-    if let Some(name) = duplicate(alloc, objects, &mut names)? {
+    if let Some(name) = duplicate(objects, &mut names)? {
         return Err(LinkFault::Duplicate(copied(alloc, name)?));
     }
     if let Some(name) = undefined(alloc, objects, &names)? {

@@ -9,7 +9,6 @@ ghost use Rattle.eh_link.specs.Symbols.{has_label, has_global, is_label, is_glob
 use crate::places::{Addresses, Placed, address_at, address_in};
 use eh_word::Name;
 use indexmap::{IndexMap, IndexSet};
-use relocatable_object::name::copied;
 use relocatable_object::object::{ObjSymbol, Object};
 use std::alloc::{AllocError, Global};
 use std::marker::Model;
@@ -23,22 +22,22 @@ pub struct Meaning {
     pub function: bool,
 }
 
-/// A set of names, which contracts see as a list of them.
+/// A set of names that are lent, which contracts see as a list of them.
 #[derive(Drop)]
-pub struct NameSet {
-    names: IndexSet<Name>,
+pub struct NameSet<'a> {
+    names: IndexSet<&'a [u8]>,
 }
 
-impl Model for NameSet {
-    ghost use Rattle.std.specs.Prelude.{List, ℕ};
+impl<'a> Model for NameSet<'a> {
+    ghost use Rattle.std.specs.Prelude.{List, ℕ, map};
 
     ghost Value = { List (List ℕ) };
 
-    ghost view = { λ set. set.names.keys };
+    ghost view = { λ set. map (λ name. name.now) set.names.keys };
 }
 
-impl NameSet {
-    pub(crate) fn new(alloc: Global) -> NameSet
+impl<'a> NameSet<'a> {
+    pub(crate) fn new(alloc: Global) -> NameSet<'a>
         ensures { result ≡ [] }
     {
         NameSet {
@@ -47,7 +46,7 @@ impl NameSet {
     }
 
     /// No names, with room for some.
-    fn with_capacity(alloc: Global, names: usize) -> Result<NameSet, AllocError>
+    fn with_capacity(alloc: Global, names: usize) -> Result<NameSet<'a>, AllocError>
         ensures { IfOk result (λ set. set ≡ []) }
     {
         Ok(NameSet {
@@ -58,69 +57,67 @@ impl NameSet {
     pub(crate) fn contains(&self, name: &Name) -> bool
         ensures { result ≡ list_any (same_bytes name.now) self.now }
     {
-        self.names.contains(name)
+        self.names.contains(name.bytes())
     }
 
-    pub(crate) fn add(&mut self, alloc: Global, name: &Name) -> Result<(), AllocError>
+    pub(crate) fn add(&mut self, name: &'a Name) -> Result<(), AllocError>
         ensures { OnOk result ((q : List ℕ) → list_any (same_bytes q) self.new ≡ (list_any (same_bytes q) self.old || same_bytes q name.now)) }
     {
-        let name = copied(alloc, name)?;
-        self.names.insert(name)?;
+        self.names.insert(name.bytes())?;
         Ok(())
     }
 }
 
-/// Names and what they mean, which contracts see as a list of them.
+/// Names that are lent and what they mean, which contracts see as a list of them.
 #[derive(Drop)]
-pub struct Meanings {
-    map: IndexMap<Name, Meaning>,
+pub struct Meanings<'a> {
+    by_name: IndexMap<&'a [u8], Meaning>,
 }
 
-impl Model for Meanings {
-    ghost use Rattle.std.specs.Prelude.{List, ℕ};
+impl<'a> Model for Meanings<'a> {
+    ghost use Rattle.std.specs.Prelude.{List, ℕ, map};
     ghost use Rattle.eh_link.specs.declared.names.Meaning.{Meaning};
 
     ghost Value = { List (List ℕ × Meaning) };
 
-    ghost view = { λ meanings. meanings.map.entries };
+    ghost view = { λ meanings. map (λ entry. (entry.0.now, entry.1)) meanings.by_name.entries };
 }
 
-impl Meanings {
-    fn new(alloc: Global) -> Meanings
+impl<'a> Meanings<'a> {
+    fn new(alloc: Global) -> Meanings<'a>
         ensures { result ≡ [] }
     {
         Meanings {
-            map: IndexMap::new(alloc),
+            by_name: IndexMap::new(alloc),
         }
     }
 
     /// No names, with room for some.
-    fn with_capacity(alloc: Global, names: usize) -> Result<Meanings, AllocError>
+    fn with_capacity(alloc: Global, names: usize) -> Result<Meanings<'a>, AllocError>
         ensures { IfOk result (λ meanings. meanings ≡ []) }
     {
         Ok(Meanings {
-            map: IndexMap::with_capacity(alloc, names)?,
+            by_name: IndexMap::with_capacity(alloc, names)?,
         })
     }
 
     pub(crate) fn get(&self, name: &Name) -> Option<Meaning>
         ensures { result ≡ lookup (same_bytes name.now) self.now }
     {
-        self.map.get(name).copied()
+        self.by_name.get(name.bytes()).copied()
     }
 
     /// Adds what a name means, unless it means something already.
-    fn add(&mut self, alloc: Global, name: &Name, meaning: Meaning) -> Result<(), AllocError>
+    fn add(&mut self, name: &'a Name, meaning: Meaning) -> Result<(), AllocError>
         ensures { OnOk result ((q : List ℕ) → lookup (same_bytes q) self.new ≡ option_or (lookup (same_bytes q) self.old) (if same_bytes q name.now then Some meaning else None)) }
     {
-        let name = copied(alloc, name)?;
-        self.map.entry(name)?.or_insert(meaning);
+        self.by_name.entry(name.bytes())?.or_insert(meaning);
         Ok(())
     }
 }
 
 /// What a name means by the labels of its object, else by the global ones.
-pub(crate) fn looked_up(own: &Meanings, global: &Meanings, name: &Name) -> Option<Meaning>
+pub(crate) fn looked_up(own: &Meanings<'_>, global: &Meanings<'_>, name: &Name) -> Option<Meaning>
     ensures { result ≡ looked_up own.now global.now name.now }
 {
     match own.get(name) {
@@ -132,22 +129,22 @@ pub(crate) fn looked_up(own: &Meanings, global: &Meanings, name: &Name) -> Optio
 // ---- names that are there twice, or not at all
 
 /// Adds the names of an object's labels.
-fn add_labels(alloc: Global, names: &mut NameSet, object: &Object) -> Result<(), AllocError>
+fn add_labels<'a>(names: &mut NameSet<'a>, object: &'a Object) -> Result<(), AllocError>
     ensures { OnOk result ((q : List ℕ) → list_any (same_bytes q) names.new ≡ (list_any (same_bytes q) names.old || has_label q object.now)) }
 {
     for symbol in object.symbols.as_slice() {
-        names.add(alloc, &symbol.name)?;
+        names.add(&symbol.name)?;
     }
     Ok(())
 }
 
 /// Adds the names of an object's global labels.
-fn add_globals(alloc: Global, names: &mut NameSet, object: &Object) -> Result<(), AllocError>
+fn add_globals<'a>(names: &mut NameSet<'a>, object: &'a Object) -> Result<(), AllocError>
     ensures { OnOk result ((q : List ℕ) → list_any (same_bytes q) names.new ≡ (list_any (same_bytes q) names.old || has_global q object.now)) }
 {
     for symbol in object.symbols.as_slice() {
         if symbol.global {
-            names.add(alloc, &symbol.name)?;
+            names.add(&symbol.name)?;
         }
     }
     Ok(())
@@ -155,7 +152,7 @@ fn add_globals(alloc: Global, names: &mut NameSet, object: &Object) -> Result<()
 
 /// The first global name of an object that is among some names.
 #[tactic(auto, using(crate::proofs::Steps::finds))]
-fn shared_name<'a>(object: &'a Object, later: &NameSet) -> Option<&'a Name>
+fn shared_name<'a>(object: &'a Object, later: &NameSet<'_>) -> Option<&'a Name>
     ensures { option_map (λ name. name.now) result ≡ find (λ name. list_any (same_bytes name) later.now) (global_names object.now) }
 {
     for symbol in object.symbols.as_slice() {
@@ -168,9 +165,8 @@ fn shared_name<'a>(object: &'a Object, later: &NameSet) -> Option<&'a Name>
 
 /// The first name that has global labels in two objects; `names` takes all global names.
 pub(crate) fn duplicate<'a>(
-    alloc: Global,
     objects: &'a [Object],
-    names: &mut NameSet,
+    names: &mut NameSet<'a>,
 ) -> Result<Option<&'a Name>, AllocError>
     requires { names.old ≡ [] }
     ensures found { IfOk result (λ o. option_map (λ name. name.now) o ≡ duplicate_of objects.now) }
@@ -180,7 +176,7 @@ pub(crate) fn duplicate<'a>(
     for i in (0..objects.len()).rev() {
         let object = &objects[i];
         found = shared_name(object, names).or(found);
-        add_globals(alloc, names, object)?;
+        add_globals(names, object)?;
     }
     Ok(found)
 }
@@ -189,12 +185,12 @@ pub(crate) fn duplicate<'a>(
 fn undefined_in<'a>(
     alloc: Global,
     object: &'a Object,
-    global: &NameSet,
+    global: &NameSet<'_>,
 ) -> Result<Option<&'a Name>, AllocError>
     ensures { IfOk result (λ o. option_map (λ name. name.now) o ≡ find (λ name. not (has_label name object.now || list_any (same_bytes name) global.now)) (field_names object.now)) }
 {
     let mut own = NameSet::with_capacity(alloc, object.symbols.len())?;
-    add_labels(alloc, &mut own, object)?;
+    add_labels(&mut own, object)?;
     for reloc in object.relocs.as_slice() {
         if !own.contains(&reloc.name) && !global.contains(&reloc.name) {
             return Ok(Some(&reloc.name));
@@ -207,7 +203,7 @@ fn undefined_in<'a>(
 pub(crate) fn undefined<'a>(
     alloc: Global,
     objects: &'a [Object],
-    global: &NameSet,
+    global: &NameSet<'_>,
 ) -> Result<Option<&'a Name>, AllocError>
     requires { (q : List ℕ) → list_any (same_bytes q) global.now ≡ list_any (has_global q) objects.now }
     ensures { IfOk result (λ o. option_map (λ name. name.now) o ≡ undefined_of objects.now objects.now) }
@@ -240,28 +236,30 @@ fn meaning_at(at: Addresses, symbol: &ObjSymbol) -> Meaning
 
 /// What names mean by the labels of their object.
 #[tactic(auto, using(crate::proofs::Steps::finds))]
-pub(crate) fn own_meanings(alloc: Global, placed: &Placed) -> Result<Meanings, AllocError>
+pub(crate) fn own_meanings<'a>(
+    alloc: Global,
+    placed: &'a Placed<'_>,
+) -> Result<Meanings<'a>, AllocError>
     ensures { IfOk result (λ own. (q : List ℕ) → lookup (same_bytes q) own ≡ first_label (is_label q) placed.now) }
 {
     let mut own = Meanings::with_capacity(alloc, placed.object.symbols.len())?;
     for symbol in placed.object.symbols.as_slice() {
-        own.add(alloc, &symbol.name, meaning_at(placed.at, symbol))?;
+        own.add(&symbol.name, meaning_at(placed.at, symbol))?;
     }
     Ok(own)
 }
 
 /// Adds what names mean by the global labels of an object.
 #[tactic(auto, using(crate::proofs::Steps::finds))]
-fn add_global_meanings(
-    alloc: Global,
-    global: &mut Meanings,
-    placed: &Placed,
+fn add_global_meanings<'a>(
+    global: &mut Meanings<'a>,
+    placed: &'a Placed<'_>,
 ) -> Result<(), AllocError>
     ensures { OnOk result ((q : List ℕ) → lookup (same_bytes q) global.new ≡ option_or (lookup (same_bytes q) global.old) (first_label (is_global q) placed.now)) }
 {
     for symbol in placed.object.symbols.as_slice() {
         if symbol.global {
-            global.add(alloc, &symbol.name, meaning_at(placed.at, symbol))?;
+            global.add(&symbol.name, meaning_at(placed.at, symbol))?;
         }
     }
     Ok(())
@@ -269,12 +267,15 @@ fn add_global_meanings(
 
 /// What names mean by global labels.
 #[tactic(auto, using(crate::proofs::Steps::finds))]
-pub(crate) fn global_meanings(alloc: Global, all: &[Placed]) -> Result<Meanings, AllocError>
+pub(crate) fn global_meanings<'a>(
+    alloc: Global,
+    all: &'a [Placed<'_>],
+) -> Result<Meanings<'a>, AllocError>
     ensures { IfOk result (λ global. (q : List ℕ) → lookup (same_bytes q) global ≡ first_in (is_global q) all.now) }
 {
     let mut global = Meanings::new(alloc);
     for placed in all {
-        add_global_meanings(alloc, &mut global, placed)?;
+        add_global_meanings(&mut global, placed)?;
     }
     Ok(global)
 }
