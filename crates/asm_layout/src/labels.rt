@@ -10,6 +10,7 @@ use crate::placed::PlacedStmt;
 use asm_statements::{Stmt, StmtKind};
 use eh_word::Name;
 use indexmap::IndexMap;
+use indexmap::map::Entry;
 use relocatable_object::name::copied;
 use relocatable_object::place::Place;
 use std::alloc::{AllocError, Global};
@@ -82,17 +83,18 @@ impl Labels {
         ensures labels { OnOk result (self.new
             ≡ self.old ++ map fresh (label_unless (is_among name.now (named_in self.old)) name.now place)) }
     {
-        if self.map.get(name).is_some() {
-            return Ok(true);
+        match self.map.entry(copied(alloc, name)?)? {
+            Entry::Occupied(_) => Ok(true),
+            Entry::Vacant(entry) => {
+                entry.insert(Label {
+                    place,
+                    size: 0,
+                    function: false,
+                    global: false,
+                });
+                Ok(false)
+            }
         }
-        let label = Label {
-            place,
-            size: 0,
-            function: false,
-            global: false,
-        };
-        self.map.insert(copied(alloc, name)?, label)?;
-        Ok(false)
     }
 
     /// Takes a `.size` at a place: it gives a size to a label before it in the section.
