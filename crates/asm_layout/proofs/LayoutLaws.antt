@@ -1,7 +1,6 @@
 -- Laws of the labels of a source, of the list of labels so far, and of the first of refusals.
-use Rattle.std.proofs.Common.{◌≡◌, ℕ, Bool, true, false, ◌||◌, List, [], ◌∷◌, ◌++◌, map, Option, Some, None, option_map, is_some, inl, inr, refl, sym, ap, ◌∙◌, append_assoc, get_or, drop, length, nat_lt, not, ◌==◌, ◌<◌, ◌+◌, Bor, arith}
+use Rattle.std.proofs.Common.{◌≡◌, ℕ, Bool, true, false, ◌||◌, List, [], ◌∷◌, ◌++◌, map, Option, Some, None, option_map, is_some, inl, inr, refl, sym, ap, ◌∙◌, append_assoc, get_or, drop, length, nat_lt, not, ◌==◌, ◌<◌, ◌+◌, arith}
 use Rattle.std.specs.List.{list_any, IsDistinct}
-use Rattle.std.specs.Option.{option_copied}
 use Rattle.std.specs.Map.{lookup, set_value, keys_of}
 use Rattle.std.proofs.Math.Bool.{or-false}
 use Rattle.std.proofs.lemmas.Bool.{cases_Bool}
@@ -60,12 +59,6 @@ above-zero n = grind (arith, nat_tests)
 
 pub is_among-named_in : (q : List ℕ) (es : List Entry) → is_among q (named_in es) ≡ is_some (lookup (same_bytes q) es)
 is_among-named_in q es = ap (list_any (same_bytes q)) (map_after _ _ es) ∙ sym (is_some-lookup (same_bytes q) es)
-
-pub is_among-look_up : (q : List ℕ) (es now : List Entry) (r : Option (Bor Label)) (b : Bool) → es ≡ now → option_copied r ≡ lookup (same_bytes q) es → b ≡ is_some r → is_among q (named_in now) ≡ b
-is_among-look_up q es now r b view found is = rw (← view) (grind (arith, is_among-named_in q es))
-
-pub none-look_up : {A : Type 0} (o : Option A) (r : Option (Bor A)) → option_copied r ≡ o → is_some r ≡ false → o ≡ None
-none-look_up o r found h = grind arith
 
 -- a change of the label of one name, by whether an entry has it
 module _ (q : List ℕ) (changed : Bool → Entry → Label) (kept : (e : Entry) → changed false e ≡ e.1) where
