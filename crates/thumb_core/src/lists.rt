@@ -118,31 +118,36 @@ pub(crate) fn ldm<B: Bus>(n: u8, list: u16, size: u32, regs: &mut Regs, bus: &B)
     }
 }
 
-/// POP. Nothing is changed before all of its words are loaded and pc's is known to be odd.
+/// POP. Registers that were loaded are put back where a later word can't be, or where pc's is even.
 pub(crate) fn pop<B: Bus>(list: u16, size: u32, regs: &mut Regs, bus: &B) -> Stepped
     requires { list % 2 ^ 15 < 2 ^ 8 }
     ensures { (result, regs.new, B.memory bus.now) ≡ pop list size regs.old (B.memory bus.now) }
 {
     let a = regs.reg(SP);
-    let mut r = regs.r;
-    let after = match load_low((list % 0x100) as u8, a, &mut r, bus) {
+    let before = regs.r;
+    let after = match load_low((list % 0x100) as u8, a, &mut regs.r, bus) {
         Ok(bytes) => a.wrapping_add(bytes),
-        Err(fault) => return Stepped::Trap(CoreTrap::Memory(fault)),
+        Err(fault) => {
+            regs.r = before;
+            return Stepped::Trap(CoreTrap::Memory(fault));
+        }
     };
     if (list >> PC) & 1 == 0 {
-        regs.r = r;
         regs.put(SP, after);
         regs.advance(size);
         return Stepped::Done;
     }
     let target = match bus.load32(after) {
         Ok(word) => word,
-        Err(fault) => return Stepped::Trap(CoreTrap::Memory(fault)),
+        Err(fault) => {
+            regs.r = before;
+            return Stepped::Trap(CoreTrap::Memory(fault));
+        }
     };
     if target % 2 == 0 {
+        regs.r = before;
         return Stepped::Trap(CoreTrap::EvenTarget(target));
     }
-    regs.r = r;
     regs.put(SP, after.wrapping_add(4));
     regs.go_to(target);
     Stepped::Return { to: target }
