@@ -1,4 +1,5 @@
 pub mod Agreeing
+pub mod Changing
 pub mod Described
 pub mod Fitting
 pub mod Following
@@ -6,5 +7,6 @@ pub mod Meeting
 pub mod Pushing
 pub mod Same
 pub mod Standard
+pub mod Staying
 pub mod Vaguer
 pub mod Walks

@@ -83,3 +83,8 @@ gone_on pc (Some g) = returned pc g
 -- the fact after an instruction, or the lowest cause that it shows
 abbrev pub after_of : Prologue → Bool → ℕ → Instr → Fact → Result Fact FrameCause
 after_of p lowers at i f = if is_indirect i f then Err IndirectBranch else gone_on (return_to p i f) (effect p lowers at i f)
+
+-- the same answer, where the fact is written to a place of its own
+abbrev pub written : Result (Unit {0}) FrameCause → Fact → Result Fact FrameCause
+written (Ok u) g = Ok g
+written (Err c) g = Err c

@@ -5,25 +5,34 @@ ghost use Rattle.thumb_core.specs.Words.{listed};
 ghost use Rattle.frame_facts.specs.Facts.{clobbered};
 ghost use Rattle.frame_facts.specs.Branches.{call_changes, gate_changes, kept_by_calls, is_indirect, return_to, holds_own, returns_well};
 
-use crate::facts::{Fact, Source, clobber};
+use crate::facts::{Fact, Source};
 use crate::lists;
 use crate::saves::Prologue;
-use thumb_core::calls::{CALL_CHANGES, GATE_CHANGES};
 use thumb_isa::instr::Instr;
 use thumb_isa::plain;
 
-/// A call, after its return.
+/// A call, after its return: what a gate changes, and lr.
+#[tactic(auto, using(crate::proofs::Changing::call_leaves))]
 pub(crate) fn call(fact: &Fact) -> Fact
     ensures { result ≡ clobbered call_changes fact.now }
 {
-    clobber(fact, CALL_CHANGES)
+    let mut left = gate(fact);
+    left.regs[13] = Source::Other;
+    left
 }
 
-/// A gate, after it.
+/// A gate, after it: r0 to r3 and r12 are changed.
+#[tactic(auto, using(crate::proofs::Changing::gate_leaves))]
 pub(crate) fn gate(fact: &Fact) -> Fact
     ensures { result ≡ clobbered gate_changes fact.now }
 {
-    clobber(fact, GATE_CHANGES)
+    let mut left = *fact;
+    left.regs[0] = Source::Other;
+    left.regs[1] = Source::Other;
+    left.regs[2] = Source::Other;
+    left.regs[3] = Source::Other;
+    left.regs[12] = Source::Other;
+    left
 }
 
 /// Whether an instruction branches to where a register says and is no call and no return.

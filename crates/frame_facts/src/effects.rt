@@ -1,6 +1,6 @@
 //! The effect of an instruction on a fact, and the causes that it can show. docs/acceptance.md, "Effects".
 ghost use Rattle.std.specs.Prelude.{◌≡◌};
-ghost use Rattle.frame_facts.specs.After.{effect, after_of};
+ghost use Rattle.frame_facts.specs.After.{effect, after_of, written};
 
 use crate::access::{mem_imm, mem_reg, mem_sp};
 use crate::branches::{call, gate, is_indirect, return_to, returns_well};
@@ -51,7 +51,37 @@ pub(crate) fn effect(fact: &Fact, i: &Instr, at: u32, p: &Prologue, lowers: bool
 /// `IndirectBranch`, `SpWrite` or `ReturnState`. After a return it says what the caller finds.
 ///
 /// `lowers` says that `at` is a place where sp is lowered by an amount that is known only at run time; it plays a part only for a MOV
-/// into sp.
+/// into sp. The fact is written to `next`, which holds anything where a cause is shown.
+pub fn follow(
+    fact: &Fact,
+    next: &mut Fact,
+    i: &Instr,
+    at: u32,
+    p: &Prologue,
+    lowers: bool,
+) -> Result<(), FrameCause>
+    ensures { written result next.new ≡ after_of p.now lowers at i.now fact.now }
+{
+    if is_indirect(fact, i) {
+        return Err(FrameCause::IndirectBranch);
+    }
+    let Some(left) = effect(fact, i, at, p, lowers) else {
+        return Err(FrameCause::SpWrite);
+    };
+    *next = left;
+    match return_to(p, fact, i) {
+        None => Ok(()),
+        Some(pc) => {
+            if returns_well(next, pc) {
+                Ok(())
+            } else {
+                Err(FrameCause::ReturnState)
+            }
+        }
+    }
+}
+
+/// The same as a value.
 pub fn after(
     fact: &Fact,
     i: &Instr,
@@ -61,20 +91,9 @@ pub fn after(
 ) -> Result<Fact, FrameCause>
     ensures { result ≡ after_of p.now lowers at i.now fact.now }
 {
-    if is_indirect(fact, i) {
-        return Err(FrameCause::IndirectBranch);
-    }
-    let Some(next) = effect(fact, i, at, p, lowers) else {
-        return Err(FrameCause::SpWrite);
-    };
-    match return_to(p, fact, i) {
-        None => Ok(next),
-        Some(pc) => {
-            if returns_well(&next, pc) {
-                Ok(next)
-            } else {
-                Err(FrameCause::ReturnState)
-            }
-        }
+    let mut next = *fact;
+    match follow(fact, &mut next, i, at, p, lowers) {
+        Ok(()) => Ok(next),
+        Err(cause) => Err(cause),
     }
 }

@@ -1,7 +1,8 @@
 //! Facts: what is known of registers and stack at a place, what two of them have in common. docs/acceptance.md, "Facts".
-ghost use Rattle.std.specs.Prelude.{◌≡◌, ℕ, ◌+◌, ◌-◌, ◌*◌, ◌<◌, ◌≤◌, ◌^◌, ◌==◌, ℤ, pos, ◌+ℤ◌, ◌-ℤ◌, length, IsTrue, ◌↔◌};
+ghost use Rattle.std.specs.Prelude.{◌≡◌, ℕ, ◌+◌, ◌-◌, ◌*◌, ◌<◌, ◌≤◌, ◌^◌, ◌==◌, ℤ, pos, ◌+ℤ◌, ◌-ℤ◌, length, IsTrue, ◌↔◌, false};
+ghost use Rattle.std.specs.Option.{option_map_or};
 ghost use Rattle.thumb_core.specs.Words.{listed};
-ghost use Rattle.frame_facts.specs.Facts.{source, with_source, entered, bounded_depth, sp_at, sp_plus, shifted, is_entry, lost, clobbered, met_source, same_source, same_sources, same_fact, join_of};
+ghost use Rattle.frame_facts.specs.Facts.{source, with_source, entered, bounded_depth, sp_at, sp_plus, shifted, is_entry, lost, clobbered, met_source, met_sources, same_source, same_sources, same_fact, join_of};
 
 /// The greatest depth of a frame, and of a place that a register is known to hold, in bytes below the CFA.
 pub const DEEPEST: u32 = 65_536;
@@ -117,6 +118,13 @@ impl Source {
     {
         self == other
     }
+
+    /// Whether it is what two paths have in common.
+    fn stays_met(self, other: Source) -> bool
+        ensures { result ≡ same_source (met_source self other) self }
+    {
+        self == other || self == Source::Other
+    }
 }
 
 impl Fact {
@@ -124,11 +132,10 @@ impl Fact {
     pub(crate) fn source(&self, reg: u8) -> Source
         ensures { result ≡ source self.now reg }
     {
-        let regs = self.regs;
         if reg < 13 {
-            regs[reg as usize]
+            self.regs[reg as usize]
         } else if reg == 14 {
-            regs[13]
+            self.regs[13]
         } else {
             Source::Other
         }
@@ -188,8 +195,8 @@ pub fn clobber(fact: &Fact, list: u16) -> Fact
     left
 }
 
-fn are_alike(a: [Source; 14], b: [Source; 14]) -> bool
-    ensures { result ≡ same_sources a b }
+fn are_alike(a: &[Source; 14], b: &[Source; 14]) -> bool
+    ensures { result ≡ same_sources a.now b.now }
 {
     for k in 0..14 {
         if !a[k].is_same(b[k]) {
@@ -203,9 +210,35 @@ fn are_alike(a: [Source; 14], b: [Source; 14]) -> bool
 pub fn is_same(a: &Fact, b: &Fact) -> bool
     ensures { result ≡ same_fact a.now b.now }
 {
-    let one = a.regs;
-    let two = b.regs;
-    a.depth == b.depth && a.below == b.below && a.kept == b.kept && are_alike(one, two)
+    a.depth == b.depth && a.below == b.below && a.kept == b.kept && are_alike(&a.regs, &b.regs)
+}
+
+/// Whether what each register holds on two paths is what it holds on the first.
+fn stay_met(held: &[Source; 14], other: &[Source; 14]) -> bool
+    ensures { result ≡ same_sources (met_sources held.now other.now) held.now }
+{
+    for k in 0..14 {
+        if !held[k].stays_met(other[k]) {
+            return false;
+        }
+    }
+    true
+}
+
+/// Whether two paths to a place have in common what the first fact says. Neither is copied.
+pub fn stays(held: &Fact, other: &Fact) -> bool
+    ensures { result ≡ option_map_or (λ met. same_fact met held.now) (join_of held.now other.now) false }
+{
+    if held.depth != other.depth {
+        return false;
+    }
+    if other.below && !held.below {
+        return false;
+    }
+    if held.kept > other.kept {
+        return false;
+    }
+    stay_met(&held.regs, &other.regs)
 }
 
 /// What two paths to a place have in common: `None` exactly where their depths differ.
@@ -216,9 +249,8 @@ pub fn join(a: &Fact, b: &Fact) -> Option<Fact>
         return None;
     }
     let mut regs = a.regs;
-    let others = b.regs;
     for k in 0..14 {
-        regs[k] = regs[k].meet(others[k]);
+        regs[k] = regs[k].meet(b.regs[k]);
     }
     Some(Fact {
         depth: a.depth,

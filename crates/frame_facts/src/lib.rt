@@ -16,8 +16,8 @@ pub mod sites;
 pub mod straight;
 
 pub use cause::FrameCause;
-pub use effects::after;
-pub use facts::{Fact, Source, clobber, entry_fact, is_same, join};
+pub use effects::{after, follow};
+pub use facts::{Fact, Source, clobber, entry_fact, is_same, join, stays};
 pub use saves::{Prologue, Save};
 pub use sites::agrees;
 pub use straight::Straight;

@@ -95,8 +95,7 @@ fn gives(p: &Prologue, fact: &Fact, r: &Recipe, reg: u8) -> bool
     requires { reg < 16 }
     ensures { result ≡ gives p.now r.now fact.now reg }
 {
-    let sources = r.src;
-    let src = sources[reg as usize];
+    let src = r.src[reg as usize];
     if reg == 13 {
         gives_cfa(fact, r)
     } else if reg == 15 {

@@ -1,9 +1,12 @@
 -- What an edge makes of the facts and the work list.
-use Rattle.std.proofs.Common.{ℕ, ◌≡◌, ◌<◌, ◌+◌, map, List, [], ◌∷◌, ◌++◌, length, Option, Some, None, Result, Ok, Err, IfOk, IfErr, ap, sym, subst, ⊎_elim, arith, set, get_or, drop, drop-cons, add-one}
+use Rattle.std.proofs.Common.{ℕ, ◌≡◌, ◌<◌, ◌+◌, map, List, [], ◌∷◌, ◌++◌, length, true, false, Option, Some, None, Result, Ok, Err, IfOk, IfErr, ap, sym, ◌∙◌, refl, subst, ⊎_elim, arith, set, get_or, drop, drop-cons, add-one}
+use Rattle.std.proofs.lemmas.Bool.{false≢true}
+use Rattle.std.specs.Option.{option_map_or}
 use Rattle.thumb_core.specs.Words.{listed}
 use Rattle.frame_facts.specs.declared.cause.FrameCause.{FrameCause}
 use Rattle.frame_facts.specs.declared.facts.Fact.{Fact}
-use Rattle.frame_facts.specs.Facts.{join_of, height, clobbered, IsAtMost}
+use Rattle.frame_facts.specs.Facts.{join_of, same_fact, height, clobbered, IsAtMost}
+use Rattle.frame_facts.proofs.Same.{one_fact, two_facts}
 use Rattle.frame_facts.proofs.Vaguer.{join_falls}
 use Rattle.frame_graph.specs.declared.edges.Edge.{Edge}
 use Rattle.flow.specs.Flow.{fact_at}
@@ -25,6 +28,19 @@ pub put_vaguer : (x : Framed) (facts : List (Option Fact)) (work : List ℕ) (q 
     → fact_at facts q ≡ Some h → join_of h g ≡ Some k → (k ≡ h → ⊥) → IfOk r (λ _. facts' ≡ set facts q (Some k)) → IfOk r (λ _. work' ≡ work ++ q ∷ []) → IfErr r (λ e. e ≡ OutOfMemory) → Merged x facts work q g facts' work' r
 put_vaguer x facts work q g h k facts' work' (Ok u) held met ne is more e = vaguer h k held met ne is more
 put_vaguer x facts work q g h k facts' work' (Err y) held met ne is more e = subst (λ y. Merged x facts work q g facts' work' (Err y)) (sym e) spent
+
+-- the meeting is the fact that was there
+met_as : (o : Option Fact) (h : Fact) → option_map_or (λ met. same_fact met h) o false ≡ true → (k : Fact) × (o ≡ Some k) × (k ≡ h)
+met_as None h e = absurd (false≢true e)
+met_as (Some k) h e = (k, refl, one_fact k h e)
+
+pub stays_same : (x : Framed) (facts : List (Option Fact)) (work : List ℕ) (q : ℕ) (g h : Fact) → fact_at facts q ≡ Some h → option_map_or (λ met. same_fact met h) (join_of h g) false ≡ true
+    → Merged x facts work q g facts work (Ok tt)
+stays_same x facts work q g h held e = let w = met_as (join_of h g) h e in same h w.0 held w.1 w.2 refl refl
+
+-- the meeting is another one
+pub met_other : (g h k : Fact) → join_of h g ≡ Some k → option_map_or (λ met. same_fact met h) (join_of h g) false ≡ false → k ≡ h → ⊥
+met_other g h k met e = two_facts k h (sym (ap (λ o. option_map_or (λ met. same_fact met h) o false) met) ∙ e)
 
 -- two depths part
 pub parts_at : (x : Framed) (facts : List (Option Fact)) (work : List ℕ) (q : ℕ) (g : Fact) (facts' : List (Option Fact)) (work' : List ℕ) (h : Fact) (c : FrameCause)

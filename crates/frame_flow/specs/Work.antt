@@ -1,5 +1,5 @@
 -- How a work list finds the facts of a function, or a cause that stands.
-use Rattle.std.specs.Prelude.{ℕ, ◌≡◌, ◌≤◌, ◌+◌, List, [], ◌∷◌, ◌++◌, Option, Some, None, Result, Ok, Err, slice_set}
+use Rattle.std.specs.Prelude.{ℕ, ◌≡◌, ◌≤◌, ◌+◌, Bool, true, false, List, [], ◌∷◌, ◌++◌, Option, Some, None, Result, Ok, Err, slice_set}
 use Rattle.frame_facts.specs.declared.cause.FrameCause.{FrameCause}
 use Rattle.frame_facts.specs.declared.facts.Fact.{Fact}
 use Rattle.frame_facts.specs.Facts.{join_of, height, IsAtMost}
@@ -21,6 +21,12 @@ by_first (c ∷ more) x = Err c
 -- the fact after a place, where it meets no cause there; else the lowest
 abbrev pub passed : Framed → ℕ → Fact → Result (Option Fact) FrameCause
 passed x p f = by_first (causes_at x p f) (fact_after x p f)
+
+-- the same answer, where the fact is written to a place of its own
+abbrev pub written : Result Bool FrameCause → Fact → Result (Option Fact) FrameCause
+written (Ok true) g = Ok (Some g)
+written (Ok false) g = Ok None
+written (Err c) g = Err c
 
 -- ---- the work list
 

@@ -3,14 +3,14 @@ ghost use Rattle.std.specs.Prelude.{◌≡◌, ◌+◌, ◌*◌, ◌<◌, ◌^�
 ghost use Rattle.frame_flow.specs.Framed.{framed_of};
 ghost use Rattle.frame_flow.specs.Causes.{is_call, unwound, throws_in_leaf, site_causes, causes_at};
 ghost use Rattle.frame_flow.specs.Flows.{fact_after, parting};
-ghost use Rattle.frame_flow.specs.Work.{by_first, passed};
+ghost use Rattle.frame_flow.specs.Work.{by_first, passed, written};
 ghost use Rattle.frame_graph.specs.Edges.{instruction_at};
 ghost use Rattle.frame_graph.specs.Lowering.{sets_sp_from};
 ghost use Rattle.frame_graph.specs.Sites.{unwinding_at, pads_out};
 ghost use Rattle.frame_graph.specs.Stretch.{Tells, TellsOn};
 
 use crate::framed::Framed;
-use frame_facts::{Fact, FrameCause, after, agrees};
+use frame_facts::{Fact, FrameCause, agrees, follow};
 use frame_graph::{Standing, Stretch, Unwinding};
 use thumb_core::regs::{LR, SP};
 use thumb_isa::instr::Instr;
@@ -91,17 +91,18 @@ impl<'f, 's, 'i, 'a> Framed<'f, 's, 'i, 'a> {
         sets_sp(i) && self.flow_graph.is_lowering(self.reached, place)
     }
 
-    /// The fact after a place, none where nothing leads on; or the lowest cause that the fact before it meets there. The stretch is
-    /// that of its site.
+    /// Whether something leads on from a place, whose fact after it is then written to `next`; or the lowest cause that the fact before it
+    /// meets there. The stretch is that of its site. Where nothing leads on, `next` holds anything.
     pub(crate) fn passed(
         &self,
         stretch: &Stretch,
         place: u32,
         fact: &Fact,
-    ) -> Result<Option<Fact>, FrameCause>
+        next: &mut Fact,
+    ) -> Result<bool, FrameCause>
         requires low { self.now.flow_graph.start + 2 * place < 2 ^ 32 }
         requires tells { TellsOn self.now.flow_graph stretch.now place }
-        ensures { result ≡ passed (framed_of self.now) place fact.now }
+        ensures { written result next.new ≡ passed (framed_of self.now) place fact.now }
     {
         let standing = self.flow_graph.standing_at(place);
         if self.flow_graph.is_undecodable(place) {
@@ -114,21 +115,22 @@ impl<'f, 's, 'i, 'a> Framed<'f, 's, 'i, 'a> {
             return Err(FrameCause::CallNotFunction);
         }
         let Standing::Instruction(i, _) = standing else {
-            return Ok(None);
+            return Ok(false);
         };
-        match after(
+        match follow(
             fact,
+            next,
             &i,
             self.flow_graph.address_of(place),
             &self.prologue,
             self.lowers_at(place, &i),
         ) {
             Err(cause) => Err(cause),
-            Ok(next) => match self.flow_graph.site_by(place, standing) {
-                None => Ok(Some(next)),
+            Ok(()) => match self.flow_graph.site_by(place, standing) {
+                None => Ok(true),
                 Some(site) => match self.agrees_at(stretch, site, is_call(&i), fact) {
                     Err(cause) => Err(cause),
-                    Ok(()) => Ok(Some(next)),
+                    Ok(()) => Ok(true),
                 },
             },
         }

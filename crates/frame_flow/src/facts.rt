@@ -1,5 +1,5 @@
 //! The facts of a function's places while they are found. docs/acceptance.md, "The facts of a function".
-ghost use Rattle.std.specs.Prelude.{◌≡◌, ◌<◌, List, Option, Some, None, length, replicate, slice_set, slice_index_or, IfOk, OnOk};
+ghost use Rattle.std.specs.Prelude.{◌≡◌, ◌<◌, List, Option, Some, None, length, replicate, slice_set, slice_index_or, option_copied, IfOk, OnOk};
 ghost use Rattle.flow.specs.Flow.{fact_at};
 
 use frame_facts::Fact;
@@ -54,32 +54,32 @@ impl Facts {
         })
     }
 
-    /// The fact of a place.
-    pub(crate) fn get(&self, place: u32) -> Option<Fact>
+    /// The fact of a place. It is lent.
+    pub(crate) fn get(&self, place: u32) -> Option<&Fact>
         requires { place < length self.now }
-        ensures { result ≡ fact_at self.now place }
+        ensures { option_copied result ≡ fact_at self.now place }
     {
         match self.slots[place as usize] {
             None => None,
-            Some(slot) => Some(self.known[slot as usize].fact),
+            Some(slot) => Some(&self.known[slot as usize].fact),
         }
     }
 
     /// Writes the fact of a place.
-    pub(crate) fn put(&mut self, place: u32, fact: Fact) -> Result<(), AllocError>
+    pub(crate) fn put(&mut self, place: u32, fact: &Fact) -> Result<(), AllocError>
         requires { place < length self.old }
-        ensures { OnOk result (self.new ≡ slice_set self.old place (Some fact)) }
+        ensures { OnOk result (self.new ≡ slice_set self.old place (Some fact.now)) }
     {
         match self.slots[place as usize] {
             Some(slot) => {
-                self.known[slot as usize] = Known { place, fact };
+                self.known[slot as usize] = Known { place, fact: *fact };
                 Ok(())
             }
             None => {
                 let Ok(slot) = u32::try_from(self.known.len()) else {
                     return Err(AllocError);
                 };
-                self.known.push(Known { place, fact })?;
+                self.known.push(Known { place, fact: *fact })?;
                 self.slots[place as usize] = Some(slot);
                 Ok(())
             }

@@ -9,7 +9,7 @@ ghost use Rattle.frame_flow.specs.Work.{IsSound, FaultStands, LacksFacts, Keeps,
 
 use crate::facts::Facts;
 use crate::framed::Framed;
-use frame_facts::{Fact, FrameCause, clobber, entry_fact, is_same, join};
+use frame_facts::{Fact, FrameCause, clobber, entry_fact, join, stays};
 use frame_graph::{Edge, Stretch};
 use std::alloc::Global;
 
@@ -23,9 +23,9 @@ pub enum FrameFault {
 }
 
 /// Writes the fact of a place, which is then to be visited.
-fn put(facts: &mut Facts, work: &mut Vec<u32>, to: u32, fact: Fact) -> Result<(), FrameFault>
+fn put(facts: &mut Facts, work: &mut Vec<u32>, to: u32, fact: &Fact) -> Result<(), FrameFault>
     requires { to < length facts.old }
-    ensures facts { IfOk result (λ _. facts.new ≡ slice_set facts.old to (Some fact)) }
+    ensures facts { IfOk result (λ _. facts.new ≡ slice_set facts.old to (Some fact.now)) }
     ensures work { IfOk result (λ _. work.new.items ≡ work.old.items ++ to ∷ []) }
     ensures spent { IfErr result (λ e. e ≡ FrameFault.OutOfMemory) }
 {
@@ -51,17 +51,16 @@ fn merge(
     ensures { Merged (framed_of x.now) facts.old work.old.items to fact.now facts.new work.new.items result }
 {
     match facts.get(to) {
-        None => put(facts, work, to, *fact),
-        Some(held) => match join(&held, fact) {
-            None => Err(FrameFault::Stands(to, x.parting(to))),
-            Some(met) => {
-                if is_same(&met, &held) {
-                    Ok(())
-                } else {
-                    put(facts, work, to, met)
-                }
+        None => put(facts, work, to, fact),
+        Some(held) => {
+            if stays(held, fact) {
+                return Ok(());
             }
-        },
+            match join(held, fact) {
+                None => Err(FrameFault::Stands(to, x.parting(to))),
+                Some(met) => put(facts, work, to, &met),
+            }
+        }
     }
 }
 
@@ -104,13 +103,14 @@ fn spread(
     Ok(())
 }
 
-/// Visits a place that was taken from the end of the work list, by the stretch of its site. What `edges` holds doesn't matter; it is lent
-/// as room.
+/// Visits a place that was taken from the end of the work list, by the stretch of its site. What `edges` and `next` hold doesn't matter;
+/// they are lent as room.
 fn visit(
     x: &Framed,
     facts: &mut Facts,
     work: &mut Vec<u32>,
     edges: &mut Vec<Edge>,
+    next: &mut Fact,
     stretch: &Stretch,
     place: u32,
 ) -> Result<(), FrameFault>
@@ -121,13 +121,17 @@ fn visit(
 {
     match facts.get(place) {
         None => Ok(()),
-        Some(fact) => match x.passed(stretch, place, &fact) {
+        Some(fact) => match x.passed(stretch, place, fact, next) {
             Err(cause) => Err(FrameFault::Stands(place, cause)),
-            Ok(None) => Ok(()),
-            Ok(Some(next)) => match x.flow_graph.put_edges(edges, stretch, place) {
-                Ok(()) => spread(x, facts, work, edges, &next),
-                Err(_) => Err(FrameFault::OutOfMemory),
-            },
+            Ok(leads) => {
+                if !leads {
+                    return Ok(());
+                }
+                match x.flow_graph.put_edges(edges, stretch, place) {
+                    Ok(()) => spread(x, facts, work, edges, next),
+                    Err(_) => Err(FrameFault::OutOfMemory),
+                }
+            }
         },
     }
 }
@@ -148,7 +152,8 @@ pub fn solve(alloc: Global, x: &Framed) -> Result<(), FrameFault>
         return Err(FrameFault::OutOfMemory);
     };
     let mut work = Vec::new(alloc);
-    put(&mut facts, &mut work, 0, entry_fact())?;
+    let mut next = entry_fact();
+    put(&mut facts, &mut work, 0, &next)?;
     let mut stretch = Stretch::new(alloc);
     let mut edges = Vec::new(alloc);
     while let Some(place) = work.pop() {
@@ -156,7 +161,9 @@ pub fn solve(alloc: Global, x: &Framed) -> Result<(), FrameFault>
             Ok(()) => {}
             Err(_) => return Err(FrameFault::OutOfMemory),
         }
-        match visit(x, &mut facts, &mut work, &mut edges, &stretch, place) {
+        match visit(
+            x, &mut facts, &mut work, &mut edges, &mut next, &stretch, place,
+        ) {
             Ok(()) => {}
             Err(fault) => return Err(fault),
         }

@@ -13,7 +13,7 @@ loop-place-init c =
     let count = halves x.flow_graph.start x.flow_graph.end c.start.result c.end.result c.div_ceil-count.result start end c.div_ceil-count.ensures in
     record {
       sound = begun (framed_of x) c.put.new.facts c.put.new.work.items c.in-Ok.facts c.div_ceil-count.result count c.in-Ok.ensures
-          (c.in_ok-put.ensures.facts ∙ ap (λ f. set c.in-Ok.facts 0 (Some f)) c.entry_fact.ensures) (c.in_ok-put.ensures.work ∙ ap (λ w. w ++ 0 ∷ []) c.new-work.ensures.items) c.requires;
+          (c.in_ok-put.ensures.facts ∙ ap (λ f. set c.in-Ok.facts 0 (Some f)) c.entry_fact-next.ensures) (c.in_ok-put.ensures.work ∙ ap (λ w. w ++ 0 ∷ []) c.new-work.ensures.items) c.requires;
       stretch = c.new-stretch.ensures.stretch c.args.x.now.flow_graph;
     }
 

@@ -1,6 +1,7 @@
-use Rattle.std.proofs.Common.{◌≡◌, Ok, arith, ap, sym, subst, ◌∙◌}
+use Rattle.std.proofs.Common.{◌≡◌, Ok, option_copied, arith, ap, sym, subst, ◌∙◌}
 use Rattle.frame_graph.specs.Stretch.{TellsOn}
 use Rattle.frame_flow.specs.Framed.{Parts, framed_of}
+use Rattle.frame_flow.specs.Work.{written}
 use Rattle.frame_flow.proofs.Transfers.{same_edges}
 use Rattle.frame_flow.proofs.Visiting.{visit_none, visit_cause, visit_ends, visit_leads, place_within}
 use Rattle.frame_flow.proofs.work.visit.Goals as goal
@@ -21,24 +22,24 @@ put_edges-requires-clause-tells c = subst (λ (a : Parts). TellsOn a.flow_graph 
 
 pub spread-requires : goal.spread-requires
 spread-requires c =
-    let passed = sym c.in-Ok-Some.ensures ∙ ap Ok c.in-Ok-Some.field-0-is in
-    let edges = same_edges c.deref.result.now c.put_edges.new.edges.items c.x.inside.flow_graph.now c.args.x.now.flow_graph c.args.place c.deref.ensures.value (ap (λ (a : Parts). a.flow_graph) c.x.view_is) c.in-Ok.ensures in
-    visit_leads (framed_of c.args.x.now) c.args.facts.now c.args.work.now.items c.args.place c.in-Some.fact c.in-Ok-Some.next c.deref.result.now c.requires.sound
-    (sym c.get.ensures ∙ c.in-Some.is) passed edges
+    let passed = sym c.passed.ensures ∙ ap (λ r. written r c.passed.new.next) (c.in-Ok.is ∙ ap Ok c.if-not-leads.false) in
+    let edges = same_edges c.deref.result.now c.put_edges.new.edges.items c.x.inside.flow_graph.now c.args.x.now.flow_graph c.args.place c.deref.ensures.value (ap (λ (a : Parts). a.flow_graph) c.x.view_is) c.in-Ok-put_edges.ensures in
+    visit_leads (framed_of c.args.x.now) c.args.facts.now c.args.work.now.items c.args.place c.in-Some.fact.now c.passed.new.next c.deref.result.now c.requires.sound
+    (sym c.get.ensures ∙ ap option_copied c.in-Some.is) passed edges
 
 pub returns-in-None : goal.returns-in-None
 returns-in-None c =
-    (visit_none (framed_of c.args.x.now) c.args.facts.now c.args.work.now.items c.args.place c.requires.sound (sym c.get.ensures ∙ c.in-None.is), omega arith)
+    (visit_none (framed_of c.args.x.now) c.args.facts.now c.args.work.now.items c.args.place c.requires.sound (sym c.get.ensures ∙ ap option_copied c.in-None.is), omega arith)
 
 pub returns-in-Err : goal.returns-in-Err
 returns-in-Err c =
-    visit_cause (framed_of c.args.x.now) c.args.facts.now c.args.work.now.items c.args.place c.in-Some.fact c.in-Err.cause c.requires.sound
-    (sym c.get.ensures ∙ c.in-Some.is) (sym c.in-Err.ensures)
+    visit_cause (framed_of c.args.x.now) c.args.facts.now c.args.work.now.items c.args.place c.in-Some.fact.now c.in-Err.cause c.requires.sound
+    (sym c.get.ensures ∙ ap option_copied c.in-Some.is) (sym c.in-Err.ensures)
 
-pub returns-in-Ok-None : goal.returns-in-Ok-None
-returns-in-Ok-None c =
-    let passed = sym c.in-Ok-None.ensures ∙ ap Ok c.in-Ok-None.field-0-is in (
-      visit_ends (framed_of c.args.x.now) c.args.facts.now c.args.work.now.items c.args.place c.in-Some.fact c.requires.sound
-          (sym c.get.ensures ∙ c.in-Some.is) passed,
+pub returns-then-not-leads : goal.returns-then-not-leads
+returns-then-not-leads c =
+    let passed = sym c.passed.ensures ∙ ap (λ r. written r c.passed.new.next) (c.in-Ok.is ∙ ap Ok c.if-not-leads.true) in (
+      visit_ends (framed_of c.args.x.now) c.args.facts.now c.args.work.now.items c.args.place c.in-Some.fact.now c.requires.sound
+          (sym c.get.ensures ∙ ap option_copied c.in-Some.is) passed,
       omega arith,
     )

@@ -3,7 +3,7 @@ use Rattle.frame_facts.specs.declared.cause.FrameCause.TheVariants.{Undecodable,
 use Rattle.frame_graph.specs.Places.{address_of}
 use Rattle.frame_graph.specs.Edges.{instruction_of, instruction_at}
 use Rattle.frame_graph.specs.Sites.{site_at}
-use Rattle.frame_facts.specs.After.{after_of}
+use Rattle.frame_facts.specs.After.{after_of, written}
 use Rattle.frame_flow.specs.Framed.{Parts, framed_of}
 use Rattle.frame_flow.proofs.Passing.{IsFine, at_undecodable, at_branch, at_call, at_nothing, at_effect, at_site, at_fine_site, at_no_site, no_instruction, seen, agreed_seen}
 use Rattle.frame_flow.proofs.framed.Framed.passed.Goals as goal
@@ -39,9 +39,9 @@ returns-in-Err c =
     let fine : IsFine (framed_of x) c.args.place = record { decodes = sym c.is_undecodable.ensures ∙ c.if-is_undecodable.false; stays = sym c.branches_out.ensures ∙ c.if-branches_out.false; calls = sym c.calls_nothing.ensures ∙ c.if-calls_nothing.false } in
     let instruction = ap instruction_of (sym c.standing_at-standing.ensures ∙ c.in-Instruction.is) in
     let lowers = ap (λ (a : Parts). (framed_of a).lowers c.args.place) c.self.view_is ∙ sym c.lowers_at.ensures in
-    let after = ap (λ b. after_of x.prologue b (address_of x.flow_graph c.args.place) c.in-Instruction.i c.args.fact.now) lowers ∙ (ap (λ a. after_of x.prologue c.lowers_at.result a c.in-Instruction.i c.args.fact.now) (sym c.address_of.ensures) ∙ sym c.after.ensures) in
+    let after = ap (λ b. after_of x.prologue b (address_of x.flow_graph c.args.place) c.in-Instruction.i c.args.fact.now) lowers ∙ (ap (λ a. after_of x.prologue c.lowers_at.result a c.in-Instruction.i c.args.fact.now) (sym c.address_of.ensures) ∙ sym c.follow.ensures) in
     seen x c.args.self.now c.args.place c.args.fact.now (Err c.in-Err.cause) c.self.view_is
-    (at_effect (framed_of x) c.args.place c.args.fact.now c.in-Instruction.i c.in-Err.cause fine instruction (after ∙ c.in-Err.is))
+    (at_effect (framed_of x) c.args.place c.args.fact.now c.in-Instruction.i c.in-Err.cause fine instruction (after ∙ ap (λ r. written r c.follow.new.next) c.in-Err.is))
 
 pub returns-in-None : goal.returns-in-None
 returns-in-None c =
@@ -49,9 +49,9 @@ returns-in-None c =
     let fine : IsFine (framed_of x) c.args.place = record { decodes = sym c.is_undecodable.ensures ∙ c.if-is_undecodable.false; stays = sym c.branches_out.ensures ∙ c.if-branches_out.false; calls = sym c.calls_nothing.ensures ∙ c.if-calls_nothing.false } in
     let instruction = ap instruction_of (sym c.standing_at-standing.ensures ∙ c.in-Instruction.is) in
     let lowers = ap (λ (a : Parts). (framed_of a).lowers c.args.place) c.self.view_is ∙ sym c.lowers_at.ensures in
-    let after = ap (λ b. after_of x.prologue b (address_of x.flow_graph c.args.place) c.in-Instruction.i c.args.fact.now) lowers ∙ (ap (λ a. after_of x.prologue c.lowers_at.result a c.in-Instruction.i c.args.fact.now) (sym c.address_of.ensures) ∙ sym c.after.ensures) in
-    seen x c.args.self.now c.args.place c.args.fact.now (Ok (Some c.in-Ok.next)) c.self.view_is
-    (at_no_site (framed_of x) c.args.place c.args.fact.now c.in-Instruction.i c.in-Ok.next fine instruction (after ∙ c.in-Ok.is) (sym c.site_by.ensures ∙ c.in-None.is))
+    let after = ap (λ b. after_of x.prologue b (address_of x.flow_graph c.args.place) c.in-Instruction.i c.args.fact.now) lowers ∙ (ap (λ a. after_of x.prologue c.lowers_at.result a c.in-Instruction.i c.args.fact.now) (sym c.address_of.ensures) ∙ sym c.follow.ensures) in
+    seen x c.args.self.now c.args.place c.args.fact.now (Ok (Some c.follow.new.next)) c.self.view_is
+    (at_no_site (framed_of x) c.args.place c.args.fact.now c.in-Instruction.i c.follow.new.next fine instruction (after ∙ ap (λ r. written r c.follow.new.next) c.in-Ok.is) (sym c.site_by.ensures ∙ c.in-None.is))
 
 pub lowers_at-requires : goal.lowers_at-requires
 lowers_at-requires c = ap (λ (a : Parts). instruction_at a.flow_graph c.args.place) (sym c.self.view_is) ∙ ap instruction_of (sym c.standing_at-standing.ensures ∙ c.in-Instruction.is)
@@ -65,9 +65,9 @@ returns-in-Err-agrees_at c =
     let fine : IsFine (framed_of x) c.args.place = record { decodes = sym c.is_undecodable.ensures ∙ c.if-is_undecodable.false; stays = sym c.branches_out.ensures ∙ c.if-branches_out.false; calls = sym c.calls_nothing.ensures ∙ c.if-calls_nothing.false } in
     let instruction = ap instruction_of (sym c.standing_at-standing.ensures ∙ c.in-Instruction.is) in
     let lowers = ap (λ (a : Parts). (framed_of a).lowers c.args.place) c.self.view_is ∙ sym c.lowers_at.ensures in
-    let after = ap (λ b. after_of x.prologue b (address_of x.flow_graph c.args.place) c.in-Instruction.i c.args.fact.now) lowers ∙ (ap (λ a. after_of x.prologue c.lowers_at.result a c.in-Instruction.i c.args.fact.now) (sym c.address_of.ensures) ∙ sym c.after.ensures) in
+    let after = ap (λ b. after_of x.prologue b (address_of x.flow_graph c.args.place) c.in-Instruction.i c.args.fact.now) lowers ∙ (ap (λ a. after_of x.prologue c.lowers_at.result a c.in-Instruction.i c.args.fact.now) (sym c.address_of.ensures) ∙ sym c.follow.ensures) in
     seen x c.args.self.now c.args.place c.args.fact.now (Err c.in-Err-agrees_at.cause) c.self.view_is
-    (at_site (framed_of x) c.args.place c.args.fact.now c.in-Instruction.i c.in-Ok.next c.in-Some.site c.in-Err-agrees_at.cause fine instruction (after ∙ c.in-Ok.is) (sym c.site_by.ensures ∙ c.in-Some.is)
+    (at_site (framed_of x) c.args.place c.args.fact.now c.in-Instruction.i c.follow.new.next c.in-Some.site c.in-Err-agrees_at.cause fine instruction (after ∙ ap (λ r. written r c.follow.new.next) c.in-Ok.is) (sym c.site_by.ensures ∙ c.in-Some.is)
     (agreed_seen x c.args.self.now c.in-Instruction.i c.is_call.result c.args.fact.now c.in-Some.site c.agrees_at.result (Err c.in-Err-agrees_at.cause) c.self.view_is c.is_call.ensures c.agrees_at.ensures c.in-Err-agrees_at.is))
 
 pub returns-in-Ok-agrees_at : goal.returns-in-Ok-agrees_at
@@ -76,7 +76,7 @@ returns-in-Ok-agrees_at c =
     let fine : IsFine (framed_of x) c.args.place = record { decodes = sym c.is_undecodable.ensures ∙ c.if-is_undecodable.false; stays = sym c.branches_out.ensures ∙ c.if-branches_out.false; calls = sym c.calls_nothing.ensures ∙ c.if-calls_nothing.false } in
     let instruction = ap instruction_of (sym c.standing_at-standing.ensures ∙ c.in-Instruction.is) in
     let lowers = ap (λ (a : Parts). (framed_of a).lowers c.args.place) c.self.view_is ∙ sym c.lowers_at.ensures in
-    let after = ap (λ b. after_of x.prologue b (address_of x.flow_graph c.args.place) c.in-Instruction.i c.args.fact.now) lowers ∙ (ap (λ a. after_of x.prologue c.lowers_at.result a c.in-Instruction.i c.args.fact.now) (sym c.address_of.ensures) ∙ sym c.after.ensures) in
-    seen x c.args.self.now c.args.place c.args.fact.now (Ok (Some c.in-Ok.next)) c.self.view_is
-    (at_fine_site (framed_of x) c.args.place c.args.fact.now c.in-Instruction.i c.in-Ok.next c.in-Some.site fine instruction (after ∙ c.in-Ok.is) (sym c.site_by.ensures ∙ c.in-Some.is)
+    let after = ap (λ b. after_of x.prologue b (address_of x.flow_graph c.args.place) c.in-Instruction.i c.args.fact.now) lowers ∙ (ap (λ a. after_of x.prologue c.lowers_at.result a c.in-Instruction.i c.args.fact.now) (sym c.address_of.ensures) ∙ sym c.follow.ensures) in
+    seen x c.args.self.now c.args.place c.args.fact.now (Ok (Some c.follow.new.next)) c.self.view_is
+    (at_fine_site (framed_of x) c.args.place c.args.fact.now c.in-Instruction.i c.follow.new.next c.in-Some.site fine instruction (after ∙ ap (λ r. written r c.follow.new.next) c.in-Ok.is) (sym c.site_by.ensures ∙ c.in-Some.is)
     (agreed_seen x c.args.self.now c.in-Instruction.i c.is_call.result c.args.fact.now c.in-Some.site c.agrees_at.result (Ok tt) c.self.view_is c.is_call.ensures c.agrees_at.ensures c.in-Ok-agrees_at.is))
