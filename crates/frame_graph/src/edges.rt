@@ -150,12 +150,26 @@ impl<'s, 'i, 'a> FlowGraph<'s, 'i, 'a> {
         Ok(())
     }
 
+    /// Where a place leads, landing pads apart, in place of what `edges` held, by what stands there.
+    pub(crate) fn put_straight_by(
+        &self,
+        edges: &mut Vec<Edge>,
+        place: u32,
+        standing: Standing,
+    ) -> Result<(), AllocError>
+        requires place { self.now.start + 2 * place < 2 ^ 32 }
+        requires standing { standing ≡ standing_at self.now place }
+        ensures { OnOk result (edges.new.items ≡ straight_edges self.now place) }
+    {
+        self.put_straight(edges, self.address_of(place), standing)
+    }
+
     /// Where a place leads, landing pads apart, in place of what `edges` held: to the next instruction, and to the target of a branch.
     pub fn put_straight_edges(&self, edges: &mut Vec<Edge>, place: u32) -> Result<(), AllocError>
         requires { self.now.start + 2 * place < 2 ^ 32 }
         ensures { OnOk result (edges.new.items ≡ straight_edges self.now place) }
     {
-        self.put_straight(edges, self.address_of(place), self.standing_at(place))
+        self.put_straight_by(edges, place, self.standing_at(place))
     }
 
     /// Where a place leads, landing pads apart: to the next instruction, and to the target of a branch.

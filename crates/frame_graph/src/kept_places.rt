@@ -1,6 +1,7 @@
-//! What stands at the places of a function, each read once. docs/flow-graphs.md, "Functions and places".
-ghost use Rattle.std.specs.Prelude.{◌≡◌, ◌+◌, ◌-◌, ◌/◌, ◌==◌, ◌&&◌, [], length, IfOk, if◌then◌else◌};
+//! What stands at the first places of a function, each read once. docs/flow-graphs.md, "Functions and places".
+ghost use Rattle.std.specs.Prelude.{◌≡◌, ◌+◌, ◌-◌, ◌/◌, ◌==◌, ◌&&◌, [], length, min, IfOk, if◌then◌else◌};
 ghost use Rattle.image_memory.specs.Profiles.{profile_of};
+ghost use Rattle.frame_graph.specs.declared.kept_places.TheConstants.{MOST_KEPT};
 ghost use Rattle.frame_graph.specs.KeptPlaces.{ArePlaces};
 
 use crate::flow_graph::FlowGraph;
@@ -8,6 +9,10 @@ use crate::places::{Standing, standing_by};
 use eh_index::Index;
 use std::alloc::{AllocError, Global};
 use thumb_isa::profile::Profile;
+
+/// How many places of a function are kept at most. Those after them are read where they are asked of, so that a function whose end isn't
+/// told, and which goes on over all that lies behind it, costs little more than its code.
+pub const MOST_KEPT: u32 = 4_096;
 
 /// What is kept of a place.
 #[derive(Clone, Copy, Debug)]
@@ -18,8 +23,8 @@ pub struct KeptPlace {
     pub standing: Standing,
 }
 
-/// What is kept of the places of a function, by its first address and the first one above it: of all its places, one after the other, or
-/// of none.
+/// What is kept of the places of a function, by its first address and the first one above it: of its first places, one after the other,
+/// or of none.
 #[derive(Drop)]
 pub struct KeptPlaces {
     pub(crate) start: u32,
@@ -39,7 +44,7 @@ impl KeptPlaces {
         }
     }
 
-    /// All places of a function, by the profile of its image. Each is read once, in their order.
+    /// The first places of a function, by the profile of its image. Each is read once, in their order.
     pub(crate) fn read(
         alloc: Global,
         index: &Index,
@@ -51,7 +56,7 @@ impl KeptPlaces {
         ensures start { IfOk result (λ kept. kept.start ≡ start) }
         ensures end { IfOk result (λ kept. kept.end ≡ end) }
         ensures places { IfOk result (λ kept. ArePlaces (record { image = index.now; start = kept.start; end = kept.end }) kept.places.items) }
-        ensures all { IfOk result (λ kept. length kept.places.items ≡ (end - start + 1) / 2) }
+        ensures all { IfOk result (λ kept. length kept.places.items ≡ min ((end - start + 1) / 2) MOST_KEPT) }
     {
         let places = FlowGraph::new(index, profile, start, end).read_places(alloc)?;
         Ok(KeptPlaces { start, end, places })
@@ -72,17 +77,18 @@ impl KeptPlaces {
 }
 
 impl<'s, 'i, 'a> FlowGraph<'s, 'i, 'a> {
-    /// What stands at its places, each read once, in their order.
+    /// What stands at its first places, each read once, in their order.
     #[tactic(auto, using(crate::proofs::KeptPlaces::none_kept, crate::proofs::KeptPlaces::read_more))]
     fn read_places(&self, alloc: Global) -> Result<Vec<KeptPlace>, AllocError>
         ensures places { IfOk result (λ places. ArePlaces self.now places.items) }
-        ensures all { IfOk result (λ places. length places.items ≡ (self.now.end - self.now.start + 1) / 2) }
+        ensures all { IfOk result (λ places. length places.items ≡ min ((self.now.end - self.now.start + 1) / 2) MOST_KEPT) }
     {
         let count = self.end.saturating_sub(self.start).div_ceil(2);
-        let mut places = Vec::with_capacity(alloc, count as usize)?;
+        let kept = count.min(MOST_KEPT);
+        let mut places = Vec::with_capacity(alloc, kept as usize)?;
         let profile = self.profile();
         let mut here = self.fetch(0);
-        for place in 0..count {
+        for place in 0..kept {
             let next = self.fetch(u64::from(place) + 1);
             places.push(KeptPlace {
                 code: here.code,

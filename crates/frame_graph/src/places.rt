@@ -159,13 +159,21 @@ impl<'s, 'i, 'a> FlowGraph<'s, 'i, 'a> {
     }
 
     /// What stands at a place.
-    #[tactic(auto, unfolding(crate::specs::Places::standing_at))]
     pub fn standing_at(&self, place: u32) -> Standing
         ensures { result ≡ standing_at self.now place }
     {
         if (place as usize) < self.places.len() {
             return self.places[place as usize].standing;
         }
+        self.standing_in_image(place)
+    }
+
+    /// The same, read from the image. It stays a call, so that what is kept is looked up in few steps.
+    #[inline(never)]
+    #[tactic(auto, unfolding(crate::specs::Places::standing_at))]
+    fn standing_in_image(&self, place: u32) -> Standing
+        ensures { result ≡ standing_at self.now place }
+    {
         let place = u64::from(place);
         standing_by(
             self.profile(),

@@ -328,8 +328,9 @@ impl<'s, 'i, 'a> FlowGraph<'s, 'i, 'a> {
         requires tells { TellsOn self.now stretch.now place }
         ensures { OnOk result (HaveSame edges.new.items (edges_of self.now place)) }
     {
-        self.put_straight_edges(edges, place)?;
-        match self.site_at(place) {
+        let standing = self.standing_at(place);
+        self.put_straight_by(edges, place, standing)?;
+        match self.site_by(place, standing) {
             None => Ok(()),
             Some(_) => {
                 edges.extend_from_slice(stretch.edges())?;

@@ -90,8 +90,7 @@ fn stays(r: &Recipe, reg: u8) -> bool
     requires { reg < 16 }
     ensures { result ≡ stays r.now reg }
 {
-    let sources = r.src;
-    r.base == reg || is_same(sources[reg as usize])
+    r.base == reg || is_same(r.src[reg as usize])
 }
 
 impl Unwinding {
