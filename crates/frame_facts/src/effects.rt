@@ -62,6 +62,11 @@ pub fn follow(
 ) -> Result<(), FrameCause>
     ensures { written result next.new ≡ after_of p.now lowers at i.now fact.now }
 {
+    // most sites are calls, which show no cause
+    if let Instr::Bl { .. } = *i {
+        *next = call(fact);
+        return Ok(());
+    }
     if is_indirect(fact, i) {
         return Err(FrameCause::IndirectBranch);
     }
