@@ -1,5 +1,4 @@
 mod Places
-mod FlagLemmas
 pub mod CallLaws
 mod PageLaws
 mod PageBuild

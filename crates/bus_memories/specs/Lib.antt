@@ -1,4 +1,3 @@
-pub mod Flags
 pub mod Flat
 pub mod Pages
 pub mod Paged

@@ -5,11 +5,11 @@ ghost use Rattle.eh_bus.specs.Memory.{load_fault, store_fault, fetch_fault, faul
 ghost use Rattle.eh_bus.specs.Map.{AreApart, AreSegments};
 ghost use Rattle.eh_bus.specs.Place.{IsPlace, IsWidth};
 
-use crate::guards::Guards;
 use crate::segment::Segment;
 use crate::segments::Segments;
 use eh_bus::fault::BusFault;
 use eh_bus::map::{CLOSED_SIZE, OPEN_WORD, POOL_END, POOL_START, SLOT_SIZE};
+use stack_guards::guards::Guards;
 
 /// Whether the byte at `a` is in the part of a pool slot that is closed to the guest.
 fn is_closed(a: u32) -> bool

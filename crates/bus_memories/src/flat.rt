@@ -8,12 +8,12 @@ ghost use Rattle.eh_bus.specs.Memory.{store, store_run, host_store};
 use crate::access::{
     fetch_place, load_place, read_word, run_fault, run_write, store_place, write_word,
 };
-use crate::guards::Guards;
 use crate::segments::Segments;
 use eh_bus::bus::Bus;
 use eh_bus::fault::{BusFault, BusMemory};
 use eh_bus::map::{STACK_END, STACK_START};
 use eh_bus::segment::SegmentSpec;
+use stack_guards::guards::Guards;
 use std::alloc::Global;
 
 /// A memory that keeps its segments one after the other: the stack, the pool, and those of the image.

@@ -4,7 +4,6 @@
 
 mod access;
 pub mod flat;
-pub mod guards;
 pub mod paged;
 mod pages;
 mod part;

@@ -13,13 +13,13 @@ ghost use Rattle.eh_bus.specs.declared.fault.BusFault.{BusFault as Fault};
 ghost use Rattle.eh_bus.specs.declared.fault.BusFault.TheVariants.{Unmapped};
 
 use crate::access::{fetch_fault, is_aligned, load_fault, store_fault};
-use crate::guards::Guards;
 use crate::pages::Pages;
 use crate::part::{Part, Span};
 use eh_bus::bus::Bus;
 use eh_bus::fault::{BusFault, BusMemory};
 use eh_bus::map::{PAGE_SIZE, POOL_SIZE, POOL_START, STACK_END, STACK_SIZE, STACK_START};
 use eh_bus::segment::SegmentSpec;
+use stack_guards::guards::Guards;
 use std::alloc::{AllocError, Global};
 
 /// Where an access lies: the number of its segment, and the cell of its first byte.

@@ -2,11 +2,11 @@
 use Rattle.std.specs.Prelude.{◌≡◌, ◌≢◌, ℕ, List, Option, Some, None}
 use Rattle.std.specs.Io.KnownBytes.{Appends}
 use Rattle.ehabi_top.specs.Answered.{IsAnswer}
-use Rattle.ehabi_top.specs.Loading.{Report}
-use Rattle.ehabi_top.specs.Report.{Reports}
-use Rattle.ehabi_top.specs.Words.{Command, FlatFile, BuildSources, CheckFile, CheckSources, RunFile, RunSources, RunGnu, RunThreads, GenerateProgram, command_of}
+use Rattle.ehabi_commands.specs.Loading.{Report}
+use Rattle.ehabi_commands.specs.Report.{Reports}
+use Rattle.ehabi_commands.specs.Words.{Command, FlatFile, BuildSources, CheckFile, CheckSources, RunFile, RunSources, RunGnu, RunThreads, GenerateProgram, command_of}
 use Rattle.program_answers.specs.Files.{FileState}
-use Rattle.ehabi_top.specs.Yields.{Streams}
+use Rattle.ehabi_commands.specs.Yields.{Streams}
 
 -- all of a report was written, its status answered, and its input left
 pub record IsReported (words : List (List ℕ)) (files : List (List ℕ × List ℕ)) (bytes : List ℕ) (old new : Streams) (status : ℕ) : Type 0 where

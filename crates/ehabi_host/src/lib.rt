@@ -5,7 +5,7 @@
 ghost use Rattle.std.specs.Prelude.{◌≡◌, map, IfOk, OnErr, string_bytes};
 ghost use Rattle.ehabi_top.specs.Answered.{IsAnswer};
 ghost use Rattle.program_answers.specs.Files.{file_state};
-ghost use Rattle.ehabi_top.specs.Yields.{streams};
+ghost use Rattle.ehabi_commands.specs.Yields.{streams};
 
 use eh_files::{Files, HostFiles};
 use eh_port::{HostSink, HostSource, Sink, Source};

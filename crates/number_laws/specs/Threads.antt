@@ -1,12 +1,12 @@
 -- Threads and their schedules (docs/threads.md), and audits of an image (docs/audit.md).
 use Rattle.std.specs.Prelude.{◌≡◌}
-use Rattle.bus_memories.specs.declared.guards.TheConstants as bus_memories-guards
+use Rattle.stack_guards.specs.declared.guards.TheConstants as stack_guards-guards
 use Rattle.thread_schedule.specs.declared.tags.TheConstants as thread_schedule-tags
 use Rattle.frame_audit.specs.declared.code.TheConstants as frame_audit-code
 
 -- the size of a home, and how many threads a tag can tell apart; those of schedules and of gate 32 are told by `thread_schedule` and `thread_run`
 pub record ThreadNumbers : Type 0 where
-  pub home_size : bus_memories-guards.HOME_SIZE ≡ 0x4000
+  pub home_size : stack_guards-guards.HOME_SIZE ≡ 0x4000
   pub tags : thread_schedule-tags.TAGS ≡ 10
 
 -- the number that the definitions of frame_audit cite

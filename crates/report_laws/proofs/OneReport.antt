@@ -1,45 +1,45 @@
 -- A report of a run speaks of the program alone.
 use Rattle.std.proofs.Common.{◌≡◌, ℕ, ◌-◌, List, [], ◌++◌, length, Option, Result, Ok, Err, refl, sym, ap, subst, ◌∙◌}
 use Rattle.elf_image.specs.Image.{Image}
-use Rattle.ehabi_top.specs.eh_phase.Phases.{Frames}
+use Rattle.ehabi_commands.specs.eh_phase.Phases.{Frames}
 use Rattle.eh_trace.specs.Text.{trace_text}
 use Rattle.eh_trace.specs.Trace.{Trace}
 use Rattle.eh_types.specs.Graph.{Row, name_of}
-use Rattle.ehabi_top.specs.eh_walk.Forced.{Forced, forced}
-use Rattle.ehabi_top.specs.eh_walk.Reaching.{Onward, run_to_site}
-use Rattle.ehabi_top.specs.eh_walk.Text.{walk_text}
-use Rattle.ehabi_top.specs.eh_walk.Walks.{frames_given, end_given, walk_of}
-use Rattle.ehabi_top.specs.eh_walk.declared.stopping.ForceFault.{ForceFault}
-use Rattle.ehabi_top.specs.eh_walk.declared.walk.WalkEnd.{WalkEnd}
-use Rattle.ehabi_top.specs.eh_walk.declared.walk.WalkEnd.TheVariants.{Root, NoUnwind, Most, NotSite}
-use Rattle.ehabi_top.specs.eh_walk.declared.walk.WalkFrame.{WalkFrame}
-use Rattle.ehabi_top.specs.event_runs.Runs.{Machine, Ran, ran_of}
+use Rattle.ehabi_commands.specs.eh_walk.Forced.{Forced, forced}
+use Rattle.ehabi_commands.specs.eh_walk.Reaching.{Onward, run_to_site}
+use Rattle.ehabi_commands.specs.eh_walk.Text.{walk_text}
+use Rattle.ehabi_commands.specs.eh_walk.Walks.{frames_given, end_given, walk_of}
+use Rattle.ehabi_commands.specs.eh_walk.declared.stopping.ForceFault.{ForceFault}
+use Rattle.ehabi_commands.specs.eh_walk.declared.walk.WalkEnd.{WalkEnd}
+use Rattle.ehabi_commands.specs.eh_walk.declared.walk.WalkEnd.TheVariants.{Root, NoUnwind, Most, NotSite}
+use Rattle.ehabi_commands.specs.eh_walk.declared.walk.WalkFrame.{WalkFrame}
+use Rattle.ehabi_commands.specs.event_runs.Runs.{Machine, Ran, ran_of}
 use Rattle.frame_check.specs.Accepts.{Accepted}
-use Rattle.ehabi_top.specs.eh_gates.State.{State}
+use Rattle.ehabi_commands.specs.eh_gates.State.{State}
 use Rattle.thumb_core.specs.declared.ends.End.{End}
 use Rattle.thumb_core.specs.declared.ends.End.TheVariants.{Exit, Terminate, Trap, Budget, ReadFault, WriteFault}
-use Rattle.ehabi_top.specs.two_machines.Checked.{program_of}
-use Rattle.ehabi_top.specs.two_machines.Machine.{machine_of}
-use Rattle.ehabi_top.specs.two_machines.Program.{Program}
-use Rattle.ehabi_top.specs.two_machines.Start.{start_of}
+use Rattle.ehabi_commands.specs.two_machines.Checked.{program_of}
+use Rattle.ehabi_commands.specs.two_machines.Machine.{machine_of}
+use Rattle.ehabi_commands.specs.two_machines.Program.{Program}
+use Rattle.ehabi_commands.specs.two_machines.Start.{start_of}
 use Rattle.accepted_laws.specs.OneReport.{ProgramsAreOne}
-use Rattle.ehabi_top.specs.BothRuns.{bytes_events}
-use Rattle.ehabi_top.specs.ForceReport.{accepted_force, by_site_end, force_report, forced_type, from_forced, preceded, unforced, IsRefusedForcing, IsUnforced}
-use Rattle.ehabi_top.specs.GenerateReport.{summary_report}
-use Rattle.ehabi_top.specs.Loading.{Report, Closing, closing_of, ran_report, status_of}
-use Rattle.ehabi_top.specs.RunReport.{accepted_report, run_report, trace}
-use Rattle.ehabi_top.specs.TaskReport.{TaskReports}
-use Rattle.ehabi_top.specs.Text.{trace_head, summary}
+use Rattle.ehabi_commands.specs.BothRuns.{bytes_events}
+use Rattle.ehabi_commands.specs.ForceReport.{accepted_force, by_site_end, force_report, forced_type, from_forced, preceded, unforced, IsRefusedForcing, IsUnforced}
+use Rattle.ehabi_commands.specs.GenerateReport.{summary_report}
+use Rattle.ehabi_commands.specs.Loading.{Report, Closing, closing_of, ran_report, status_of}
+use Rattle.ehabi_commands.specs.RunReport.{accepted_report, run_report, trace}
+use Rattle.ehabi_commands.specs.TaskReport.{TaskReports}
+use Rattle.ehabi_commands.specs.Text.{trace_head, summary}
 use Rattle.report_lines.specs.Text.{end_line}
-use Rattle.ehabi_top.specs.WalkReport.{accepted_walk, walk_closing, walk_report, walked, walked_by}
+use Rattle.ehabi_commands.specs.WalkReport.{accepted_walk, walk_closing, walk_report, walked, walked_by}
 use Rattle.program_answers.specs.declared.status.TheConstants.{DONE}
-use Rattle.ehabi_top.specs.declared.walk.TheConstants.{MOST_FRAMES}
-use Rattle.ehabi_top.specs.declared.words.Task.{Task}
-use Rattle.ehabi_top.specs.declared.words.Task.TheVariants.{Run, Walk, Force}
-use Rattle.ehabi_top.specs.declared.words.TheConstants.{MOST_INSTRUCTIONS}
-use Rattle.ehabi_top.specs.ThreadsReport.{accepted_threads}
-use Rattle.ehabi_top.specs.thread_run.Elements.{joint_over}
-use Rattle.ehabi_top.specs.thread_run.Schedules.{Scheduled, schedule_run}
+use Rattle.ehabi_commands.specs.declared.walk.TheConstants.{MOST_FRAMES}
+use Rattle.ehabi_commands.specs.declared.words.Task.{Task}
+use Rattle.ehabi_commands.specs.declared.words.Task.TheVariants.{Run, Walk, Force}
+use Rattle.ehabi_commands.specs.declared.words.TheConstants.{MOST_INSTRUCTIONS}
+use Rattle.ehabi_commands.specs.ThreadsReport.{accepted_threads}
+use Rattle.ehabi_commands.specs.thread_run.Elements.{joint_over}
+use Rattle.ehabi_commands.specs.thread_run.Schedules.{Scheduled, schedule_run}
 use Rattle.thread_schedule.specs.Tags.{tagged}
 use Rattle.report_laws.specs.OneReport.{ReportsAreOne, ThreadsAreOne, CountsAreOne, RefusalsAreOne}
 

@@ -5,38 +5,38 @@ use Rattle.eh_bus.specs.declared.map.TheConstants.{MAX_IMAGE_SIZE}
 use Rattle.eh_files.specs.FileList.{answer_of}
 use Rattle.eh_files.specs.declared.FileAnswer.{FileAnswer}
 use Rattle.eh_files.specs.declared.FileAnswer.TheVariants.{Missing, TooLong}
-use Rattle.ehabi_top.specs.eh_gates.State.{State}
-use Rattle.ehabi_top.specs.two_machines.Activations.{Recorded}
+use Rattle.ehabi_commands.specs.eh_gates.State.{State}
+use Rattle.ehabi_commands.specs.two_machines.Activations.{Recorded}
 use Rattle.eh_trace.specs.Trace.{Trace}
-use Rattle.ehabi_top.specs.eh_phase.Phases.{Frames}
-use Rattle.ehabi_top.specs.eh_walk.Reaching.{Onward}
-use Rattle.ehabi_top.specs.eh_walk.Walks.{frames_given, end_given}
-use Rattle.ehabi_top.specs.eh_walk.declared.walk.WalkEnd.{WalkEnd}
-use Rattle.ehabi_top.specs.eh_walk.declared.walk.WalkEnd.TheVariants.{Root, NoUnwind, Most, NotSite as NoSite}
-use Rattle.ehabi_top.specs.eh_walk.declared.stopping.ForceFault.{ForceFault}
-use Rattle.ehabi_top.specs.eh_walk.declared.stopping.ForceFault.TheVariants.{NotSite, NoFrame, InsideCleanup, NoStop, BadTables, BadType, PoolFull}
-use Rattle.ehabi_top.specs.eh_walk.declared.walk.WalkFrame.{WalkFrame}
+use Rattle.ehabi_commands.specs.eh_phase.Phases.{Frames}
+use Rattle.ehabi_commands.specs.eh_walk.Reaching.{Onward}
+use Rattle.ehabi_commands.specs.eh_walk.Walks.{frames_given, end_given}
+use Rattle.ehabi_commands.specs.eh_walk.declared.walk.WalkEnd.{WalkEnd}
+use Rattle.ehabi_commands.specs.eh_walk.declared.walk.WalkEnd.TheVariants.{Root, NoUnwind, Most, NotSite as NoSite}
+use Rattle.ehabi_commands.specs.eh_walk.declared.stopping.ForceFault.{ForceFault}
+use Rattle.ehabi_commands.specs.eh_walk.declared.stopping.ForceFault.TheVariants.{NotSite, NoFrame, InsideCleanup, NoStop, BadTables, BadType, PoolFull}
+use Rattle.ehabi_commands.specs.eh_walk.declared.walk.WalkFrame.{WalkFrame}
 use Rattle.elf_image.specs.declared.fault.ImageFault.TheVariants.{TooLarge}
-use Rattle.ehabi_top.specs.event_runs.Runs.{Ran, ran_of}
+use Rattle.ehabi_commands.specs.event_runs.Runs.{Ran, ran_of}
 use Rattle.frame_check.specs.Accepts.{Accepted}
 use Rattle.image_memory.specs.Start.{code_start}
 use Rattle.plain_run.specs.Machine.{flat_ran}
 use Rattle.thumb_core.specs.declared.ends.End.{End}
 use Rattle.thumb_core.specs.declared.ends.End.TheVariants.{Exit, Terminate, Trap, Budget, ReadFault, WriteFault}
-use Rattle.ehabi_top.specs.Finding.{file_bytes, bytes_of_answer}
-use Rattle.ehabi_top.specs.FlatReport.{code_report, line_feed}
-use Rattle.ehabi_top.specs.ForceReport.{accepted_force, recorded_force_report, by_site_end, from_forced, preceded}
-use Rattle.ehabi_top.specs.GenerateReport.{summary_report, recorded_summary, counted_report}
-use Rattle.ehabi_top.specs.GnuReport.{gnu_report, recorded_gnu_report}
-use Rattle.ehabi_top.specs.Loading.{Report, Closing, closing_of, ran_report, status_of}
-use Rattle.ehabi_top.specs.RunReport.{accepted_report, recorded_report, run_report}
-use Rattle.ehabi_top.specs.ThreadsReport.{accepted_threads, recorded_threads_report}
-use Rattle.ehabi_top.specs.thread_laws.RecordedThreads.{RecordedPlace}
-use Rattle.ehabi_top.specs.thread_run.Schedules.{Scheduled}
+use Rattle.ehabi_commands.specs.Finding.{file_bytes, bytes_of_answer}
+use Rattle.ehabi_commands.specs.FlatReport.{code_report, line_feed}
+use Rattle.ehabi_commands.specs.ForceReport.{accepted_force, recorded_force_report, by_site_end, from_forced, preceded}
+use Rattle.ehabi_commands.specs.GenerateReport.{summary_report, recorded_summary, counted_report}
+use Rattle.ehabi_commands.specs.GnuReport.{gnu_report, recorded_gnu_report}
+use Rattle.ehabi_commands.specs.Loading.{Report, Closing, closing_of, ran_report, status_of}
+use Rattle.ehabi_commands.specs.RunReport.{accepted_report, recorded_report, run_report}
+use Rattle.ehabi_commands.specs.ThreadsReport.{accepted_threads, recorded_threads_report}
+use Rattle.ehabi_commands.specs.thread_laws.RecordedThreads.{RecordedPlace}
+use Rattle.ehabi_commands.specs.thread_run.Schedules.{Scheduled}
 use Rattle.report_lines.specs.Text.{end_line, image_fault_line}
-use Rattle.ehabi_top.specs.WalkReport.{accepted_walk, recorded_walk_report, walk_closing, walked_by}
+use Rattle.ehabi_commands.specs.WalkReport.{accepted_walk, recorded_walk_report, walk_closing, walked_by}
 use Rattle.program_answers.specs.declared.status.TheConstants.{DONE, EXIT_NONZERO, REFUSED}
-use Rattle.ehabi_top.specs.declared.walk.TheConstants.{MOST_FRAMES}
+use Rattle.ehabi_commands.specs.declared.walk.TheConstants.{MOST_FRAMES}
 use Rattle.report_laws.specs.Written.{OnImage, over_bytes, with_activations, EndsSo, RunEnds, trace_of, IsRun, WalkEnds, IsWalk, ForceEnds, IsForce, threads_of, threads_ran, IsThreads, recorded_threads_ran, IsRecordedThreads, IsCount, gnu_ran, IsGnu, recorded_gnu_ran, IsRecordedGnu, ReportsAreWritten}
 
 -- ---- ends

@@ -1,12 +1,12 @@
 -- The report of a run of an accepted image, of a walk in it, and of a forced unwinding of it, is one (docs/command-line.md): it doesn't rest on how the checker has kept what it found.
 use Rattle.std.specs.Prelude.{◌≡◌, ℕ, List}
 use Rattle.frame_check.specs.Accepts.{Accepted, IsSound}
-use Rattle.ehabi_top.specs.ForceReport.{IsUnforced}
-use Rattle.ehabi_top.specs.GenerateReport.{CountsAccepted}
-use Rattle.ehabi_top.specs.Loading.{Report}
-use Rattle.ehabi_top.specs.TaskReport.{DoesTask}
-use Rattle.ehabi_top.specs.ThreadsReport.{ThreadsAccepted}
-use Rattle.ehabi_top.specs.declared.words.Request.{Request}
+use Rattle.ehabi_commands.specs.ForceReport.{IsUnforced}
+use Rattle.ehabi_commands.specs.GenerateReport.{CountsAccepted}
+use Rattle.ehabi_commands.specs.Loading.{Report}
+use Rattle.ehabi_commands.specs.TaskReport.{DoesTask}
+use Rattle.ehabi_commands.specs.ThreadsReport.{ThreadsAccepted}
+use Rattle.ehabi_commands.specs.declared.words.Request.{Request}
 
 -- two reports of the checker are of one image
 pub record AreOfOne (x y : Accepted) : Type 0 where

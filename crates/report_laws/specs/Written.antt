@@ -9,45 +9,45 @@ use Rattle.eh_bus.specs.Memory.{store}
 use Rattle.eh_bus.specs.declared.fault.BusFault.TheVariants.{SavedSlot}
 use Rattle.eh_files.specs.FileList.{answer_of}
 use Rattle.eh_files.specs.declared.FileAnswer.TheVariants.{Missing, TooLong}
-use Rattle.ehabi_top.specs.eh_gates.State.{State}
-use Rattle.ehabi_top.specs.eh_phase.Phases.{Frames}
+use Rattle.ehabi_commands.specs.eh_gates.State.{State}
+use Rattle.ehabi_commands.specs.eh_phase.Phases.{Frames}
 use Rattle.eh_trace.specs.Text.{trace_text, place_text}
 use Rattle.eh_trace.specs.Trace.{Trace, total_of}
 use Rattle.eh_trace.specs.declared.event.EventKind.TheVariants.{Throw, Rethrow, Cleanup, Catch}
 use Rattle.eh_types.specs.Graph.{name_of}
-use Rattle.ehabi_top.specs.eh_walk.Forced.{forced, recorded_forced}
-use Rattle.ehabi_top.specs.eh_walk.Reaching.{Onward, run_to_site, recorded_run_to_site}
-use Rattle.ehabi_top.specs.eh_walk.Walks.{frames_given, end_given, walk_of, recorded_walk}
-use Rattle.ehabi_top.specs.eh_walk.declared.walk.WalkEnd.TheVariants as walk_end
-use Rattle.ehabi_top.specs.eh_walk.declared.stopping.ForceFault.{ForceFault}
-use Rattle.ehabi_top.specs.eh_walk.declared.stopping.ForceFault.TheVariants.{NotSite, NoFrame, InsideCleanup, NoStop, BadTables, BadType, PoolFull}
-use Rattle.ehabi_top.specs.event_runs.Runs.{Machine, Ran, ran_of}
+use Rattle.ehabi_commands.specs.eh_walk.Forced.{forced, recorded_forced}
+use Rattle.ehabi_commands.specs.eh_walk.Reaching.{Onward, run_to_site, recorded_run_to_site}
+use Rattle.ehabi_commands.specs.eh_walk.Walks.{frames_given, end_given, walk_of, recorded_walk}
+use Rattle.ehabi_commands.specs.eh_walk.declared.walk.WalkEnd.TheVariants as walk_end
+use Rattle.ehabi_commands.specs.eh_walk.declared.stopping.ForceFault.{ForceFault}
+use Rattle.ehabi_commands.specs.eh_walk.declared.stopping.ForceFault.TheVariants.{NotSite, NoFrame, InsideCleanup, NoStop, BadTables, BadType, PoolFull}
+use Rattle.ehabi_commands.specs.event_runs.Runs.{Machine, Ran, ran_of}
 use Rattle.elf_image.specs.Image.{symbol_in}
 use Rattle.frame_check.specs.Accepts.{Accepted}
-use Rattle.ehabi_top.specs.two_machines.ActivationMachine.{recorded_machine}
-use Rattle.ehabi_top.specs.two_machines.Activations.{Recorded, recorded_start, slots_of}
-use Rattle.ehabi_top.specs.two_machines.Checked.{program_of}
-use Rattle.ehabi_top.specs.two_machines.Machine.{machine_of}
-use Rattle.ehabi_top.specs.two_machines.Start.{start_of}
+use Rattle.ehabi_commands.specs.two_machines.ActivationMachine.{recorded_machine}
+use Rattle.ehabi_commands.specs.two_machines.Activations.{Recorded, recorded_start, slots_of}
+use Rattle.ehabi_commands.specs.two_machines.Checked.{program_of}
+use Rattle.ehabi_commands.specs.two_machines.Machine.{machine_of}
+use Rattle.ehabi_commands.specs.two_machines.Start.{start_of}
 use Rattle.gnu_machine.specs.GnuMachine.{gnu_machine_of, recorded_gnu_machine}
 use Rattle.thumb_core.specs.EndNames.{cause_name, kind_name}
 use Rattle.thumb_core.specs.declared.ends.End.{End}
 use Rattle.thumb_core.specs.declared.ends.End.TheVariants.{Exit, Terminate, Trap, Budget, ReadFault, WriteFault}
-use Rattle.ehabi_top.specs.BuildReport.{plain_report}
-use Rattle.ehabi_top.specs.CheckReport.{ChecksAccepted}
-use Rattle.ehabi_top.specs.Finding.{file_bytes}
-use Rattle.ehabi_top.specs.FlatReport.{code_report}
-use Rattle.ehabi_top.specs.ForceReport.{ForcesAccepted}
-use Rattle.ehabi_top.specs.GenerateReport.{CountsAccepted}
-use Rattle.ehabi_top.specs.GnuReport.{GnuAccepted}
-use Rattle.ehabi_top.specs.Loading.{Report}
-use Rattle.ehabi_top.specs.Report.{Reports}
-use Rattle.ehabi_top.specs.RunReport.{RunsAccepted}
-use Rattle.ehabi_top.specs.ThreadsReport.{ThreadsAccepted}
-use Rattle.ehabi_top.specs.WalkReport.{WalksAccepted}
-use Rattle.ehabi_top.specs.thread_laws.RecordedThreads.{RecordedPlace, threads_at_start, recorded_schedule_run}
-use Rattle.ehabi_top.specs.thread_run.Elements.{joint_over}
-use Rattle.ehabi_top.specs.thread_run.Schedules.{Scheduled, schedule_run}
+use Rattle.ehabi_commands.specs.BuildReport.{plain_report}
+use Rattle.ehabi_commands.specs.CheckReport.{ChecksAccepted}
+use Rattle.ehabi_commands.specs.Finding.{file_bytes}
+use Rattle.ehabi_commands.specs.FlatReport.{code_report}
+use Rattle.ehabi_commands.specs.ForceReport.{ForcesAccepted}
+use Rattle.ehabi_commands.specs.GenerateReport.{CountsAccepted}
+use Rattle.ehabi_commands.specs.GnuReport.{GnuAccepted}
+use Rattle.ehabi_commands.specs.Loading.{Report}
+use Rattle.ehabi_commands.specs.Report.{Reports}
+use Rattle.ehabi_commands.specs.RunReport.{RunsAccepted}
+use Rattle.ehabi_commands.specs.ThreadsReport.{ThreadsAccepted}
+use Rattle.ehabi_commands.specs.WalkReport.{WalksAccepted}
+use Rattle.ehabi_commands.specs.thread_laws.RecordedThreads.{RecordedPlace, threads_at_start, recorded_schedule_run}
+use Rattle.ehabi_commands.specs.thread_run.Elements.{joint_over}
+use Rattle.ehabi_commands.specs.thread_run.Schedules.{Scheduled, schedule_run}
 use Rattle.thread_schedule.specs.Tags.{tagged}
 
 -- ---- the machines

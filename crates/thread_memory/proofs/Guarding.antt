@@ -1,7 +1,7 @@
 -- Homes and guards: what a release leaves, and that stores miss.
 use Rattle.std.proofs.Common.{◌≡◌, ℕ, ◌-◌, ◌/◌, ◌<◌, ◌≤◌, ◌⊎◌, inl, inr, Bool, true, false, ◌||◌, nat_le, refl, sym, ◌∙◌, arith, le-leb}
 use Rattle.std.proofs.lemmas.Bool.{cases_lt, lt-ltb, le-ltb, lt-leb}
-use Rattle.bus_memories.specs.declared.guards.TheConstants.{HOME_SIZE}
+use Rattle.stack_guards.specs.declared.guards.TheConstants.{HOME_SIZE}
 use Rattle.eh_bus.specs.Memory.{stays_guarded}
 use Rattle.eh_bus.specs.declared.map.TheConstants.{STACK_END}
 use Rattle.eh_bus.proofs.AccessLaws.{store_misses, store_keeps}

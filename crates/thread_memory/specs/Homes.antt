@@ -1,6 +1,6 @@
 -- The stacks of threads: homes of one size, that of thread 0 at the end of the stack and each further one below it (docs/threads.md).
 use Rattle.std.specs.Prelude.{ℕ, ◌+◌, ◌-◌, ◌*◌, ◌<◌, ◌≤◌}
-use Rattle.bus_memories.specs.declared.guards.TheConstants.{HOME_SIZE}
+use Rattle.stack_guards.specs.declared.guards.TheConstants.{HOME_SIZE}
 use Rattle.eh_bus.specs.declared.map.TheConstants.{STACK_END}
 
 abbrev pub home_of : ℕ → ℕ × ℕ

@@ -16,11 +16,11 @@ ghost use Rattle.thread_memory.specs.declared.bus.ThreadMemory.TheVariants.{OutO
 
 use crate::homes::{THREADS, home_of};
 use crate::owners::Owners;
-use bus_memories::guards::Guards;
 use eh_bus::bus::Bus;
 use eh_bus::fault::BusFault;
 use eh_bus::map::{POOL_START, SLOT_SIZE, STACK_END, STACK_START};
 use eh_cxa::layout::SLOTS;
+use stack_guards::guards::Guards;
 use std::alloc::{AllocError, Global};
 
 /// There was no memory for the guards.

@@ -2,8 +2,8 @@
 ghost use Rattle.std.specs.Prelude.{◌≡◌, ◌<◌};
 ghost use Rattle.thread_memory.specs.Homes.{home_of};
 
-use bus_memories::guards::{HOME_SIZE, HOMES};
 use eh_bus::map::STACK_END;
+use stack_guards::guards::{HOME_SIZE, HOMES};
 
 /// The most threads: there is one for each home.
 pub const THREADS: usize = HOMES;

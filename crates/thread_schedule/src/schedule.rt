@@ -4,7 +4,7 @@ ghost use Rattle.thread_schedule.specs.Schedules.{schedule_of, Refuses};
 ghost use Rattle.thread_schedule.specs.declared.schedule.ScheduleFault.TheVariants.{OutOfMemory};
 
 use crate::push::push;
-use bus_memories::guards::HOMES;
+use stack_guards::guards::HOMES;
 use std::alloc::{AllocError, Global};
 
 /// The byte that a schedule's text may have between its digits.

@@ -1,0 +1,35 @@
+use Rattle.std.proofs.Common.{refl, ◌-◌}
+use Rattle.eh_walk.specs.eh_gates.State.{State, state_of}
+use Rattle.eh_walk.specs.two_machines.Checked.{program_of}
+use Rattle.eh_walk.specs.two_machines.Machine.{machine_of}
+use Rattle.ehabi_commands.specs.BothRuns.{bytes_events}
+use Rattle.ehabi_commands.specs.ForceReport.{bytes_from_site, bytes_forced, IsRefusedForcing}
+use Rattle.ehabi_commands.specs.Loading.{closing_of}
+use Rattle.ehabi_commands.specs.RunReport.{trace}
+use Rattle.ehabi_commands.specs.Yields.{Only}
+use Rattle.ehabi_commands.specs.declared.words.TheConstants.{MOST_INSTRUCTIONS}
+use Rattle.ehabi_commands.proofs.ForceReports.{went_on, not_refused, not_unwound}
+use Rattle.ehabi_commands.proofs.Statuses.{end_of_run}
+use Rattle.ehabi_commands.proofs.Yielding.{run_some, both_kept, yields_run}
+use Rattle.ehabi_commands.proofs.force.unwind_and_go.Goals as goal
+
+pub returns-in-Ok : goal.returns-in-Ok
+returns-in-Ok g c =
+    let m = c.args.machine.now in
+    let a = m.accepted.now in
+    let s = state_of m.core (g.B.Bus.memory m.shared.bus) m.events in
+    let forced = rw (c.forced_type-ty.ensures.is, c.image.ensures.image) at c.in-Ok.ensures.bytes in
+    yields_run State (machine_of (program_of a)) (λ _. refl) (λ t end. closing_of (trace a (bytes_events t)) end) (MOST_INSTRUCTIONS - c.args.done) _ (λ t end fine. end_of_run end fine)
+    (Only (bytes_from_site c.args.number a c.args.done s)) (IsRefusedForcing (bytes_forced c.args.number a s).0) _ c.run-end.result _ _ _ _ _ _ _ _ _ _ _
+    (λ b. went_on c.args.number a c.args.done s _ forced b) (not_refused c.args.number a c.args.done s _ forced)
+    (run_some (program_of a) (MOST_INSTRUCTIONS - c.args.done) _ c.run-end.result _ _ _ _ _ _ (rw c.left_of_all-machine.ensures at c.run-end.ensures.told))
+    c.run-end.ensures.faults.input.rose c.run-end.ensures.faults.out.rose
+    c.run-end.ensures.faults.out.later (λ fine e. both_kept c.run-end.result _ _ _ _ c.run-end.ensures.faults.input.kept c.run-end.ensures.faults.out.kept fine) (rw c.events.ensures at c.answer_run.ensures)
+
+pub returns-in-Err : goal.returns-in-Err
+returns-in-Err g c =
+    let m = c.args.machine.now in
+    let a = m.accepted.now in
+    let s = state_of m.core (g.B.Bus.memory m.shared.bus) m.events in
+    let forced = rw (c.forced_type-ty.ensures.is, c.image.ensures.image) at c.in-Err.ensures.bytes in
+    not_unwound c.args.number a c.args.done s c.in-Err.fault _ _ _ _ _ _ _ _ forced (rw c.events-in-Err.ensures at c.answer_unforced.ensures)

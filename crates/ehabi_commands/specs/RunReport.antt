@@ -1,0 +1,35 @@
+-- The report of `run` of an image that is accepted: it runs on the machine that unwinds.
+use Rattle.std.specs.Prelude.{ℕ, ◌≡◌, ◌++◌, List}
+use Rattle.eh_bus.specs.Segment.{AreBytes}
+use Rattle.eh_trace.specs.Text.{trace_text}
+use Rattle.eh_trace.specs.Trace.{Trace}
+use Rattle.eh_walk.specs.eh_types.Graph.{name_of}
+use Rattle.eh_walk.specs.event_runs.Runs.{Ran}
+use Rattle.frame_check.specs.Accepts.{Accepted}
+use Rattle.thumb_core.specs.declared.ends.End.{End}
+use Rattle.ehabi_commands.specs.BothRuns.{bytes_run, recorded_run, bytes_events, recorded_events, RefusesStores}
+use Rattle.ehabi_commands.specs.Loading.{Report, ran_report}
+use Rattle.ehabi_commands.specs.Text.{trace_head}
+
+-- what stands after the guest's bytes: the trace of these events
+abbrev pub trace : Accepted → Trace → List ℕ
+trace a events = trace_head ++ trace_text a.image (name_of a.types) events
+
+-- the report of a run of an accepted image, by the events that the machine's last state has
+abbrev pub run_report : {S : Type 0} → (S → Trace) → Accepted → Ran S End → Report
+run_report events a ran = ran_report (λ s. trace a (events s)) ran
+
+-- .. from the start, of the machine over bytes
+unfoldable pub accepted_report : ℕ → Accepted → List ℕ → Report
+accepted_report budget a input = run_report bytes_events a (bytes_run budget a input)
+
+-- .. and of the machine with recorded activations: returns go to their recorded callers, and throws go over the live activations
+unfoldable pub recorded_report : ℕ → Accepted → List ℕ → Report
+recorded_report budget a input = run_report recorded_events a (recorded_run budget a input)
+
+-- r is the report of the run of an accepted image: over bytes; and, where the numbers of the input are bytes, with recorded activations too,
+-- and then no store reaches a slot of a live activation
+pub record RunsAccepted (budget : ℕ) (a : Accepted) (input : List ℕ) (r : Report) : Type 0 where
+  pub is : r ≡ accepted_report budget a input
+  pub recorded : AreBytes input → r ≡ recorded_report budget a input
+  pub guarded : AreBytes input → RefusesStores a input

@@ -1,0 +1,202 @@
+//! `gnu FILE N`: rewrites the unwind tables of GNU's compilers that an image has as compact ones, checks the rewritten image, and runs it where it is
+//! accepted, with what the landing pads of GNU's code are given (docs/command-line.md, docs/gnu-tables.md).
+ghost use Rattle.std.specs.Prelude.{◌≡◌, Some, Ok, Err, IsOk, IfOk, MatchResult, true, false};
+ghost use Rattle.std.specs.List.Sorted.{IsStrictlySortedBy};
+ghost use Rattle.std.specs.Ordering.{nat_cmp};
+ghost use Rattle.std.specs.Map.{keys_of};
+ghost use Rattle.eh_index.specs.Refusal.{index_refusal};
+ghost use Rattle.elf_image.specs.Image.{image_of};
+ghost use Rattle.gnu_translation.specs.Refusal.{translation_refusal};
+ghost use Rattle.ehabi_commands.specs.Accepting.{BytesReportsBy, IsUnaccepted};
+ghost use Rattle.ehabi_commands.specs.AsksFor.{AsksFor, FindingLacks};
+ghost use Rattle.ehabi_commands.specs.Building.{is_memory, fault_line};
+ghost use Rattle.ehabi_commands.specs.Finding.{Finds};
+ghost use Rattle.ehabi_commands.specs.GnuReport.{GnuAccepted, by_index, by_tables, gnu_found, rewritten_bytes, rewritten_last, rewritten_of};
+ghost use Rattle.ehabi_commands.specs.Report.{Does};
+ghost use Rattle.ehabi_commands.specs.Words.{RunGnu};
+ghost use Rattle.ehabi_commands.specs.Yields.{Yields, streams};
+ghost use Rattle.program_answers.specs.Files.{file_state};
+ghost use Rattle.program_answers.specs.Words.{texts};
+
+use crate::accept::{accepted_of, answer_refused};
+use crate::answer::answer_run;
+use crate::build::written_bytes;
+use crate::named::SourceText;
+use crate::recorded::gnu_same;
+use crate::refusal::{BuildFault, FilesFault, answer_files_fault, is_memory};
+use crate::sources::{Loaded, load};
+use crate::threads::last_bytes;
+use eh_files::Files;
+use eh_index::Index;
+use eh_machine::Machine;
+use eh_port::{Sink, Source};
+use elf_image::Image;
+use elf_image::read::read_image;
+use frame_check::Accepted;
+use gnu_machine::gnu_run;
+use gnu_translation::translate;
+use program_answers::Stop;
+use std::alloc::Global;
+
+/// What the file of `gnu` gives.
+#[derive(Drop)]
+pub(crate) struct GnuProgram {
+    /// The bytes of the rewritten image.
+    pub(crate) image: Vec<u8>,
+    /// The address of each of its catches that has a filter, with the filter, in rising order.
+    pub(crate) filters: Vec<(u32, u32)>,
+}
+
+// The rewritten image of one whose index is read.
+fn by_tables<'a>(alloc: Global, index: &Index) -> Result<GnuProgram, BuildFault<'a>>
+    ensures is { let answer = by_tables index.now (translation_refusal index.now) in
+        MatchResult result (λ program. answer ≡ Ok (rewritten_of program)) (λ fault. is_memory fault ≡ false → answer ≡ Err (fault_line fault)) }
+    ensures rising { IfOk result (λ program. IsStrictlySortedBy nat_cmp (keys_of program.filters.items)) }
+{
+    match translate(alloc, index.image(), index) {
+        Ok(translated) => {
+            let image = written_bytes(alloc, &translated.parts)?;
+            Ok(GnuProgram {
+                image,
+                filters: translated.filters,
+            })
+        }
+        Err(fault) => Err(BuildFault::InTables(fault)),
+    }
+}
+
+// The rewritten image of an image.
+fn by_index<'a>(alloc: Global, image: &Image) -> Result<GnuProgram, BuildFault<'a>>
+    ensures is { let answer = by_index image.now (index_refusal image.now) in
+        MatchResult result (λ program. answer ≡ Ok (rewritten_of program)) (λ fault. is_memory fault ≡ false → answer ≡ Err (fault_line fault)) }
+    ensures rising { IfOk result (λ program. IsStrictlySortedBy nat_cmp (keys_of program.filters.items)) }
+{
+    match Index::read(image) {
+        Ok(index) => by_tables(alloc, &index),
+        Err(fault) => Err(BuildFault::InIndex(fault)),
+    }
+}
+
+// The rewritten image of the one that these bytes stand for.
+#[tactic(auto, unfolding(crate::specs::GnuReport::rewritten_bytes))]
+fn rewritten_bytes<'a>(alloc: Global, bytes: &[u8]) -> Result<GnuProgram, BuildFault<'a>>
+    ensures is { let answer = rewritten_bytes bytes.now in
+        MatchResult result (λ program. answer ≡ Ok (rewritten_of program)) (λ fault. is_memory fault ≡ false → answer ≡ Err (fault_line fault)) }
+    ensures rising { IfOk result (λ program. IsStrictlySortedBy nat_cmp (keys_of program.filters.items)) }
+{
+    match read_image(alloc, bytes) {
+        Ok(image) => by_index(alloc, &image),
+        Err(fault) => Err(BuildFault::InImage(fault)),
+    }
+}
+
+// .. of the one that the last of files holds.
+#[tactic(auto, unfolding(crate::specs::GnuReport::rewritten_last))]
+fn rewritten_last<'a>(
+    alloc: Global,
+    files: Vec<SourceText<'a>>,
+) -> Result<GnuProgram, BuildFault<'a>>
+    ensures is { let answer = rewritten_last files.entry.items in
+        MatchResult result (λ program. answer ≡ Ok (rewritten_of program)) (λ fault. is_memory fault ≡ false → answer ≡ Err (fault_line fault)) }
+    ensures rising { IfOk result (λ program. IsStrictlySortedBy nat_cmp (keys_of program.filters.items)) }
+{
+    let bytes = last_bytes(alloc, files);
+    rewritten_bytes(alloc, bytes.as_slice())
+}
+
+// What the file of this name gives, or why it gives nothing.
+fn gnu_found<'a, F: Files>(
+    alloc: Global,
+    names: &[&'a str],
+    files: &mut F,
+) -> Result<Result<GnuProgram, FilesFault<'a>>, Stop>
+    ensures found { Finds rewritten_of (gnu_found (texts names.now)) (file_state (F.held files.old) (F.faults files.old) (F.asked files.old) F.with_name) (file_state (F.held files.new) (F.faults files.new) (F.asked files.new) F.with_name) result }
+    ensures asked { AsksFor (texts names.now) (IsOk result) (FindingLacks result) (file_state (F.held files.old) (F.faults files.old) (F.asked files.old) F.with_name) (file_state (F.held files.new) (F.faults files.new) (F.asked files.new) F.with_name) }
+    ensures rising { IfOk result (λ answer. IfOk answer (λ program. IsStrictlySortedBy nat_cmp (keys_of program.filters.items))) }
+{
+    let all = match load(alloc, names, files)? {
+        Loaded::All(all) => all,
+        Loaded::Lacks(name) => return Ok(Err(FilesFault::Missing(name))),
+        Loaded::Exceeds(name) => return Ok(Err(FilesFault::TooLong(name))),
+    };
+    match rewritten_last(alloc, all) {
+        Ok(program) => Ok(Ok(program)),
+        Err(fault) => {
+            if is_memory(&fault) {
+                return Err(Stop::Memory);
+            }
+            Ok(Err(FilesFault::Sources(fault)))
+        }
+    }
+}
+
+// Runs an accepted rewritten image.
+fn gnu_accepted<I: Source, O: Sink>(
+    alloc: Global,
+    accepted: &Accepted,
+    filters: &[(u32, u32)],
+    budget: u64,
+    input: &mut I,
+    out: &mut O,
+) -> Result<u8, Stop>
+    requires { IsStrictlySortedBy nat_cmp (keys_of filters.now) }
+    ensures { Yields (GnuAccepted filters.now budget accepted.now) ⊥
+        (streams (I.left input.old) (I.faults input.old) (O.written out.old) (O.faults out.old))
+        (streams (I.left input.new) (I.faults input.new) (O.written out.new) (O.faults out.new)) result }
+{
+    let mut machine = match Machine::start(alloc, accepted, budget) {
+        Ok(machine) => machine,
+        Err(_) => return Err(Stop::Memory),
+    };
+    gnu_same(accepted, filters, &machine.shared.bus);
+    let end = gnu_run(&mut machine, filters, input, out);
+    answer_run(alloc, out, accepted, machine.events(), end)
+}
+
+// Runs the rewritten image that these bytes stand for, where it is accepted.
+fn gnu_bytes<I: Source, O: Sink>(
+    alloc: Global,
+    bytes: &[u8],
+    filters: &[(u32, u32)],
+    budget: u64,
+    input: &mut I,
+    out: &mut O,
+) -> Result<u8, Stop>
+    requires { IsStrictlySortedBy nat_cmp (keys_of filters.now) }
+    ensures { Yields (BytesReportsBy (GnuAccepted filters.now budget) bytes.now) (IsUnaccepted bytes.now)
+        (streams (I.left input.old) (I.faults input.old) (O.written out.old) (O.faults out.old))
+        (streams (I.left input.new) (I.faults input.new) (O.written out.new) (O.faults out.new)) result }
+{
+    match accepted_of(alloc, bytes) {
+        Ok(Ok(accepted)) => gnu_accepted(alloc, &accepted, filters, budget, input, out),
+        Ok(Err(fault)) => answer_refused(alloc, out, &fault),
+        Err(stop) => Err(stop),
+    }
+}
+
+/// Rewrites the tables of the image that a file holds, and runs it.
+pub(crate) fn gnu<F: Files, I: Source, O: Sink>(
+    alloc: Global,
+    name: &str,
+    budget: u64,
+    files: &mut F,
+    input: &mut I,
+    out: &mut O,
+) -> Result<u8, Stop>
+    ensures { Does (Some (RunGnu name.now budget)) (file_state (F.held files.old) (F.faults files.old) (F.asked files.old) F.with_name) (file_state (F.held files.new) (F.faults files.new) (F.asked files.new) F.with_name)
+        (streams (I.left input.old) (I.faults input.old) (O.written out.old) (O.faults out.old))
+        (streams (I.left input.new) (I.faults input.new) (O.written out.new) (O.faults out.new)) result }
+{
+    match gnu_found(alloc, &[name], files) {
+        Ok(Ok(program)) => gnu_bytes(
+            alloc,
+            program.image.as_slice(),
+            program.filters.as_slice(),
+            budget,
+            input,
+            out,
+        ),
+        Ok(Err(fault)) => answer_files_fault(out, &fault),
+        Err(stop) => Err(stop),
+    }
+}

@@ -1,0 +1,225 @@
+//! Guarded words of the stack, kept as a bit for each word, and what of them a home holds; docs/memory-map.md says what they do.
+ghost use Rattle.std.specs.Prelude.{◌≡◌, ◌≢◌, ℕ, ◌+◌, ◌-◌, ◌*◌, ◌/◌, ◌%◌, ◌^◌, ◌<◌, ◌≤◌, ◌∷◌, [], length, Option, Some, None, filter, nat_le, ◌||◌, nat_lt, IfOk, min, slice_index, slice_index_or, slice_set, true, false, if◌then◌else◌};
+ghost use Rattle.std.specs.Int.{bit_at};
+ghost use Rattle.eh_list.specs.Bytes.{zeros};
+ghost use Rattle.eh_bus.specs.Memory.{guard_hit, stays_guarded};
+ghost use Rattle.eh_bus.specs.Guards.{inserted};
+ghost use Rattle.stack_guards.specs.Flags.{flagged, flags_of, AreFlags, IsClear, Cleared, Released};
+
+use eh_bus::map::{STACK_END, STACK_SIZE, STACK_START, STACK_WORDS};
+use std::alloc::{AllocError, Global};
+use std::marker::Model;
+
+/// How many words of the stack one number has the guards of, a bit each.
+pub(crate) const NUMBER_BITS: usize = 64;
+
+/// The numbers that have the guards of the whole stack.
+pub(crate) const NUMBERS: usize = STACK_WORDS / NUMBER_BITS;
+
+/// How many homes the stack is cut into, one after the other.
+pub const HOMES: usize = 4;
+
+/// The size of a home, in bytes.
+pub const HOME_SIZE: u32 = STACK_SIZE / HOMES as u32;
+
+/// The words of a home.
+pub(crate) const HOME_WORDS: usize = STACK_WORDS / HOMES;
+
+/// The numbers that have the guards of one home.
+pub(crate) const HOME_NUMBERS: usize = NUMBERS / HOMES;
+
+/// The guarded words: a bit for each word of the stack, the lowest bit of a number for the lowest address.
+///
+/// A test reads one bit and a guard sets one. A release clears numbers whole, in each home from the lowest that may have a bit up to
+/// that of its address, so a push and the return that releases it cost a step for each 64 words that lie between, and
+/// never the whole stack, nor more where another home has guards.
+#[derive(Drop)]
+pub struct Guards {
+    numbers: Vec<u64>,
+    /// Of each home, how many of its lowest numbers have no bit.
+    clear: [usize; HOMES],
+}
+
+impl Model for Guards {
+    ghost use Rattle.std.specs.Prelude.{ℕ, List};
+    ghost use Rattle.stack_guards.specs.Flags.{flagged, flags_of, AreFlags};
+    ghost use Rattle.eh_bus.specs.declared.map.TheConstants.{STACK_START};
+
+    ghost Value = { List ℕ };
+
+    ghost view = { λ g. flagged STACK_START (flags_of g.numbers.items) };
+
+    ghost invariant = { λ g. AreFlags g.numbers.items g.clear };
+}
+
+impl Guards {
+    /// No word is guarded. The room for all of them is taken here.
+    #[tactic(auto, using(crate::proofs::FlagLemmas::none_flagged, crate::proofs::FlagLemmas::clear_are))]
+    pub fn new(alloc: Global) -> Result<Self, AllocError>
+        ensures { IfOk result (λ g. g ≡ []) }
+    {
+        Ok(Guards {
+            numbers: clear_numbers(alloc, NUMBERS)?,
+            clear: [HOME_NUMBERS; HOMES],
+        })
+    }
+
+    /// The guarded word that holds the `n` bytes from `a` on, which lie in one word.
+    pub fn hit(&self, a: u32, n: u32) -> Option<u32>
+        requires some { 0 < n }
+        requires one_word { a % 4 + n ≤ 4 }
+        ensures { result ≡ guard_hit self.now a n }
+    {
+        hit_in(&self.numbers, a, n)
+    }
+
+    /// Guards the word at `a`.
+    pub fn insert(&mut self, a: u32)
+        requires aligned { a % 4 ≡ 0 }
+        requires low { STACK_START ≤ a }
+        requires high { a < STACK_END }
+        ensures { self.new ≡ inserted a self.old }
+    {
+        guard_word(&mut self.numbers, &mut self.clear, a);
+    }
+
+    /// Takes the guard from the words below `a` of the home that begins at `low` and of the homes above it.
+    pub fn release_from(&mut self, low: u32, a: u32)
+        requires inside { STACK_START ≤ low }
+        requires below { low < STACK_END }
+        requires starts { (low - STACK_START) % HOME_SIZE ≡ 0 }
+        ensures { (high : ℕ) → self.new ≡ filter (stays_guarded (low, high) a) self.old }
+    {
+        release(&mut self.numbers, &mut self.clear, low, a);
+    }
+}
+
+#[tactic(auto, unfolding(eh_list::specs::Bytes::zeros))]
+fn clear_numbers(alloc: Global, n: usize) -> Result<Vec<u64>, AllocError>
+    ensures { IfOk result (λ numbers. numbers.items ≡ zeros n) }
+{
+    vec![in alloc; 0; n]
+}
+
+/// The guarded word of an access, by its bit.
+#[tactic(auto, using(crate::proofs::FlagLemmas::stack_hit, crate::proofs::FlagLemmas::hit_below))]
+fn hit_in(numbers: &[u64], a: u32, n: u32) -> Option<u32>
+    requires some { 0 < n }
+    requires one_word { a % 4 + n ≤ 4 }
+    ensures { result ≡ guard_hit (flagged STACK_START (flags_of numbers.now)) a n }
+{
+    if a < STACK_START {
+        return None;
+    }
+    let i = ((a - STACK_START) / 4) as usize;
+    if flag(numbers, i) {
+        Some(a - a % 4)
+    } else {
+        None
+    }
+}
+
+#[tactic(auto, using(crate::proofs::FlagLemmas::flag_inside, crate::proofs::FlagLemmas::flag_outside))]
+fn flag(numbers: &[u64], i: usize) -> bool
+    ensures { result ≡ slice_index_or (flags_of numbers.now) i false }
+{
+    let k = i / NUMBER_BITS;
+    k < numbers.len() && (numbers[k] >> (i % NUMBER_BITS)) % 2 == 1
+}
+
+/// Sets the bit of the word at `a`.
+fn guard_word(numbers: &mut [u64], clear: &mut [usize], a: u32)
+    requires flags { AreFlags numbers.old clear.old }
+    requires aligned { a % 4 ≡ 0 }
+    requires low { STACK_START ≤ a }
+    requires high { a < STACK_END }
+    ensures set { flagged STACK_START (flags_of numbers.new) ≡ inserted a (flagged STACK_START (flags_of numbers.old)) }
+    ensures flags { AreFlags numbers.new clear.new }
+{
+    let i = ((a - STACK_START) / 4) as usize;
+    set_bit(numbers, i);
+    let number = i / NUMBER_BITS;
+    let home = number / HOME_NUMBERS;
+    clear[home] = clear[home].min(number % HOME_NUMBERS);
+}
+
+/// Sets the bit of a word.
+fn set_bit(numbers: &mut [u64], i: usize)
+    requires { i / NUMBER_BITS < length numbers.old }
+    ensures flags { flags_of numbers.new ≡ slice_set (flags_of numbers.old) i true }
+    ensures there { (k : ℕ) → k ≢ i / NUMBER_BITS → slice_index numbers.new k ≡ slice_index numbers.old k }
+{
+    numbers[i / NUMBER_BITS] |= 1 << (i % NUMBER_BITS);
+}
+
+/// How many words of the stack begin below `a`.
+fn words_below(a: u32) -> usize
+    ensures within { result ≤ STACK_WORDS }
+    ensures below { (i : ℕ) → i < result → STACK_START + 4 * i < a }
+    ensures rest { (i : ℕ) → result ≤ i → i < STACK_WORDS → a ≤ STACK_START + 4 * i }
+{
+    if a < STACK_START {
+        return 0;
+    }
+    (((a - STACK_START) as usize + 3) / 4).min(STACK_WORDS)
+}
+
+/// Clears the bits of the words below `a` from the home on that begins at `low`.
+fn release(numbers: &mut [u64], clear: &mut [usize], low: u32, a: u32)
+    requires flags { AreFlags numbers.old clear.old }
+    requires inside { STACK_START ≤ low }
+    requires below { low < STACK_END }
+    requires starts { (low - STACK_START) % HOME_SIZE ≡ 0 }
+    ensures kept { (high : ℕ) → flagged STACK_START (flags_of numbers.new) ≡ filter (stays_guarded (low, high) a) (flagged STACK_START (flags_of numbers.old)) }
+    ensures flags { AreFlags numbers.new clear.new }
+{
+    let first = ((low - STACK_START) / HOME_SIZE) as usize;
+    let end = words_below(a);
+    for home in first..HOMES {
+        clear[home] = release_in(numbers, clear[home], home, end);
+    }
+}
+
+/// Clears the bits of this home before the word `end`, and tells how many of its lowest numbers have no bit then.
+fn release_in(numbers: &mut [u64], clear: usize, home: usize, end: usize) -> usize
+    requires home { home < HOMES }
+    requires whole { length numbers.old ≡ NUMBERS }
+    requires clear { IsClear numbers.old home clear }
+    ensures released { Released numbers.old numbers.new (HOME_WORDS * home) (min end (HOME_WORDS * (home + 1))) }
+    ensures clear { IsClear numbers.new home result }
+    ensures others { (k : ℕ) → k / HOME_NUMBERS ≢ home → slice_index numbers.new k ≡ slice_index numbers.old k }
+{
+    let first = HOME_NUMBERS * home;
+    let end = end.min((first + HOME_NUMBERS) * NUMBER_BITS);
+    if end <= (first + clear) * NUMBER_BITS {
+        return clear;
+    }
+    clear_between(numbers, first + clear, end);
+    end / NUMBER_BITS - first
+}
+
+/// Clears the bits from those of the number `from` up to those before the word `end`.
+fn clear_between(numbers: &mut [u64], from: usize, end: usize)
+    requires whole { length numbers.old ≡ NUMBERS }
+    requires rises { from ≤ end / NUMBER_BITS }
+    requires within { end ≤ STACK_WORDS }
+    ensures { Cleared numbers.old numbers.new from end }
+{
+    let part = end / NUMBER_BITS;
+    for k in from..part {
+        numbers[k] = 0;
+    }
+    if end % NUMBER_BITS != 0 {
+        numbers[part] = bits_from(numbers[part], end % NUMBER_BITS);
+    }
+}
+
+/// A number without its bits before `from`.
+#[tactic(auto, using(crate::proofs::FlagLemmas::masked, std::proofs::lemmas::Nat::and_le_l))]
+fn bits_from(number: u64, from: usize) -> u64
+    requires { from < NUMBER_BITS }
+    ensures bits { (j : ℕ) → j < NUMBER_BITS → bit_at result j ≡ (if nat_lt j from then 0 else bit_at number j) }
+    ensures less { result ≤ number }
+{
+    number & (u64::MAX << from)
+}
