@@ -1,14 +1,19 @@
-//! Runs the cases of data/: calls over a pool, one after the other. A line is a question, ` : ` and the answer to
-//! it, by hand from docs/exceptions.md and IHI 0038.
+//! Runs the cases of data/: calls over a pool, one after the other; sequences of calls by chance, beside a model; and the lines of traces. A line is a
+//! question, ` : ` and the answer to it, by hand from docs/exceptions.md and IHI 0038.
 #![tactic(auto)]
 
 mod answers;
 mod calls;
+mod model;
+mod sequences;
+mod traces;
 mod words;
 
 use case_rows::{Asked, Unanswered, first_word, numbers, run_file};
+use sequences::Sequences;
 use std::alloc::Global;
 use std::io::Error;
+use traces::Traces;
 use words::Pool;
 
 /// Calls over a pool, with `; ` between them.
@@ -37,5 +42,6 @@ fn main(host: HostRuntime) -> Result<(), Error> {
     for name in ["calls.txt", "words.txt", "odd.txt"] {
         run_file(&host, name, &InPool)?;
     }
-    Ok(())
+    run_file(&host, "sequences.txt", &Sequences)?;
+    run_file(&host, "traces.txt", &Traces)
 }

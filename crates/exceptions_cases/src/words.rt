@@ -28,7 +28,7 @@ impl Pool {
     }
 
     /// Word `k` of a slot, and 0 of what isn't there.
-    fn word(&self, slot: u32, k: u32) -> u32 {
+    pub fn word(&self, slot: u32, k: u32) -> u32 {
         if slot < SLOTS && k < SLOT_WORDS {
             pool::get(&self.bus, slot, k)
         } else {
@@ -37,11 +37,26 @@ impl Pool {
     }
 
     /// Writes word `k` of a slot, where it is there.
-    fn put(&mut self, slot: u32, k: u32, value: u32) {
+    pub fn put(&mut self, slot: u32, k: u32, value: u32) {
         if slot < SLOTS && k < SLOT_WORDS {
             pool::set(&mut self.bus, slot, k, value);
         }
     }
+}
+
+/// The slots of a chain of control blocks, whose links stand in word `link`; at most 64 of them.
+pub fn chain(alloc: Global, pool: &Pool, head: u32, link: u32) -> Result<Vec<u32>, AllocError> {
+    let mut slots = Vec::new(alloc);
+    let mut at = head;
+    for _ in 0..64 {
+        if at < 0x3800_0028 || at >= 0x3800_8000 {
+            return Ok(slots);
+        }
+        let slot = (at - 0x3800_0028) / 512;
+        slots.push(slot)?;
+        at = pool.word(slot, link);
+    }
+    Ok(slots)
 }
 
 /// `word SLOT K`: word K of a slot.

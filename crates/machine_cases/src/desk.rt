@@ -20,14 +20,14 @@ pub struct Desk<'c> {
 }
 
 /// An empty input.
-fn source(alloc: Global) -> SureSource {
+pub fn source(alloc: Global) -> SureSource {
     SureSource {
         left: Bytes::of_vec(Vec::new(alloc)),
     }
 }
 
 /// An output that never fails.
-fn sink(alloc: Global) -> MemSink {
+pub fn sink(alloc: Global) -> MemSink {
     MemSink {
         written: Bytes::of_vec(Vec::new(alloc)),
         next: 1,

@@ -1,0 +1,76 @@
+//! Commands over files of the system or one in memory, and an output in memory.
+use eh_files::{FileList, HostFiles, MemFile, SureFiles};
+use eh_port::{Bytes, HostSink, SureSource};
+use ehabi_top::ehabi_main;
+use std::alloc::{AllocError, Global};
+use std::io::Error;
+
+/// What came of a command: what it wrote, and its status.
+#[derive(Drop)]
+pub struct Came {
+    pub written: Vec<u8>,
+    pub status: u8,
+}
+
+/// A file of a name.
+pub fn file(alloc: Global, name: &str, bytes: &[u8]) -> Result<MemFile, AllocError> {
+    Ok(MemFile {
+        name: Bytes::of_vec(name.as_bytes().to_vec(alloc)?),
+        bytes: Bytes::of_vec(bytes.to_vec(alloc)?),
+    })
+}
+
+fn source(input: Vec<u8>) -> SureSource {
+    SureSource {
+        left: Bytes::of_vec(input),
+    }
+}
+
+fn output(alloc: Global) -> HostSink<Vec<u8>> {
+    HostSink {
+        writer: Vec::new(alloc),
+        faults: 0,
+    }
+}
+
+/// What comes of `check` of a file of these bytes.
+pub fn checked(alloc: Global, bytes: &[u8]) -> Result<Came, AllocError> {
+    let mut list = Vec::new(alloc);
+    list.push(file(alloc, "x", bytes)?)?;
+    let mut files = SureFiles {
+        files: FileList::of_vec(list),
+    };
+    let mut input = source(Vec::new(alloc));
+    let mut out = output(alloc);
+    let status = ehabi_main(alloc, &["check", "x"], &mut files, &mut input, &mut out);
+    Ok(Came {
+        written: out.writer,
+        status,
+    })
+}
+
+/// What comes of a command over the files of the system and an input.
+pub fn called(host: &HostRuntime, words: &[&str], input: Vec<u8>) -> Came {
+    let alloc = host.alloc();
+    let mut files = HostFiles {
+        host,
+        faults: 0,
+        asked: 0,
+    };
+    let mut input = source(input);
+    let mut out = output(alloc);
+    let status = ehabi_main(alloc, words, &mut files, &mut input, &mut out);
+    Came {
+        written: out.writer,
+        status,
+    }
+}
+
+/// The bytes that `build` writes of a source of the folder where the program runs.
+pub fn built(host: &HostRuntime, source: &str) -> Result<Vec<u8>, Error> {
+    let Came { written, status } = called(host, &["build", source], Vec::new(host.alloc()));
+    if status != 0 {
+        println!(host; "{source} isn't built: status {status}")?;
+    }
+    Ok(written)
+}

@@ -1,7 +1,0 @@
-use denote.Text.{Utf8}
-use denote.Shadow.{shadow}
-use Rattle.ehabi_large.proofs.tell.Given as goal
-
--- the last line so far is text
-abbrev pub invariant-loop-line : goal.invariant-loop-line
-invariant-loop-line l = shadow (Utf8 l.last)

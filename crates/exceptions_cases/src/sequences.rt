@@ -1,0 +1,309 @@
+//! Sequences of calls by chance, beside the model: answers, words and lists are the same after each call (docs/exceptions.md). A function that
+//! compares says whether they are.
+ghost use Rattle.std.specs.Prelude.{◌<◌};
+
+use crate::model::{Held, Model, Phase, Running, block, object};
+use crate::words::{Pool, chain};
+use case_rows::{Asked, Unanswered, decimal};
+use eh_cxa::layout::{
+    BARRIER_OBJECT, CLEANUP_NEXT, CLEANUP_SITE, CLEANUP_SP, COUNT, DESTRUCTOR, NEXT_CAUGHT,
+    NEXT_CLEANUP, STATE, TYPE,
+};
+use eh_cxa::pool::{slot_of_block, slot_of_object};
+use eh_cxa::{
+    BarrierWords, CleanupWords, Globals, allocate, begin_catch, begin_cleanup, end_catch,
+    end_cleanup, free, innermost_sp, land, may_rethrow, may_throw, object_size, rethrow,
+    set_barrier, start_throw, thrown,
+};
+use rand_core::Rng;
+use rand_pcg::Pcg32;
+use std::alloc::{AllocError, Global};
+
+/// How many calls a sequence has, and how many slots it can reach.
+const CALLS: u32 = 32;
+
+const REACHED: u32 = 33;
+
+/// One of 0 to 15.
+fn roll(dice: &mut Pcg32) -> u32
+    ensures { result < 16 }
+{
+    dice.next_u32() / 0x1000_0000
+}
+
+/// A pool, and the model of it.
+#[derive(Drop)]
+struct Run {
+    pool: Pool,
+    model: Model,
+}
+
+fn start(alloc: Global) -> Result<Run, AllocError> {
+    Ok(Run {
+        pool: Pool::empty(alloc)?,
+        model: Model::new(alloc)?,
+    })
+}
+
+/// All slots are free again, whatever else stands in them.
+fn begin_again(run: &mut Run) {
+    for slot in 0..REACHED {
+        run.pool.put(slot, STATE, 0);
+    }
+    run.pool.globals = Globals::start();
+    run.model.clear();
+}
+
+/// Calls that take and give back slots.
+fn slots(run: &mut Run, dice: &mut Pcg32, slot: u32) -> bool {
+    if roll(dice) < 12 {
+        let size = roll(dice) * 26;
+        allocate(&mut run.pool.bus, size) == run.model.allocate(size)
+    } else {
+        free(&mut run.pool.bus, object(slot)) == run.model.free(slot)
+    }
+}
+
+/// A throw begins.
+fn throws(run: &mut Run, dice: &mut Pcg32, slot: u32) -> bool {
+    let (ty, destructor) = (dice.next_u32(), dice.next_u32());
+    let may = may_throw(&run.pool.bus, object(slot));
+    let wanted = run.model.throw(slot, ty, destructor);
+    let thrown = start_throw(
+        &mut run.pool.bus,
+        &mut run.pool.globals,
+        object(slot),
+        ty,
+        destructor,
+    );
+    may.is_ok() == wanted.is_ok() && thrown == wanted
+}
+
+/// The barrier of a slot is written.
+fn barriers(run: &mut Run, dice: &mut Pcg32, slot: u32) {
+    let ucb = block(slot);
+    let words = BarrierWords {
+        sp: dice.next_u32(),
+        object: dice.next_u32(),
+        desc: dice.next_u32(),
+        pointer: dice.next_u32(),
+    };
+    if let Some(_) = slot_of_block(ucb) {
+        set_barrier(&mut run.pool.bus, ucb, &words);
+        run.model.give(slot, words.object);
+    }
+}
+
+/// A handler is entered, where no cleanup of the throw is in progress.
+fn lands(run: &mut Run, slot: u32) {
+    let ucb = block(slot);
+    if run.model.runs(slot) {
+        return;
+    }
+    if let Some(_) = slot_of_block(ucb) {
+        land(&mut run.pool.bus, ucb);
+        run.model.land(slot);
+    }
+}
+
+/// Handlers begin.
+fn catches(run: &mut Run, slot: u32) -> Result<bool, AllocError> {
+    let wanted = run.model.catch(slot)?;
+    Ok(begin_catch(&mut run.pool.bus, &mut run.pool.globals, block(slot)) == wanted)
+}
+
+/// A handler throws again.
+fn throws_again(run: &mut Run) -> bool {
+    let may = may_rethrow(&run.pool.bus, &run.pool.globals);
+    let wanted = run.model.rethrow();
+    may == wanted && rethrow(&mut run.pool.bus, &mut run.pool.globals) == wanted
+}
+
+/// Handlers end or throw again.
+fn leaves(run: &mut Run, dice: &mut Pcg32) -> bool {
+    if roll(dice) < 8 {
+        end_catch(&mut run.pool.bus, &mut run.pool.globals) == run.model.end_catch()
+    } else {
+        throws_again(run)
+    }
+}
+
+/// A cleanup of a throw that has none in progress is entered.
+fn enters(run: &mut Run, dice: &mut Pcg32, slot: u32) -> Result<(), AllocError> {
+    let ucb = block(slot);
+    if run.model.at(slot).phase != Phase::Flying || run.model.runs(slot) {
+        return Ok(());
+    }
+    let words = CleanupWords {
+        next: dice.next_u32(),
+        sp: roll(dice),
+        site: dice.next_u32(),
+    };
+    if let Some(_) = slot_of_block(ucb) {
+        begin_cleanup(&mut run.pool.bus, &mut run.pool.globals, ucb, &words);
+        run.model.begin_cleanup(slot, words)?;
+    }
+    Ok(())
+}
+
+/// A cleanup ends, at its landing sp or at another.
+fn ends(run: &mut Run, dice: &mut Pcg32) -> bool {
+    let sp = match innermost_sp(&run.pool.bus, &run.pool.globals) {
+        Some(sp) if roll(dice) < 12 => sp,
+        Some(_) | None => roll(dice),
+    };
+    end_cleanup(&mut run.pool.bus, &mut run.pool.globals, sp) == run.model.end_cleanup(sp)
+}
+
+/// One call of those that chance names, for this slot: whether it answers what the model does.
+fn answers(run: &mut Run, dice: &mut Pcg32, slot: u32) -> Result<bool, AllocError> {
+    match roll(dice) / 2 {
+        0 => return Ok(slots(run, dice, slot)),
+        1 => return Ok(throws(run, dice, slot)),
+        2 => barriers(run, dice, slot),
+        3 => lands(run, slot),
+        4 => return catches(run, slot),
+        5 => return Ok(leaves(run, dice)),
+        6 => enters(run, dice, slot)?,
+        _ => return Ok(ends(run, dice)),
+    }
+    Ok(true)
+}
+
+/// The state word of a phase.
+fn state_word(phase: Phase) -> u32 {
+    match phase {
+        Phase::Free => 0,
+        Phase::Fresh => 1,
+        Phase::Flying => 2,
+        Phase::Landed => 3,
+        Phase::Caught => 4,
+        Phase::Ended => 5,
+    }
+}
+
+/// The number of a word that is read with its sign.
+fn signed(word: u32) -> i64 {
+    if word < 0x8000_0000 {
+        i64::from(word)
+    } else {
+        i64::from(word) - 0x1_0000_0000
+    }
+}
+
+/// The header of a slot, its count with its sign, and what its handler is given.
+fn is_header(pool: &Pool, slot: u32, held: &Held) -> bool {
+    pool.word(slot, TYPE) == held.ty
+        && pool.word(slot, DESTRUCTOR) == held.destructor
+        && signed(pool.word(slot, COUNT)) == held.handlers
+        && pool.word(slot, BARRIER_OBJECT) == held.given
+}
+
+/// The size of a slot's object, and what a throw of it says.
+fn is_thrown(pool: &Pool, slot: u32, held: &Held) -> bool {
+    let at = object(slot);
+    let ucb = block(slot);
+    if let (Some(_), Some(_)) = (slot_of_object(at), slot_of_block(ucb)) {
+        object_size(&pool.bus, at) == held.size && thrown(&pool.bus, ucb) == (at, held.ty)
+    } else {
+        false
+    }
+}
+
+/// The words of a slot say what the model holds.
+fn is_slot(pool: &Pool, slot: u32, held: &Held) -> bool {
+    pool.word(slot, STATE) == state_word(held.phase)
+        && (held.phase == Phase::Free
+            || (is_header(pool, slot, held) && is_thrown(pool, slot, held)))
+}
+
+/// The words of a cleanup in progress.
+fn is_cleanup(pool: &Pool, slot: u32, running: &Running) -> bool {
+    slot == running.slot
+        && pool.word(slot, CLEANUP_NEXT) == running.words.next
+        && pool.word(slot, CLEANUP_SP) == running.words.sp
+        && pool.word(slot, CLEANUP_SITE) == running.words.site
+}
+
+/// The slots of a chain are those of the cleanups in progress, with their words.
+fn are_cleanups(pool: &Pool, slots: &[u32], wanted: &[Running]) -> bool {
+    if slots.len() != wanted.len() {
+        return false;
+    }
+    for (slot, running) in slots.iter().zip(wanted) {
+        if !is_cleanup(pool, *slot, running) {
+            return false;
+        }
+    }
+    true
+}
+
+/// Both chains run as the model's lists, and as many are uncaught.
+fn are_lists(alloc: Global, run: &Run) -> Result<bool, AllocError> {
+    let caught = chain(alloc, &run.pool, run.pool.globals.caught, NEXT_CAUGHT)?;
+    let cleanups = chain(alloc, &run.pool, run.pool.globals.cleanup, NEXT_CLEANUP)?;
+    Ok(
+        caught.as_slice() == run.model.caught.as_slice()
+            && are_cleanups(
+                &run.pool,
+                cleanups.as_slice(),
+                run.model.cleanups.as_slice(),
+            )
+            && run.pool.globals.uncaught == run.model.uncaught,
+    )
+}
+
+/// The words of each slot say what the model holds, and the number uncaught is that of the exceptions that fly or have landed.
+fn are_slots(run: &Run) -> bool {
+    let mut flying = 0u32;
+    for slot in 0..REACHED {
+        let held = run.model.at(slot);
+        if !is_slot(&run.pool, slot, &held) {
+            return false;
+        }
+        if held.phase == Phase::Flying || held.phase == Phase::Landed {
+            flying = flying.wrapping_add(1);
+        }
+    }
+    run.pool.globals.uncaught == flying
+}
+
+/// One sequence: whether each call answers what the model does, with the slot that it names and the lists as the model has them after it,
+/// and all slots at the end.
+fn is_sequence(alloc: Global, run: &mut Run, dice: &mut Pcg32) -> Result<bool, AllocError> {
+    begin_again(run);
+    for _ in 0..CALLS {
+        let slot = roll(dice) / 4;
+        let answers = answers(run, dice, slot)?;
+        let held = run.model.at(slot);
+        if !answers || !is_slot(&run.pool, slot, &held) || !are_lists(alloc, run)? {
+            return Ok(false);
+        }
+    }
+    Ok(are_slots(run))
+}
+
+/// The first sequence of so many that doesn't do what the model does.
+fn first_other(alloc: Global, count: u32) -> Result<Option<u32>, AllocError> {
+    let mut dice = Pcg32::new(0x2545_f491, 0);
+    let mut run = start(alloc)?;
+    for number in 0..count {
+        if !is_sequence(alloc, &mut run, &mut dice)? {
+            return Ok(Some(number));
+        }
+    }
+    Ok(None)
+}
+
+/// Sequences of calls by chance.
+pub struct Sequences;
+
+impl Asked for Sequences {
+    /// `N`: so many sequences do what the model does, or the first one that doesn't.
+    fn answer(&self, alloc: Global, question: &str) -> Result<String, Unanswered> {
+        match first_other(alloc, decimal(question)?)? {
+            None => Ok(format!(in alloc; "as the model")?),
+            Some(number) => Ok(format!(in alloc; "sequence {number} differs")?),
+        }
+    }
+}
