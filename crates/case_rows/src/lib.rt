@@ -2,10 +2,13 @@
 //! what the lines below it are about. A program says how a question is answered; its cases stand in its data/.
 #![tactic(auto)]
 
+pub mod growing;
+pub mod lists;
 pub mod rows;
 pub mod unanswered;
 pub mod words;
 
+pub use growing::{Telling, Text, run_telling};
 pub use rows::{Asked, run_file};
 pub use unanswered::{Unanswered, want_of_memory};
 pub use words::{decimal, first_word, number, number_at, numbers};
