@@ -4,11 +4,13 @@
 #![tactic(auto)]
 
 pub mod draft;
+pub mod forms;
 pub mod text;
 pub mod vtables;
 pub mod words;
 
 pub use draft::{Draft, opened};
+pub use forms::{image_by, image_of_text, opened_in};
 pub use text::image_of;
 pub use vtables::{first_word_of, put_vtables};
 pub use words::put_words;
