@@ -1,15 +1,14 @@
 //! Accesses of a memory one after the other, and what each answers (docs/memory-map.md): `load8 ADDRESS`, `store8 ADDRESS VALUE`,
 //! the same of 16 and 32 bits, `fetch ADDRESS`, `run ADDRESS WORDS`, `guard ADDRESS`, `release ADDRESS`, `pool_load ADDRESS`,
-//! `pool_store ADDRESS VALUE` and `home`. A function answers None where an access is none of these, or memory is wanting.
-use crate::numbers::number;
-use case_rows::first_word;
+//! `pool_store ADDRESS VALUE` and `home`. A guard, a release and a store of the pool answer nothing.
+use case_rows::{Text, Unanswered, first_word};
 use eh_bus::bus::Bus;
 use eh_bus::fault::BusFault;
 use eh_bus::map::{POOL_END, POOL_START, STACK_END, STACK_START};
-use std::alloc::{AllocError, Global};
+use std::fmt::Radix;
 
 /// Adds why an access is refused, and its address.
-fn push_fault(answer: &mut String, fault: BusFault) -> Result<(), AllocError> {
+fn say_fault(text: &mut Text, fault: BusFault) {
     let (why, address) = match fault {
         BusFault::Unmapped(address) => ("unmapped", address),
         BusFault::Unaligned(address) => ("unaligned", address),
@@ -18,141 +17,98 @@ fn push_fault(answer: &mut String, fault: BusFault) -> Result<(), AllocError> {
         BusFault::Protected(address) => ("protected", address),
         BusFault::NotExecutable(address) => ("not executable", address),
     };
-    write!(answer, "{why} {address:X};")
+    write!(text, "{why} {address:X};");
 }
 
-fn push_loaded(answer: &mut String, loaded: Result<u32, BusFault>) -> Result<(), AllocError> {
+fn say_loaded<N: Radix + Copy>(text: &mut Text, loaded: Result<N, BusFault>) {
     match loaded {
-        Ok(word) => write!(answer, "{word:X};"),
-        Err(fault) => push_fault(answer, fault),
+        Ok(number) => write!(text, "{number:X};"),
+        Err(fault) => say_fault(text, fault),
     }
 }
 
-fn push_stored(answer: &mut String, stored: Result<(), BusFault>) -> Result<(), AllocError> {
+fn say_stored(text: &mut Text, stored: Result<(), BusFault>) {
     match stored {
-        Ok(()) => answer.push_str("done;"),
-        Err(fault) => push_fault(answer, fault),
+        Ok(()) => text.say("done;"),
+        Err(fault) => say_fault(text, fault),
     }
 }
 
-fn load8<B: Bus>(bus: &B, a: u32) -> Result<u32, BusFault> {
-    Ok(u32::from(bus.load8(a)?))
-}
-
-fn load16<B: Bus>(bus: &B, a: u32) -> Result<u32, BusFault> {
-    Ok(u32::from(bus.load16(a)?))
-}
-
-fn fetch<B: Bus>(bus: &B, a: u32) -> Result<u32, BusFault> {
-    Ok(u32::from(bus.fetch16(a)?))
-}
-
-/// A store of the lowest bits of a value.
-fn store<B: Bus>(bus: &mut B, what: &str, a: u32, value: u32) -> Option<Result<(), BusFault>> {
+/// Adds what stands at an address.
+fn say_load<B: Bus>(text: &mut Text, bus: &B, what: &str, a: u32) {
     match what {
-        "store8" => Some(bus.store8(a, (value % 256) as u8)),
-        "store16" => Some(bus.store16(a, (value % 65_536) as u16)),
-        "store32" => Some(bus.store32(a, value)),
-        _ => None,
+        "load8" => say_loaded(text, bus.load8(a)),
+        "load16" => say_loaded(text, bus.load16(a)),
+        "load32" => say_loaded(text, bus.load32(a)),
+        _ => say_loaded(text, bus.fetch16(a)),
     }
 }
 
-/// A store of words one after the other.
-fn store_run<B: Bus>(
-    alloc: Global,
-    bus: &mut B,
-    a: u32,
-    words: &str,
-) -> Option<Result<(), BusFault>> {
-    let mut run = Vec::new(alloc);
-    for word in words.split(' ') {
-        run.push(number(word)?).ok()?;
+/// Stores the lowest bits of a value.
+fn say_store<B: Bus>(text: &mut Text, bus: &mut B, what: &str, a: u32, value: u32) {
+    match what {
+        "store8" => say_stored(text, bus.store8(a, (value % 256) as u8)),
+        "store16" => say_stored(text, bus.store16(a, (value % 65_536) as u16)),
+        "store32" => say_stored(text, bus.store32(a, value)),
+        _ => text.refuse(Unanswered::NotKnown),
     }
-    Some(bus.store_run(a, run.as_slice()))
+}
+
+/// Stores words one after the other.
+fn say_run<B: Bus>(text: &mut Text, bus: &mut B, a: u32, words: &str) {
+    let run = text.numbers(words);
+    say_stored(text, bus.store_run(a, &run));
 }
 
 /// Guards a word of the stack.
-fn guard<B: Bus>(bus: &mut B, a: u32) -> Option<()> {
-    if a % 4 != 0 || a < STACK_START || a >= STACK_END {
-        return None;
+fn guard<B: Bus>(text: &mut Text, bus: &mut B, a: u32) {
+    if a % 4 == 0 && a >= STACK_START && a < STACK_END {
+        bus.guard(a);
+    } else {
+        text.refuse(Unanswered::Because("no word of the stack"));
     }
-    bus.guard(a);
-    Some(())
 }
 
-/// Stores a word of the pool as the machine itself does.
-fn store_pool<B: Bus>(bus: &mut B, a: u32, value: u32) -> Option<()> {
+/// Loads or stores a word of the pool as the machine itself does.
+fn say_pool<B: Bus>(text: &mut Text, bus: &mut B, what: &str, a: u32, words: &str) {
     if a % 4 != 0 || a < POOL_START || a >= POOL_END {
-        return None;
+        return text.refuse(Unanswered::Because("no word of the pool"));
     }
-    bus.host_store32(a, value);
-    Some(())
+    if what == "pool_load" {
+        let loaded = bus.host_load32(a);
+        write!(text, "{loaded:X};");
+    } else {
+        bus.host_store32(a, text.hex(words));
+    }
 }
 
-/// Adds a word of the pool, loaded as the machine itself does.
-fn push_pool<B: Bus>(answer: &mut String, bus: &B, a: u32) -> Option<()> {
-    if a % 4 != 0 || a < POOL_START || a >= POOL_END {
-        return None;
-    }
-    let loaded = bus.host_load32(a);
-    write!(answer, "{loaded:X};").ok()
-}
-
-fn push_home<B: Bus>(answer: &mut String, bus: &B) -> Option<()> {
+fn say_home<B: Bus>(text: &mut Text, bus: &B) {
     let (start, end) = bus.home();
-    write!(answer, "{start:X} to {end:X};").ok()
+    write!(text, "{start:X} to {end:X};");
 }
 
 /// Adds what an access of an address answers.
-fn push_access<B: Bus>(
-    alloc: Global,
-    answer: &mut String,
-    bus: &mut B,
-    what: &str,
-    a: u32,
-    words: &str,
-) -> Option<()> {
+fn say_at<B: Bus>(text: &mut Text, bus: &mut B, what: &str, a: u32, words: &str) {
     match what {
-        "load8" => push_loaded(answer, load8(bus, a)).ok(),
-        "load16" => push_loaded(answer, load16(bus, a)).ok(),
-        "load32" => push_loaded(answer, bus.load32(a)).ok(),
-        "fetch" => push_loaded(answer, fetch(bus, a)).ok(),
-        "run" => push_stored(answer, store_run(alloc, bus, a, words)?).ok(),
-        "guard" => guard(bus, a),
-        "release" => {
-            bus.release_below(a);
-            Some(())
+        "load8" | "load16" | "load32" | "fetch" => say_load(text, bus, what, a),
+        "run" => say_run(text, bus, a, words),
+        "guard" => guard(text, bus, a),
+        "release" => bus.release_below(a),
+        "pool_load" | "pool_store" => say_pool(text, bus, what, a, words),
+        _ => {
+            let value = text.hex(words);
+            say_store(text, bus, what, a, value);
         }
-        "pool_load" => push_pool(answer, bus, a),
-        "pool_store" => store_pool(bus, a, number(words)?),
-        _ => push_stored(answer, store(bus, what, a, number(words)?)?).ok(),
     }
 }
 
-/// Adds what an access answers; a guard, a release and a store of the pool answer nothing.
-pub fn push_answer<B: Bus>(
-    alloc: Global,
-    answer: &mut String,
-    bus: &mut B,
-    access: &str,
-) -> Option<()> {
+/// Adds what an access answers.
+pub fn say_access<B: Bus>(text: &mut Text, bus: &mut B, access: &str) {
     let (what, words) = first_word(access);
     if what == "home" {
-        return push_home(answer, bus);
+        say_home(text, bus);
+    } else {
+        let (a, words) = text.first_hex(words);
+        say_at(text, bus, what, a, words);
     }
-    let (a, words) = first_word(words);
-    push_access(alloc, answer, bus, what, number(a)?, words)
-}
-
-/// Adds what accesses answer one after the other.
-pub fn push_answers<B: Bus>(
-    alloc: Global,
-    answer: &mut String,
-    bus: &mut B,
-    question: &str,
-) -> Option<()> {
-    for access in question.split(", ") {
-        push_answer(alloc, answer, bus, access)?;
-    }
-    Some(())
 }

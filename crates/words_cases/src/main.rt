@@ -7,16 +7,38 @@ mod accesses;
 mod memories;
 mod numbers;
 
-use case_rows::run_file;
+use case_rows::{Telling, Text, run_telling};
 use memories::Memory;
-use numbers::Numbers;
 use std::io::Error;
 
+/// What the rows of a file ask.
+enum About {
+    Numbers,
+    Memory(Memory),
+}
+
+/// The files of rows in the order in which they are asked.
+static FILES: [(&str, About); 6] = [
+    ("numbers.txt", About::Numbers),
+    ("sample.txt", About::Memory(Memory::SampleFlat)),
+    ("sample.txt", About::Memory(Memory::SamplePaged)),
+    ("two_pages.txt", About::Memory(Memory::TwoPages)),
+    ("touching.txt", About::Memory(Memory::Touching)),
+    ("last_bytes.txt", About::Memory(Memory::LastBytes)),
+];
+
+impl Telling for About {
+    fn tell(&self, text: &mut Text, question: &str) {
+        match self {
+            About::Numbers => numbers::tell(text, question),
+            About::Memory(memory) => memories::tell(text, memory, question),
+        }
+    }
+}
+
 fn main(host: HostRuntime) -> Result<(), Error> {
-    run_file(&host, "numbers.txt", &Numbers)?;
-    run_file(&host, "sample.txt", &Memory::SampleFlat)?;
-    run_file(&host, "sample.txt", &Memory::SamplePaged)?;
-    run_file(&host, "two_pages.txt", &Memory::TwoPages)?;
-    run_file(&host, "touching.txt", &Memory::Touching)?;
-    run_file(&host, "last_bytes.txt", &Memory::LastBytes)
+    for (name, about) in FILES.iter() {
+        run_telling(&host, *name, about)?;
+    }
+    Ok(())
 }

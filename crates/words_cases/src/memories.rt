@@ -1,11 +1,10 @@
 //! The memories that are accessed: segments one after the other or in pages.
 ghost use Rattle.eh_bus.specs.Built.{CanBuild};
 
-use crate::accesses::{push_answer, push_answers};
-use crate::numbers::number;
+use crate::accesses::say_access;
 use bus_memories::flat::FlatBus;
 use bus_memories::paged::PagedBus;
-use case_rows::{Asked, Unanswered, first_word};
+use case_rows::{Text, first_word};
 use eh_bus::fault::BusMemory;
 use eh_bus::segment::SegmentSpec;
 use std::alloc::Global;
@@ -47,14 +46,16 @@ fn sample<'a>() -> [SegmentSpec<'a>; 2]
     [code, data]
 }
 
+/// What stands in two pages.
+static TWO_PAGES: [u8; 32] = [
+    0, 1, 2, 3, 4, 5, 6, 7, 8, 9, 10, 11, 12, 13, 14, 15, 16, 17, 18, 19, 20, 21, 22, 23, 24, 25,
+    26, 27, 28, 29, 30, 31,
+];
+
 fn two_pages(alloc: Global) -> Result<PagedBus, BusMemory> {
-    let bytes = [
-        0, 1, 2, 3, 4, 5, 6, 7, 8, 9, 10, 11, 12, 13, 14, 15, 16, 17, 18, 19, 20, 21, 22, 23, 24,
-        25, 26, 27, 28, 29, 30, 31,
-    ];
     let data = SegmentSpec {
         start: 0x8ff0,
-        bytes: &bytes,
+        bytes: &TWO_PAGES,
         size: 32,
         write: true,
         exec: false,
@@ -96,72 +97,60 @@ fn byte_of_page(bus: &PagedBus, number: u32, place: usize) -> Option<u8> {
     bus.page(number)?.get(place).copied()
 }
 
-fn push_byte(answer: &mut String, bus: &PagedBus, words: &str) -> Option<()> {
-    let (page, place) = first_word(words);
-    match byte_of_page(bus, number(page)?, place.parse().ok()?) {
-        Some(byte) => write!(answer, "{byte:X};").ok(),
-        None => answer.push_str("none;").ok(),
+fn say_byte(text: &mut Text, bus: &PagedBus, words: &str) {
+    let (page, place) = text.first_hex(words);
+    let place = text.decimal(place) as usize;
+    match byte_of_page(bus, page, place) {
+        Some(byte) => write!(text, "{byte:X};"),
+        None => text.say("none;"),
     }
 }
 
 /// Adds what an access of pages answers.
-fn push_of_pages(
-    alloc: Global,
-    answer: &mut String,
-    bus: &mut PagedBus,
-    access: &str,
-) -> Option<()> {
+fn say_of_pages(text: &mut Text, bus: &mut PagedBus, access: &str) {
     let (what, words) = first_word(access);
     match what {
         "pages" => {
             let count = bus.page_count();
-            write!(answer, "{count};").ok()
+            write!(text, "{count};");
         }
-        "byte" => push_byte(answer, bus, words),
-        _ => push_answer(alloc, answer, bus, access),
+        "byte" => say_byte(text, bus, words),
+        _ => say_access(text, bus, access),
     }
 }
 
 /// Adds what accesses of pages answer.
-fn push_paged(
-    alloc: Global,
-    answer: &mut String,
-    built: Result<PagedBus, BusMemory>,
-    question: &str,
-) -> Option<()> {
-    let mut bus = built.ok()?;
-    for access in question.split(", ") {
-        push_of_pages(alloc, answer, &mut bus, access)?;
-    }
-    Some(())
-}
-
-fn push_flat(alloc: Global, answer: &mut String, question: &str) -> Option<()> {
-    let mut bus = FlatBus::build(alloc, &sample()).ok()?;
-    push_answers(alloc, answer, &mut bus, question)
-}
-
-impl Memory {
-    /// Adds what accesses of the memory answer.
-    fn push(&self, alloc: Global, answer: &mut String, question: &str) -> Option<()> {
-        match self {
-            Memory::SampleFlat => push_flat(alloc, answer, question),
-            Memory::SamplePaged => {
-                push_paged(alloc, answer, PagedBus::build(alloc, &sample()), question)
+fn tell_paged(text: &mut Text, built: Result<PagedBus, BusMemory>, question: &str) {
+    match built {
+        Ok(mut bus) => {
+            for access in question.split(", ") {
+                say_of_pages(text, &mut bus, access);
             }
-            Memory::TwoPages => push_paged(alloc, answer, two_pages(alloc), question),
-            Memory::Touching => push_paged(alloc, answer, touching(alloc), question),
-            Memory::LastBytes => push_paged(alloc, answer, last_bytes(alloc), question),
         }
+        Err(_fault) => text.want_memory(),
     }
 }
 
-impl Asked for Memory {
-    fn answer(&self, alloc: Global, question: &str) -> Result<String, Unanswered> {
-        let mut answer = String::new(alloc);
-        match self.push(alloc, &mut answer, question) {
-            Some(()) => Ok(answer),
-            None => Err(Unanswered::Because("an access is none")),
+/// Adds what accesses of segments answer.
+fn tell_flat(text: &mut Text, built: Result<FlatBus, BusMemory>, question: &str) {
+    match built {
+        Ok(mut bus) => {
+            for access in question.split(", ") {
+                say_access(text, &mut bus, access);
+            }
         }
+        Err(_fault) => text.want_memory(),
+    }
+}
+
+/// Adds what accesses of a memory answer.
+pub fn tell(text: &mut Text, memory: &Memory, question: &str) {
+    let alloc = text.alloc();
+    match memory {
+        Memory::SampleFlat => tell_flat(text, FlatBus::build(alloc, &sample()), question),
+        Memory::SamplePaged => tell_paged(text, PagedBus::build(alloc, &sample()), question),
+        Memory::TwoPages => tell_paged(text, two_pages(alloc), question),
+        Memory::Touching => tell_paged(text, touching(alloc), question),
+        Memory::LastBytes => tell_paged(text, last_bytes(alloc), question),
     }
 }
