@@ -1,106 +1,151 @@
-//! Answers in words. Numbers are hexadecimal but for those that a refusal names.
-use case_rows::Unanswered;
-use eh_index::fault::IndexFault;
+//! What is told of files and images. Numbers are hexadecimal but for those that a refusal names.
+use case_images::opened_in;
+use case_rows::{Text, Unanswered};
 use eh_index::index::Index;
-use elf_image::fault::ImageFault;
 use elf_image::image::Image;
 use elf_image::read::read_image;
-use std::alloc::{AllocError, Global};
 use unwind_codes::row::{Entry, EntryBody};
 
-pub fn said(alloc: Global, text: &str) -> Result<String, Unanswered> {
-    Ok(String::from_str(alloc, text)?)
-}
-
-pub fn yes_or_no(alloc: Global, is_so: bool) -> Result<String, Unanswered> {
-    said(alloc, if is_so { "yes" } else { "no" })
-}
-
-/// A word, where there is one.
-pub fn word(alloc: Global, word: Option<u32>) -> Result<String, Unanswered> {
-    match word {
-        Some(word) => Ok(format!(in alloc; "{word:X}")?),
-        None => said(alloc, "none"),
+/// Adds what a file is read as: its entry, how many segments, functions and symbols of types it has, where its index stands, and that index's
+/// bytes; or why there is no image.
+pub fn say_file(text: &mut Text, file: &[u8]) {
+    match read_image(text.alloc(), file) {
+        Ok(image) => say_image(text, &image),
+        Err(why) => write!(text, "{why:?}"),
     }
 }
 
-/// A number of bytes or the place of a function, where there is one.
-pub fn place(alloc: Global, place: Option<usize>) -> Result<String, Unanswered> {
-    match place {
-        Some(place) => Ok(format!(in alloc; "{place:X}")?),
-        None => said(alloc, "none"),
-    }
-}
-
-/// Adds bytes, two digits each.
-pub fn push_bytes(text: &mut String, bytes: &[u8]) -> Result<(), AllocError> {
-    for byte in bytes {
-        write!(text, " {byte:02X}")?;
-    }
-    Ok(())
-}
-
-/// Why there is no image.
-pub fn fault(alloc: Global, fault: ImageFault) -> Result<String, Unanswered> {
-    Ok(format!(in alloc; "{fault:?}")?)
-}
-
-/// The entry of an image, and how many segments, functions and symbols of types it has.
-fn parts(alloc: Global, image: &Image) -> Result<String, AllocError> {
+fn say_image(text: &mut Text, image: &Image) {
     let entry = image.entry();
     let segments = image.segments().len();
     let functions = image.functions().len();
     let types = image.type_symbols().len();
-    format!(in alloc; "entry {entry:X}, segments {segments}, functions {functions}, types {types}")
+    let index = image.index_start();
+    write!(
+        text,
+        "entry {entry:X}, segments {segments}, functions {functions}, types {types}, index {index:X}:"
+    );
+    say_bytes(text, image.index_bytes());
 }
 
-/// Adds where the index of an image stands, and its bytes.
-fn push_index(text: &mut String, image: &Image) -> Result<(), AllocError> {
-    let start = image.index_start();
-    write!(text, ", index {start:X}:")?;
-    push_bytes(text, image.index_bytes())
-}
-
-fn image(alloc: Global, image: &Image) -> Result<String, Unanswered> {
-    let mut text = parts(alloc, image)?;
-    push_index(&mut text, image)?;
-    Ok(text)
-}
-
-/// What a file is read as.
-pub fn file(alloc: Global, file: &[u8]) -> Result<String, Unanswered> {
-    match read_image(alloc, file) {
-        Ok(read) => image(alloc, &read),
-        Err(why) => fault(alloc, why),
+/// Adds bytes, two digits each.
+fn say_bytes(text: &mut Text, bytes: &[u8]) {
+    for byte in bytes {
+        write!(text, " {byte:02X}");
     }
 }
 
-/// Why an index isn't read.
-fn index_fault(alloc: Global, fault: IndexFault) -> Result<String, Unanswered> {
-    Ok(format!(in alloc; "{fault:?}")?)
+pub fn say_whether(text: &mut Text, is_so: bool) {
+    text.say(if is_so { "yes" } else { "no" });
 }
 
-/// How many rows the index of an image has, or why it isn't read.
-pub fn rows(alloc: Global, image: &Image) -> Result<String, Unanswered> {
-    match Index::read(image) {
-        Ok(index) => {
-            if index.is_empty() {
-                said(alloc, "empty")
-            } else {
-                place(alloc, Some(index.len()))
-            }
+/// Adds a word, where there is one.
+fn say_word(text: &mut Text, word: Option<u32>) {
+    match word {
+        Some(word) => text.say_hex(word),
+        None => text.say("none"),
+    }
+}
+
+/// Adds the place of a function, where there is one.
+fn say_place(text: &mut Text, place: Option<usize>) {
+    match place {
+        Some(place) => write!(text, "{place:X}"),
+        None => text.say("none"),
+    }
+}
+
+/// Tells of the image of a file.
+///
+/// - `rows` and `read`: how many rows its index has, or why they aren't read
+/// - `symbol NAME`: its address
+/// - `function ADDRESS`, `code ADDRESS`, `word ADDRESS`: which function holds an address, whether it is code, and the word there
+/// - `entry ADDRESS` and `find ADDRESS`: the entry that covers an address
+/// - `table ADDRESS`: the first four bytes from that entry's table on, and how many there are
+pub fn tell_of_image(text: &mut Text, file: &[u8], what: &str, rest: &str) {
+    if let Some(image) = opened_in(text, file) {
+        say_in_image(text, &image, what, rest);
+    }
+}
+
+fn say_in_image(text: &mut Text, image: &Image, what: &str, rest: &str) {
+    match what {
+        "rows" | "read" => say_rows(text, image),
+        "symbol" => say_word(text, image.symbol(rest.as_bytes())),
+        _ => {
+            let a = text.hex(rest);
+            say_at(text, image, what, a);
         }
-        Err(why) => index_fault(alloc, why),
     }
 }
 
-/// An entry: where its function begins, and what unwinds it.
-pub fn entry(alloc: Global, entry: &Entry) -> Result<String, Unanswered> {
-    let (kind, word) = match entry.body {
+fn say_rows(text: &mut Text, image: &Image) {
+    match Index::read(image) {
+        Ok(index) => say_count(text, index.len()),
+        Err(why) => write!(text, "{why:?}"),
+    }
+}
+
+fn say_count(text: &mut Text, count: usize) {
+    if count == 0 {
+        text.say("empty");
+    } else {
+        write!(text, "{count:X}");
+    }
+}
+
+/// Tells of an address in an image.
+fn say_at(text: &mut Text, image: &Image, what: &str, a: u32) {
+    match what {
+        "function" => say_place(text, image.function_of(a)),
+        "code" => say_whether(text, image.is_code(a)),
+        "word" => say_word(text, image.read_word(a)),
+        _ => say_in_index(text, image, what, a),
+    }
+}
+
+/// Tells of the entry that covers an address.
+fn say_in_index(text: &mut Text, image: &Image, what: &str, a: u32) {
+    let Ok(index) = Index::read(image) else {
+        return text.refuse(Unanswered::Because("no index"));
+    };
+    match index.find(a) {
+        Some(entry) => say_found(text, &index, &entry, what),
+        None => text.say("none"),
+    }
+}
+
+fn say_found(text: &mut Text, index: &Index, entry: &Entry, what: &str) {
+    match what {
+        "entry" | "find" => say_entry(text, entry),
+        "table" => say_table(text, index.table(entry)),
+        _ => text.refuse(Unanswered::NotKnown),
+    }
+}
+
+/// What unwinds a function.
+fn kind_of(body: EntryBody) -> (&'static str, u32) {
+    match body {
         EntryBody::CantUnwind => ("can't unwind", 0),
         EntryBody::Inline(word) => ("inline", word),
         EntryBody::Table(address) => ("table", address),
-    };
+    }
+}
+
+/// Adds an entry: where its function begins, and what unwinds it.
+fn say_entry(text: &mut Text, entry: &Entry) {
+    let (kind, word) = kind_of(entry.body);
     let start = entry.start;
-    Ok(format!(in alloc; "{start:X} {kind} {word:X}")?)
+    write!(text, "{start:X} {kind} {word:X}");
+}
+
+fn say_table(text: &mut Text, table: Option<&[u8]>) {
+    match table {
+        Some(bytes) => {
+            let count = bytes.len();
+            write!(text, "{count:X}:");
+            say_bytes(text, bytes.get(..4).unwrap_or(bytes));
+        }
+        None => text.say("none"),
+    }
 }

@@ -1,94 +1,51 @@
-//! The file by hand: what is read of it and of it with changes, and of which parts it is written.
-use crate::answers;
-use crate::parts::written;
-use case_images::opened;
-use case_rows::{Asked, Unanswered, first_word, number, number_at, numbers};
-use eh_index::index::Index;
-use elf_image::image::Image;
-use std::alloc::{AllocError, Global};
+//! The file by hand: what is read of it and of it with changes, and of which parts it is written. Its text has lines of bytes, two digits
+//! each, and lines with a `#` that say what they are.
+use crate::answers::{say_file, tell_of_image};
+use crate::parts::{copy_of, say_written};
+use case_rows::{Text, Unanswered, first_word};
+use elf_image::fault::ImageFault;
+use elf_image::read::read_image;
+use std::alloc::Global;
 
-/// What the file by hand is asked. Its text has lines of bytes, two digits each, and lines with a `#` that say what they are.
-#[derive(Drop)]
-pub struct ByHand<'a> {
-    pub text: &'a str,
+/// What the file by hand is asked: `read`, `first FROM TO`, `changed AT BYTE..`, `second KIND ADDRESS SIZE` and `written ENTRY START`, and
+/// what its image is.
+pub fn tell(text: &mut Text, lines: &str, question: &str) {
+    let (what, rest) = first_word(question);
+    let mut file = bytes_of(text, lines);
+    tell_of_file(text, &mut file, what, rest);
 }
 
-fn push_line(bytes: &mut Vec<u8>, words: &str) -> Result<(), Unanswered> {
-    for word in words.split(' ') {
-        bytes.push((number(word)? % 256) as u8)?;
+fn tell_of_file(text: &mut Text, file: &mut Vec<u8>, what: &str, rest: &str) {
+    match what {
+        "read" => say_file(text, file),
+        "first" => say_first(text, file, rest),
+        "changed" => say_changed(text, file, rest),
+        "second" => say_second(text, file, rest),
+        "written" => say_written(text, file, rest),
+        _ => tell_of_image(text, file, what, rest),
     }
-    Ok(())
+}
+
+/// Adds bytes, if there is memory.
+fn push(text: &mut Text, bytes: &mut Vec<u8>, more: &[u8]) {
+    text.note(bytes.extend_from_slice(more));
+}
+
+/// Adds the bytes of a line.
+fn push_line(text: &mut Text, bytes: &mut Vec<u8>, line: &str) {
+    if !line.starts_with('#') {
+        let more = text.bytes(line);
+        push(text, bytes, &more);
+    }
 }
 
 /// The bytes of a text.
-fn bytes_of(alloc: Global, text: &str) -> Result<Vec<u8>, Unanswered> {
-    let mut bytes = Vec::new(alloc);
-    for line in text.lines() {
-        if !line.starts_with('#') {
-            push_line(&mut bytes, line)?;
-        }
+fn bytes_of(text: &mut Text, lines: &str) -> Vec<u8> {
+    let mut bytes = Vec::new(text.alloc());
+    for line in lines.lines() {
+        push_line(text, &mut bytes, line);
     }
-    Ok(bytes)
-}
-
-impl<'a> Asked for ByHand<'a> {
-    fn answer(&self, alloc: Global, question: &str) -> Result<String, Unanswered> {
-        let (what, rest) = first_word(question);
-        let file = bytes_of(alloc, self.text)?;
-        match what {
-            "symbol" => symbol(alloc, &file, rest),
-            _ => by_numbers(alloc, &file, what, &numbers(alloc, rest)?),
-        }
-    }
-}
-
-/// What is asked by numbers.
-fn by_numbers(alloc: Global, file: &[u8], what: &str, given: &[u32]) -> Result<String, Unanswered> {
-    match what {
-        "read" => answers::file(alloc, file),
-        "first" => first(alloc, file, given),
-        "changed" => changed(alloc, file, given),
-        "second" => second(alloc, file, given),
-        "written" => written(alloc, file, given),
-        _ => in_image(alloc, &opened(alloc, file)?, what, given),
-    }
-}
-
-/// `rows`: how many rows its index has.
-fn in_image(alloc: Global, image: &Image, what: &str, given: &[u32]) -> Result<String, Unanswered> {
-    match what {
-        "rows" => answers::rows(alloc, image),
-        _ => at_address(alloc, image, what, number_at(given, 0)?),
-    }
-}
-
-/// `function ADDRESS`, `code ADDRESS`, `word ADDRESS` and `entry ADDRESS`: which function holds an address, whether it is code, the word
-/// there, and the entry that covers it.
-fn at_address(alloc: Global, image: &Image, what: &str, a: u32) -> Result<String, Unanswered> {
-    match what {
-        "function" => answers::place(alloc, image.function_of(a)),
-        "code" => answers::yes_or_no(alloc, image.is_code(a)),
-        "word" => answers::word(alloc, image.read_word(a)),
-        "entry" => covering(alloc, image, a),
-        _ => Err(Unanswered::NotKnown),
-    }
-}
-
-/// The entry that covers an address.
-pub fn covering(alloc: Global, image: &Image, a: u32) -> Result<String, Unanswered> {
-    let Ok(index) = Index::read(image) else {
-        return Err(Unanswered::Because("no index"));
-    };
-    match index.find(a) {
-        Some(entry) => answers::entry(alloc, &entry),
-        None => answers::said(alloc, "none"),
-    }
-}
-
-/// `symbol NAME`: its address.
-fn symbol(alloc: Global, file: &[u8], name: &str) -> Result<String, Unanswered> {
-    let image = opened(alloc, file)?;
-    answers::word(alloc, image.symbol(name.as_bytes()))
+    bytes
 }
 
 /// The first bytes of a file.
@@ -96,65 +53,73 @@ fn first_bytes(file: &[u8], count: u32) -> &[u8] {
     file.get(..count as usize).unwrap_or(file)
 }
 
-/// `first FROM TO`: what the first bytes of the file are read as, where that is the same of each count of them from one up to another.
-fn first(alloc: Global, file: &[u8], given: &[u32]) -> Result<String, Unanswered> {
-    let [from, to] = given else {
-        return Err(Unanswered::NoWord);
-    };
-    let answer = answers::file(alloc, first_bytes(file, *from))?;
-    for count in *from..*to {
-        let other = answers::file(alloc, first_bytes(file, count.wrapping_add(1)))?;
-        if other.as_str() != answer.as_str() {
-            return Ok(other);
+/// Why bytes stand for no image; None where they do.
+fn fault_of(alloc: Global, file: &[u8]) -> Option<ImageFault> {
+    match read_image(alloc, file) {
+        Ok(_image) => None,
+        Err(why) => Some(why),
+    }
+}
+
+/// Whether the first bytes of a file are refused for the same reason, whatever their count from one up to another.
+fn is_same(alloc: Global, file: &[u8], from: u32, to: u32) -> bool {
+    let fault = fault_of(alloc, first_bytes(file, from));
+    for count in from..to {
+        let other = fault_of(alloc, first_bytes(file, count.wrapping_add(1)));
+        if other.is_none() || other != fault {
+            return false;
         }
     }
-    Ok(answer)
+    true
+}
+
+/// `FROM TO`: what the first bytes of the file are read as, which is the same of each count of them from one up to another.
+fn say_first(text: &mut Text, file: &[u8], words: &str) {
+    let (from, to) = text.first_hex(words);
+    let to = text.hex(to);
+    if is_same(text.alloc(), file, from, to) {
+        say_file(text, first_bytes(file, from));
+    } else {
+        text.refuse(Unanswered::Because("not the same of each count"));
+    }
 }
 
 /// Puts bytes in the place of others, from a place on.
-fn put(file: &mut Vec<u8>, at: u32, bytes: &[u32]) {
+fn put(file: &mut [u8], at: u32, bytes: &[u8]) {
     let mut place = at as usize;
     for byte in bytes {
         if let Some(old) = file.get_mut(place) {
-            *old = (byte % 256) as u8;
+            *old = *byte;
         }
         place = place.wrapping_add(1);
     }
 }
 
-/// `changed AT BYTE..`: what the file is read as with these bytes from a place on.
-fn changed(alloc: Global, file: &[u8], given: &[u32]) -> Result<String, Unanswered> {
-    let [at, bytes @ ..] = given else {
-        return Err(Unanswered::NoWord);
-    };
-    let mut other = Vec::from_slice(alloc, file)?;
-    put(&mut other, *at, bytes);
-    answers::file(alloc, &other)
+/// `AT BYTE..`: what the file is read as with these bytes from a place on.
+fn say_changed(text: &mut Text, file: &mut [u8], words: &str) {
+    let (at, bytes) = text.first_hex(words);
+    let bytes = text.bytes(bytes);
+    put(file, at, &bytes);
+    say_file(text, file);
 }
 
-/// The program header of a segment or an index: four bytes of the code, at an address and with a size in memory.
-fn push_header(file: &mut Vec<u8>, kind: u32, address: u32, size: u32) -> Result<(), AllocError> {
-    for word in [kind, 84, address, address, 4, size, 4, 4] {
-        file.extend_from_slice(&word.to_le_bytes())?;
+/// Adds words.
+fn push_words(text: &mut Text, bytes: &mut Vec<u8>, words: &[u32]) {
+    for word in words {
+        push(text, bytes, &word.to_le_bytes());
     }
-    Ok(())
 }
 
-/// The file with room for two program headers at its end, of which its own is the first.
-fn with_room(alloc: Global, file: &[u8]) -> Result<Vec<u8>, AllocError> {
-    let mut other = Vec::from_slice(alloc, file)?;
-    put(&mut other, 0x1C, &[0x78, 1, 0, 0]);
-    put(&mut other, 0x2C, &[2]);
-    other.extend_from_slice(file.get(52..84).unwrap_or(&[]))?;
-    Ok(other)
-}
-
-/// `second KIND ADDRESS SIZE`: what the file is read as with a second program header.
-fn second(alloc: Global, file: &[u8], given: &[u32]) -> Result<String, Unanswered> {
-    let [kind, address, size] = given else {
-        return Err(Unanswered::NoWord);
-    };
-    let mut other = with_room(alloc, file)?;
-    push_header(&mut other, *kind, *address, *size)?;
-    answers::file(alloc, &other)
+/// `KIND ADDRESS SIZE`: what the file is read as with two program headers at its end: its own, and that of four bytes of the
+/// code as a segment or an index, at an address and with a size in memory.
+fn say_second(text: &mut Text, file: &mut Vec<u8>, words: &str) {
+    let (kind, words) = text.first_hex(words);
+    let (address, size) = text.first_hex(words);
+    let size = text.hex(size);
+    let own = copy_of(text, file.get(52..84).unwrap_or(&[]));
+    put(file, 0x1C, &[0x78, 1, 0, 0]);
+    put(file, 0x2C, &[2]);
+    push(text, file, &own);
+    push_words(text, file, &[kind, 84, address, address, 4, size, 4, 4]);
+    say_file(text, file);
 }

@@ -7,18 +7,47 @@ mod hand;
 mod indexes;
 mod parts;
 
-use case_rows::run_file;
-use hand::ByHand;
-use indexes::Indexes;
+use case_rows::{Telling, Text, run_telling};
 use std::fs;
 use std::io::Error;
 
+/// What the rows of a file ask.
+enum About {
+    ByHand,
+    Indexes,
+}
+
+/// The files of rows in the order in which they are asked.
+static FILES: [(&str, About); 3] = [
+    ("reading.txt", About::ByHand),
+    ("refused.txt", About::ByHand),
+    ("indexes.txt", About::Indexes),
+];
+
+/// What the rows of a file ask, and the text of the file by hand.
+#[derive(Drop)]
+struct Asked<'a> {
+    about: &'a About,
+    by_hand: &'a str,
+}
+
+impl<'a> Telling for Asked<'a> {
+    fn tell(&self, text: &mut Text, question: &str) {
+        match self.about {
+            About::ByHand => hand::tell(text, self.by_hand, question),
+            About::Indexes => indexes::tell(text, question),
+        }
+    }
+}
+
 fn main(host: HostRuntime) -> Result<(), Error> {
-    let bytes = fs::read_to_string(&host, "hand.bytes")?;
-    let by_hand = ByHand {
-        text: bytes.as_str(),
-    };
-    run_file(&host, "reading.txt", &by_hand)?;
-    run_file(&host, "refused.txt", &by_hand)?;
-    run_file(&host, "indexes.txt", &Indexes)
+    let by_hand = fs::read_to_string(&host, "hand.bytes")?;
+    for (name, about) in FILES.iter() {
+        let asked = Asked {
+            about,
+            by_hand: by_hand.as_str(),
+        };
+        run_telling(&host, *name, &asked)?;
+    }
+    Ok(())
 }

@@ -1,54 +1,71 @@
 //! The parts that the file by hand is written of, at any address.
-use crate::answers;
-use case_rows::{Unanswered, number_at};
+use crate::answers::say_whether;
+use case_rows::Text;
 use eh_word::Name;
 use elf_write::parts::{
     ImageParts, OwnBytes, OwnSegment, OwnSegments, OwnSymbol, OwnSymbols, SymbolKind,
 };
 use elf_write::write::write_image;
-use std::alloc::{AllocError, Global};
 
 /// How many bytes of code there are.
 const SIZE: u32 = 14;
 
-fn segment(alloc: Global, code: &[u8], start: u32) -> Result<OwnSegment, AllocError> {
-    Ok(OwnSegment {
+/// Bytes of their own.
+pub fn copy_of(text: &mut Text, bytes: &[u8]) -> Vec<u8> {
+    let mut copy = Vec::new(text.alloc());
+    text.note(copy.extend_from_slice(bytes));
+    copy
+}
+
+/// A segment with the code.
+fn segments(text: &mut Text, code: &[u8], start: u32) -> OwnSegments {
+    let mut segments = Vec::new(text.alloc());
+    let segment = OwnSegment {
         start,
-        bytes: OwnBytes::of_vec(Vec::from_slice(alloc, code)?),
+        bytes: OwnBytes::of_vec(copy_of(text, code)),
         size: SIZE,
         write: false,
         exec: true,
-    })
+    };
+    if segments.push(segment).is_err() {
+        text.want_memory();
+    }
+    OwnSegments::of_vec(segments)
 }
 
-fn symbol(alloc: Global, value: u32) -> Result<OwnSymbol, AllocError> {
-    Ok(OwnSymbol {
-        name: Name::of_vec(Vec::from_slice(alloc, b"_start")?),
-        value,
+/// The function `_start`, which is the code.
+fn symbols(text: &mut Text, start: u32) -> OwnSymbols {
+    let mut symbols = Vec::new(text.alloc());
+    let symbol = OwnSymbol {
+        name: Name::of_vec(copy_of(text, b"_start")),
+        value: start,
         size: SIZE,
         kind: SymbolKind::Function,
-    })
+    };
+    if symbols.push(symbol).is_err() {
+        text.want_memory();
+    }
+    OwnSymbols::of_vec(symbols)
 }
 
-/// The code at a start, which is also that of the function `_start`.
-fn parts(alloc: Global, code: &[u8], entry: u32, start: u32) -> Result<ImageParts, AllocError> {
-    let segments = vec![in alloc; segment(alloc, code, start)?]?;
-    let symbols = vec![in alloc; symbol(alloc, start)?]?;
-    Ok(ImageParts {
-        entry,
-        segments: OwnSegments::of_vec(segments),
-        symbols: OwnSymbols::of_vec(symbols),
-        index: (0, 0),
-    })
-}
-
-/// `written ENTRY START`: whether the code of the file by hand, at a start and with this entry, is written as that file, or why it
-/// isn't written.
-pub fn written(alloc: Global, file: &[u8], given: &[u32]) -> Result<String, Unanswered> {
+/// `ENTRY START`: whether the code of the file by hand, at a start and with this entry, is written as that file, or why it isn't written.
+pub fn say_written(text: &mut Text, file: &[u8], words: &str) {
+    let (entry, start) = text.first_hex(words);
+    let start = text.hex(start);
     let code = file.get(84..98).unwrap_or(&[]);
-    let parts = parts(alloc, code, number_at(given, 0)?, number_at(given, 1)?)?;
-    match write_image(alloc, &parts) {
-        Ok(bytes) => answers::yes_or_no(alloc, bytes.as_slice() == file),
-        Err(why) => answers::fault(alloc, why),
+    let parts = ImageParts {
+        entry,
+        segments: segments(text, code, start),
+        symbols: symbols(text, start),
+        index: (0, 0),
+    };
+    say_image_of(text, &parts, file);
+}
+
+/// Adds whether parts are written as a file, or why they aren't written.
+fn say_image_of(text: &mut Text, parts: &ImageParts, file: &[u8]) {
+    match write_image(text.alloc(), parts) {
+        Ok(bytes) => say_whether(text, bytes.as_slice() == file),
+        Err(why) => write!(text, "{why:?}"),
     }
 }
