@@ -2,18 +2,18 @@
 //! the answer to it, by hand from docs/threads.md. What differs is written, and of each file how many lines are right.
 #![tactic(auto)]
 
+mod exceptions;
 mod memory;
 mod texts;
 
-use case_rows::run_file;
+use case_rows::run_telling;
 use memory::InMemory;
 use std::io::Error;
 use texts::{Schedules, Tagged};
 
 fn main(host: HostRuntime) -> Result<(), Error> {
-    for name in ["guards.txt", "slots.txt"] {
-        run_file(&host, name, &InMemory)?;
-    }
-    run_file(&host, "schedules.txt", &Schedules)?;
-    run_file(&host, "tags.txt", &Tagged)
+    run_telling(&host, "guards.txt", &InMemory)?;
+    run_telling(&host, "slots.txt", &InMemory)?;
+    run_telling(&host, "schedules.txt", &Schedules)?;
+    run_telling(&host, "tags.txt", &Tagged)
 }

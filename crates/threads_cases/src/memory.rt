@@ -1,258 +1,194 @@
 //! Calls over one memory that threads share, one after the other with `; ` between them, each with what it answers.
+use crate::exceptions::say_exception;
 use bus_memories::flat::FlatBus;
-use case_rows::{Asked, Unanswered, first_word, number_at, numbers};
+use case_rows::{Telling, Text, Unanswered, first_word, numbers};
 use eh_bus::bus::Bus;
 use eh_bus::fault::BusFault;
 use eh_bus::map::{STACK_END, STACK_START};
-use eh_cxa::layout::{SLOTS, STATE};
-use eh_cxa::{Globals, allocate, begin_catch, free, pool, start_throw};
-use std::alloc::{AllocError, Global};
+use eh_cxa::Globals;
+use std::alloc::Global;
 use thread_memory::{Owners, THREADS, ThreadBus, home_of};
 
 /// Calls over a memory without segments of an image, in which nothing is guarded and no exception lives.
 pub struct InMemory;
 
+/// The memory of the threads.
+pub type Memory = ThreadBus<FlatBus>;
+
 /// The memory, what each slot holds, and what a runtime keeps of exceptions beside the pool.
 #[derive(Drop)]
 struct Shared {
-    bus: ThreadBus<FlatBus>,
+    bus: Memory,
     owners: Owners,
     globals: Globals,
 }
 
-/// Nothing is guarded, and thread 0 is entered.
-fn start(alloc: Global) -> Result<Shared, AllocError> {
-    let Ok(inner) = FlatBus::build(alloc, &[]) else {
-        return Err(AllocError);
-    };
+/// Nothing is guarded, and thread 0 is entered; None where memory is wanting.
+fn start(alloc: Global) -> Option<Shared> {
+    let inner = FlatBus::build(alloc, &[]).ok()?;
     let owners = Owners::nobodys(&inner);
-    match ThreadBus::over(alloc, inner) {
-        Ok(bus) => Ok(Shared {
-            bus,
-            owners,
-            globals: Globals::start(),
-        }),
-        Err(_why) => Err(AllocError),
+    let bus = ThreadBus::over(alloc, inner).ok()?;
+    Some(Shared {
+        bus,
+        owners,
+        globals: Globals::start(),
+    })
+}
+
+/// Adds what a call says, after what the calls before it said.
+pub fn say_part(text: &mut Text, part: &str) {
+    text.say_between("; ");
+    text.say(part);
+}
+
+/// Adds a word that a call answers.
+pub fn say_word(text: &mut Text, word: u32) {
+    say_part(text, "");
+    text.say_hex(word);
+}
+
+/// The name of a fault, and its address.
+fn named(fault: BusFault) -> (&'static str, u32) {
+    match fault {
+        BusFault::Unmapped(a) => ("Unmapped ", a),
+        BusFault::Unaligned(a) => ("Unaligned ", a),
+        BusFault::ReadOnly(a) => ("ReadOnly ", a),
+        BusFault::SavedSlot(a) => ("SavedSlot ", a),
+        BusFault::Protected(a) => ("Protected ", a),
+        BusFault::NotExecutable(a) => ("NotExecutable ", a),
     }
 }
 
-/// Adds an answer after those of the calls before it; a call that says nothing has none.
-fn push(all: &mut String, answer: &str) -> Result<(), AllocError> {
-    if !all.is_empty() && !answer.is_empty() {
-        all.push_str("; ")?;
-    }
-    all.push_str(answer)
-}
-
-fn nothing(alloc: Global) -> Result<String, Unanswered> {
-    Ok(String::new(alloc))
-}
-
-fn word(alloc: Global, word: u32) -> Result<String, Unanswered> {
-    Ok(format!(in alloc; "{word:X}")?)
+fn say_fault(text: &mut Text, fault: BusFault) {
+    let (name, a) = named(fault);
+    say_part(text, name);
+    text.say_hex(a);
 }
 
 /// Whether a store is done.
-fn stored(alloc: Global, done: Result<(), BusFault>) -> Result<String, Unanswered> {
-    let text = match done {
-        Ok(()) => format!(in alloc; "done")?,
-        Err(BusFault::Unmapped(a)) => format!(in alloc; "Unmapped {a:X}")?,
-        Err(BusFault::Unaligned(a)) => format!(in alloc; "Unaligned {a:X}")?,
-        Err(BusFault::ReadOnly(a)) => format!(in alloc; "ReadOnly {a:X}")?,
-        Err(BusFault::SavedSlot(a)) => format!(in alloc; "SavedSlot {a:X}")?,
-        Err(BusFault::Protected(a)) => format!(in alloc; "Protected {a:X}")?,
-        Err(BusFault::NotExecutable(a)) => format!(in alloc; "NotExecutable {a:X}")?,
-    };
-    Ok(text)
+fn say_stored(text: &mut Text, done: Result<(), BusFault>) {
+    match done {
+        Ok(()) => say_part(text, "done"),
+        Err(fault) => say_fault(text, fault),
+    }
 }
 
 /// `enter THREAD`: another thread is entered.
-fn enters(alloc: Global, shared: &mut Shared, given: &[u32]) -> Result<String, Unanswered> {
-    let thread = number_at(given, 0)? as usize;
+fn enter(text: &mut Text, bus: &mut Memory, owners: &mut Owners, words: &str) {
+    let thread = text.hex(words) as usize;
     if thread < THREADS {
-        let ran = shared.bus.thread();
-        shared.bus.enter(&mut shared.owners, ran, thread);
-        return nothing(alloc);
+        let ran = bus.thread();
+        bus.enter(owners, ran, thread);
+    } else {
+        text.refuse(Unanswered::NotKnown);
     }
-    Err(Unanswered::NotKnown)
 }
 
-/// `home`: the home of the thread that is entered.
-fn home(alloc: Global, shared: &Shared) -> Result<String, Unanswered> {
-    let (low, high) = shared.bus.home();
-    Ok(format!(in alloc; "{low:X} {high:X}")?)
+fn say_home(text: &mut Text, home: (u32, u32)) {
+    let (low, high) = home;
+    say_word(text, low);
+    text.say(" ");
+    text.say_hex(high);
 }
 
 /// `home-of THREAD`: the home of a thread.
-fn home_by(alloc: Global, given: &[u32]) -> Result<String, Unanswered> {
-    let thread = number_at(given, 0)? as usize;
+fn say_home_of(text: &mut Text, words: &str) {
+    let thread = text.hex(words) as usize;
     if thread < THREADS {
-        let (low, high) = home_of(thread);
-        return Ok(format!(in alloc; "{low:X} {high:X}")?);
+        say_home(text, home_of(thread));
+    } else {
+        text.refuse(Unanswered::NotKnown);
     }
-    Err(Unanswered::NotKnown)
+}
+
+/// A word of the stack is guarded.
+fn guard(text: &mut Text, bus: &mut Memory, a: u32) {
+    if a % 4 == 0 && STACK_START <= a && a < STACK_END {
+        bus.guard(a);
+    } else {
+        text.refuse(Unanswered::NotKnown);
+    }
 }
 
 /// `guard A..`: these words of the stack are guarded.
-fn guards(alloc: Global, shared: &mut Shared, given: &[u32]) -> Result<String, Unanswered> {
-    for a in given {
-        if *a % 4 != 0 || !(STACK_START..STACK_END).contains(a) {
-            return Err(Unanswered::NotKnown);
-        }
-        shared.bus.guard(*a);
+fn guard_all(text: &mut Text, bus: &mut Memory, words: &str) {
+    for word in words.split(' ') {
+        let a = text.hex(word);
+        guard(text, bus, a);
     }
-    nothing(alloc)
 }
 
 /// `release A`: sp has risen to A.
-fn releases(alloc: Global, shared: &mut Shared, given: &[u32]) -> Result<String, Unanswered> {
-    shared.bus.release_below(number_at(given, 0)?);
-    nothing(alloc)
+fn release(text: &mut Text, bus: &mut Memory, words: &str) {
+    let a = text.hex(words);
+    bus.release_below(a);
+}
+
+/// `store8 A BYTE`, `store16 A HALFWORD` and `store A WORD`: so many bytes of a word are stored.
+fn store(text: &mut Text, bus: &mut Memory, size: u32, words: &str) {
+    let (a, words) = text.first_hex(words);
+    let word = text.hex(words);
+    let done = match size {
+        1 => bus.store8(a, (word % 0x100) as u8),
+        2 => bus.store16(a, (word % 0x1_0000) as u16),
+        _ => bus.store32(a, word),
+    };
+    say_stored(text, done);
 }
 
 /// `run A WORDS..`: words are stored upwards.
-fn runs(alloc: Global, shared: &mut Shared, given: &[u32]) -> Result<String, Unanswered> {
-    let a = number_at(given, 0)?;
-    stored(alloc, shared.bus.store_run(a, &given[1..]))
+fn store_run(text: &mut Text, bus: &mut Memory, words: &str) {
+    let (a, words) = text.first_hex(words);
+    let words = numbers(text.alloc(), words);
+    if let Some(words) = text.taken(words) {
+        let done = bus.store_run(a, words.as_slice());
+        say_stored(text, done);
+    }
 }
 
 /// `load A`: the word there.
-fn loads(alloc: Global, shared: &Shared, given: &[u32]) -> Result<String, Unanswered> {
-    match shared.bus.load32(number_at(given, 0)?) {
-        Ok(loaded) => word(alloc, loaded),
-        Err(why) => stored(alloc, Err(why)),
+fn load(text: &mut Text, bus: &Memory, words: &str) {
+    let a = text.hex(words);
+    match bus.load32(a) {
+        Ok(word) => say_word(text, word),
+        Err(fault) => say_fault(text, fault),
     }
 }
 
-/// `state SLOT`: the state word of a slot, as the thread reads it that is entered.
-fn state(alloc: Global, shared: &Shared, given: &[u32]) -> Result<String, Unanswered> {
-    let slot = number_at(given, 0)?;
-    if slot < SLOTS {
-        return word(alloc, pool::get(&shared.bus, slot, STATE));
-    }
-    Err(Unanswered::NotKnown)
-}
-
-/// `make SLOT STATE`: the runtime writes the state word of a slot.
-fn makes(alloc: Global, shared: &mut Shared, given: &[u32]) -> Result<String, Unanswered> {
-    let slot = number_at(given, 0)?;
-    if slot < SLOTS {
-        pool::set(&mut shared.bus, slot, STATE, number_at(given, 1)?);
-        return nothing(alloc);
-    }
-    Err(Unanswered::NotKnown)
-}
-
-/// `owner SLOT`: the thread that is told to have the slot, and its state.
-fn owner(alloc: Global, shared: &Shared, given: &[u32]) -> Result<String, Unanswered> {
-    let slot = number_at(given, 0)?;
-    if slot < SLOTS {
-        let holding = shared.owners.slots[slot as usize];
-        let state = holding.state;
-        return match holding.owner {
-            Some(owner) => Ok(format!(in alloc; "{owner} {state:X}")?),
-            None => Ok(format!(in alloc; "nobody {state:X}")?),
-        };
-    }
-    Err(Unanswered::NotKnown)
-}
-
-/// `allocate SIZE`: the object of a new exception.
-fn allocates(alloc: Global, shared: &mut Shared, given: &[u32]) -> Result<String, Unanswered> {
-    match allocate(&mut shared.bus, number_at(given, 0)?) {
-        Ok(object) => word(alloc, object),
-        Err(why) => Ok(format!(in alloc; "{why:?}")?),
-    }
-}
-
-/// `free OBJECT`: whether it may be given back.
-fn frees(alloc: Global, shared: &mut Shared, given: &[u32]) -> Result<String, Unanswered> {
-    match free(&mut shared.bus, number_at(given, 0)?) {
-        Ok(()) => Ok(format!(in alloc; "done")?),
-        Err(why) => Ok(format!(in alloc; "{why:?}")?),
-    }
-}
-
-/// `throw OBJECT`: its control block.
-fn throws(alloc: Global, shared: &mut Shared, given: &[u32]) -> Result<String, Unanswered> {
-    let object = number_at(given, 0)?;
-    match start_throw(&mut shared.bus, &mut shared.globals, object, 0, 0) {
-        Ok(block) => word(alloc, block),
-        Err(why) => Ok(format!(in alloc; "{why:?}")?),
-    }
-}
-
-/// `catch BLOCK`: what its handler is given.
-fn catches(alloc: Global, shared: &mut Shared, given: &[u32]) -> Result<String, Unanswered> {
-    match begin_catch(&mut shared.bus, &mut shared.globals, number_at(given, 0)?) {
-        Ok(object) => word(alloc, object),
-        Err(why) => Ok(format!(in alloc; "{why:?}")?),
-    }
-}
-
-/// The answer to a call on exceptions.
-fn exception(
-    alloc: Global,
-    shared: &mut Shared,
-    what: &str,
-    given: &[u32],
-) -> Result<String, Unanswered> {
+/// Adds the answer to a call.
+fn say_call(text: &mut Text, shared: &mut Shared, call: &str) {
+    let (what, words) = first_word(call);
+    let Shared {
+        bus,
+        owners,
+        globals,
+    } = shared;
     match what {
-        "state" => state(alloc, shared, given),
-        "make" => makes(alloc, shared, given),
-        "owner" => owner(alloc, shared, given),
-        "allocate" => allocates(alloc, shared, given),
-        "free" => frees(alloc, shared, given),
-        "throw" => throws(alloc, shared, given),
-        "catch" => catches(alloc, shared, given),
-        _ => Err(Unanswered::NotKnown),
+        "enter" => enter(text, bus, owners, words),
+        "home" => say_home(text, bus.home()),
+        "home-of" => say_home_of(text, words),
+        "guard" => guard_all(text, bus, words),
+        "release" => release(text, bus, words),
+        "store8" => store(text, bus, 1, words),
+        "store16" => store(text, bus, 2, words),
+        "store" => store(text, bus, 4, words),
+        "run" => store_run(text, bus, words),
+        "load" => load(text, bus, words),
+        _ => say_exception(text, bus, owners, globals, what, words),
     }
 }
 
-/// The answer to a call.
-fn called(alloc: Global, shared: &mut Shared, call: &str) -> Result<String, Unanswered> {
-    let (what, rest) = first_word(call);
-    let given = numbers(alloc, rest)?;
-    let given = given.as_slice();
-    match what {
-        "enter" => enters(alloc, shared, given),
-        "home" => home(alloc, shared),
-        "home-of" => home_by(alloc, given),
-        "guard" => guards(alloc, shared, given),
-        "release" => releases(alloc, shared, given),
-        "store8" => {
-            let done = shared
-                .bus
-                .store8(number_at(given, 0)?, (number_at(given, 1)? % 0x100) as u8);
-            stored(alloc, done)
+impl Telling for InMemory {
+    fn tell(&self, text: &mut Text, question: &str) {
+        match start(text.alloc()) {
+            Some(shared) => say_calls(text, shared, question),
+            None => text.want_memory(),
         }
-        "store16" => {
-            let done = shared.bus.store16(
-                number_at(given, 0)?,
-                (number_at(given, 1)? % 0x1_0000) as u16,
-            );
-            stored(alloc, done)
-        }
-        "store" => {
-            let done = shared
-                .bus
-                .store32(number_at(given, 0)?, number_at(given, 1)?);
-            stored(alloc, done)
-        }
-        "run" => runs(alloc, shared, given),
-        "load" => loads(alloc, shared, given),
-        _ => exception(alloc, shared, what, given),
     }
 }
 
-impl Asked for InMemory {
-    fn answer(&self, alloc: Global, question: &str) -> Result<String, Unanswered> {
-        let mut shared = start(alloc)?;
-        let mut all = String::new(alloc);
-        for call in question.split("; ") {
-            let answer = called(alloc, &mut shared, call)?;
-            push(&mut all, answer.as_str())?;
-        }
-        Ok(all)
+fn say_calls(text: &mut Text, mut shared: Shared, calls: &str) {
+    for call in calls.split("; ") {
+        say_call(text, &mut shared, call);
     }
 }

@@ -1,5 +1,5 @@
 //! Texts of schedules and lines with tags; in a question `|` stands for a line feed.
-use case_rows::{Asked, Unanswered, first_word};
+use case_rows::{Telling, Text, Unanswered, first_word};
 use std::alloc::Global;
 use thread_schedule::{ScheduleFault, TagMemory, read_schedule, tag_lines};
 
@@ -12,64 +12,81 @@ pub struct Schedules;
 /// `TAGS TEXT`: the text with these tags before its lines; `-` stands for no tags.
 pub struct Tagged;
 
-/// The bytes of a text, with line feeds in place of bars.
-fn with_line_feeds(alloc: Global, text: &str) -> Result<Vec<u8>, Unanswered> {
-    let mut bytes = Vec::new(alloc);
-    for byte in text.as_bytes() {
-        bytes.push(if *byte == BAR { b'\n' } else { *byte })?;
+/// A text, with line feeds in place of bars.
+fn with_line_feeds(text: &mut Text, bars: &str) -> Option<String> {
+    let mut lines = Text::new(text.alloc());
+    let mut is_first = true;
+    for line in bars.split('|') {
+        lines.say(if is_first { "" } else { "\n" });
+        lines.say(line);
+        is_first = false;
     }
-    Ok(bytes)
+    text.taken(lines.finish())
 }
 
-/// A text with bars in place of line feeds.
-fn with_bars(alloc: Global, bytes: &[u8]) -> Result<String, Unanswered> {
-    let mut text = String::new(alloc);
+/// Adds a text of ASCII characters, with bars in place of line feeds.
+fn say_with_bars(text: &mut Text, bytes: &[u8]) {
     for byte in bytes {
-        text.push(if *byte == b'\n' {
-            '|'
-        } else {
-            char::from(*byte)
-        })?;
+        let character = if *byte == b'\n' { BAR } else { *byte };
+        text.say_ascii(&[character]);
     }
-    Ok(text)
 }
 
-impl Asked for Schedules {
-    fn answer(&self, alloc: Global, question: &str) -> Result<String, Unanswered> {
-        let (_, text) = first_word(question);
-        let bytes = with_line_feeds(alloc, text)?;
-        match read_schedule(alloc, bytes.as_slice()) {
-            Ok(digits) => with_bars(alloc, digits.as_slice()),
-            Err(ScheduleFault::BadSchedule(offset)) => Ok(format!(in alloc;
-                "BadSchedule {offset}"
-            )?),
-            Err(ScheduleFault::OutOfMemory) => Err(Unanswered::from(std::alloc::AllocError)),
+fn say_schedule(text: &mut Text, schedule: &str) {
+    match read_schedule(text.alloc(), schedule.as_bytes()) {
+        Ok(digits) => say_with_bars(text, digits.as_slice()),
+        Err(ScheduleFault::BadSchedule(offset)) => {
+            text.say("BadSchedule ");
+            text.say_count(offset);
+        }
+        Err(ScheduleFault::OutOfMemory) => text.want_memory(),
+    }
+}
+
+impl Telling for Schedules {
+    fn tell(&self, text: &mut Text, question: &str) {
+        let (_, schedule) = first_word(question);
+        if let Some(schedule) = with_line_feeds(text, schedule) {
+            say_schedule(text, schedule.as_str());
         }
     }
 }
 
 /// The digits of a word as tags; of `-` none.
-fn tags_of(alloc: Global, word: &str) -> Result<Vec<u8>, Unanswered> {
+fn tags_of(alloc: Global, word: &str) -> Option<Vec<u8>> {
     let mut tags = Vec::new(alloc);
     for byte in word.as_bytes() {
         if byte.is_ascii_digit() {
-            tags.push(*byte - b'0')?;
+            tags.push(*byte - b'0').ok()?;
         }
     }
-    Ok(tags)
+    Some(tags)
 }
 
-impl Asked for Tagged {
-    fn answer(&self, alloc: Global, question: &str) -> Result<String, Unanswered> {
-        let (word, text) = first_word(question);
-        let tags = tags_of(alloc, word)?;
-        if tags.iter().any(|tag| *tag >= 10) {
-            return Err(Unanswered::NotNumber);
-        }
-        let bytes = with_line_feeds(alloc, text)?;
-        match tag_lines(alloc, bytes.as_slice(), tags.as_slice()) {
-            Ok(lines) => with_bars(alloc, lines.as_slice()),
-            Err(TagMemory::OutOfMemory) => Err(Unanswered::from(std::alloc::AllocError)),
+/// Adds lines with tags before them.
+fn say_tagged(text: &mut Text, lines: &str, tags: &[u8]) {
+    if tags.iter().any(|tag| *tag >= 10) {
+        return text.refuse(Unanswered::NotNumber);
+    }
+    match tag_lines(text.alloc(), lines.as_bytes(), tags) {
+        Ok(tagged) => say_with_bars(text, tagged.as_slice()),
+        Err(TagMemory::OutOfMemory) => text.want_memory(),
+    }
+}
+
+/// Adds lines with the digits of a word as tags before them.
+fn say_lines(text: &mut Text, lines: &str, word: &str) {
+    match tags_of(text.alloc(), word) {
+        Some(tags) => say_tagged(text, lines, tags.as_slice()),
+        None => text.want_memory(),
+    }
+}
+
+impl Telling for Tagged {
+    fn tell(&self, text: &mut Text, question: &str) {
+        let (word, lines) = first_word(question);
+        if let Some(lines) = with_line_feeds(text, lines) {
+            say_lines(text, lines.as_str(), word);
         }
     }
 }
