@@ -1,128 +1,90 @@
 //! Images of three functions: what is told of the addresses of one that is accepted, and which refusal comes first.
-//!
-//! main is `push {r3, r4, lr}; movs r4, #1; bl leaf; pop {r3, r4, pc}` at 8000; leaf `bx lr` at 8010; far
-//! `push {r7, lr}; svc #18; pop {r7, pc}` in a segment of its own at 20000000; the index is at 8100.
-use crate::causes::{cause_text, push_name};
-use case_images::{image_of, opened};
-use case_rows::{Asked, Unanswered, first_word, number, want_of_memory};
-use eh_index::IndexFault;
-use eh_types::TypeFault;
-use frame_check::{Accepted, CheckFault, Rejected, check};
-use std::alloc::{AllocError, Global};
+use crate::verdicts::{Placing, accepted_in};
+use case_images::image_by;
+use case_rows::{Telling, Text, Unanswered, first_word};
+use frame_check::Accepted;
 
-/// What stands in front of the rows of the index.
-const FRONT: &str =
-    "entry 8000 ; index 8100 18 ; function main 8000 A ; function leaf 8010 2 ; function far 20000000 6 ; segment 8000 200 ; code 8000 B518 2401 F000 F804 BD18 ; code 8010 4770 ; words 8100";
+/// An image of three functions with words of main's entry and of far's, where the second row begins, and further parts. main is
+/// `push {r3, r4, lr}; movs r4, #1; bl leaf; pop {r3, r4, pc}` at 8000; leaf `bx lr` at 8010; far `push {r7, lr}; svc #18; pop {r7, pc}`
+/// in a segment of its own at 20000000; the index is at 8100.
+const IMAGE: &str =
+    "entry 8000 ; index 8100 18 ; function main 8000 A ; function leaf 8010 2 ; function far 20000000 6 ; segment 8000 200 ; code 8000 B518 2401 F000 F804 BD18 ; code 8010 4770 ; words 8100 >8000 {} >{} 80B0B0B0 >20000000 {} ; segment 20000000 6 ; code 20000000 B580 DF12 BD80{}{}{}";
 
-/// What stands after them.
-const AFTER: &str = "segment 20000000 6 ; code 20000000 B580 DF12 BD80";
+/// The words with which it is accepted.
+const WELL: &str = "8000A8B0 808408B0 8010";
+
+/// What is asked of an image.
+#[derive(Clone, Copy)]
+enum Ask {
+    Verdict,
+    Address(u32),
+    Type(u32),
+    Whole,
+}
 
 /// What images are asked.
-#[derive(Clone, Copy)]
 pub struct Accepting;
 
-impl Asked for Accepting {
-    fn answer(&self, alloc: Global, question: &str) -> Result<String, Unanswered> {
-        let (what, rest) = first_word(question);
+impl Telling for Accepting {
+    fn tell(&self, text: &mut Text, question: &str) {
+        let (what, words) = first_word(question);
         match what {
-            "check" => checked(alloc, rest),
-            "address" => address(alloc, number(rest)?),
-            "type" => held(alloc, number(rest)?),
-            "whole" => whole(alloc),
-            _ => Err(Unanswered::NotKnown),
+            "check" => say_image(text, words, Ask::Verdict),
+            "address" => {
+                let a = text.hex(words);
+                say_image(text, WELL, Ask::Address(a));
+            }
+            "type" => {
+                let a = text.hex(words);
+                say_image(text, WELL, Ask::Type(a));
+            }
+            "whole" => say_image(text, WELL, Ask::Whole),
+            _ => text.refuse(Unanswered::NotKnown),
         }
     }
 }
 
-/// The image with the words of main's entry and of far's, and where the second row begins.
-fn file_of(
-    alloc: Global,
-    main: &str,
-    far: &str,
-    second: &str,
-    further: &str,
-) -> Result<Vec<u8>, Unanswered> {
-    let text = format!(in alloc;
-        "{FRONT} >8000 {main} >{second} 80B0B0B0 >20000000 {far} ; {AFTER}{further}"
-    )?;
-    image_of(alloc, text.as_str())
-}
-
-fn well(alloc: Global) -> Result<Vec<u8>, Unanswered> {
-    file_of(alloc, "8000A8B0", "808408B0", "8010", "")
-}
-
-fn rejected_text(alloc: Global, rejected: &Rejected) -> Result<String, AllocError> {
-    let mut text = String::new(alloc);
-    push_name(&mut text, rejected.function.bytes())?;
-    let (start, at) = (rejected.start, rejected.at);
-    let cause = cause_text(alloc, rejected.cause)?;
-    text.push_str(format!(in alloc; " of {start:X} at {at:X}: {cause}")?.as_str())?;
-    Ok(text)
-}
-
-/// What a refusal of the index names.
-fn row_of(fault: IndexFault) -> Option<u32> {
-    match fault {
-        IndexFault::OutsideImage(row) | IndexFault::Unsorted(row) => Some(row),
-        IndexFault::Length => None,
-    }
-}
-
-/// What a refusal of types names.
-fn type_of(fault: TypeFault) -> Option<u32> {
-    match fault {
-        TypeFault::Unreadable(a)
-        | TypeFault::Writable(a)
-        | TypeFault::NameTooLong(a)
-        | TypeFault::Cyclic(a)
-        | TypeFault::TooManyPaths(a) => Some(a),
-        TypeFault::OutOfMemory => None,
-    }
-}
-
-/// A refusal by its name and what it names.
-fn refusal_text(
-    alloc: Global,
-    of: &str,
-    name: &[u8],
-    named: Option<u32>,
-) -> Result<String, AllocError> {
-    let mut text = format!(in alloc; "{of}: ")?;
-    push_name(&mut text, name)?;
-    if let Some(named) = named {
-        text.push_str(format!(in alloc; " {named:X}")?.as_str())?;
-    }
-    Ok(text)
-}
-
-/// `check MAIN FAR SECOND [TYPE]`: the first refusal of an image with these words, with a type symbol at an address.
-fn checked(alloc: Global, rest: &str) -> Result<String, Unanswered> {
-    let (main, rest) = first_word(rest);
-    let (far, rest) = first_word(rest);
-    let (second, ty) = first_word(rest);
-    let further = if ty.is_empty() {
-        String::new(alloc)
+/// `MAIN FAR SECOND [TYPE]`: the image with the words of main's entry and of far's, where the second row begins, and a type symbol.
+fn file_of(text: &mut Text, words: &str) -> Option<Vec<u8>> {
+    let (main, words) = first_word(words);
+    let (far, words) = first_word(words);
+    let (second, ty) = first_word(words);
+    let (front, size) = if ty.is_empty() {
+        ("", "")
     } else {
-        format!(in alloc; " ; object _ZTI1A {ty} 8")?
+        (" ; object _ZTI1A ", " 8")
     };
-    let file = file_of(alloc, main, far, second, further.as_str())?;
-    match check(alloc, opened(alloc, &file)?) {
-        Ok(_accepted) => Ok(format!(in alloc; "accepted")?),
-        Err(CheckFault::Function(rejected)) => Ok(rejected_text(alloc, &rejected)?),
-        Err(CheckFault::Index(fault)) => {
-            Ok(refusal_text(alloc, "the index", fault.name(), row_of(fault))?)
-        }
-        Err(CheckFault::Types(fault)) => {
-            Ok(refusal_text(alloc, "the types", fault.name(), type_of(fault))?)
-        }
-        Err(CheckFault::OutOfMemory) => Err(want_of_memory()),
+    image_by(text, IMAGE, &[main, second, far, front, ty, size])
+}
+
+/// Says what is asked of the image with these words, or why it is refused.
+fn say_image(text: &mut Text, words: &str, ask: Ask) {
+    if let Some(file) = file_of(text, words) {
+        say_file(text, file.as_slice(), ask);
     }
 }
 
-/// What is told of an address: whether it is a checked instruction, whether a function begins there, and its saves, as bits from
-/// the lowest word on.
-fn told(alloc: Global, accepted: &Accepted, a: u32) -> Result<String, AllocError> {
+fn say_file(text: &mut Text, file: &[u8], ask: Ask) {
+    if let Some(accepted) = accepted_in(text, file, Placing::Addresses) {
+        say_accepted(text, &accepted, ask);
+    }
+}
+
+fn say_accepted(text: &mut Text, accepted: &Accepted, ask: Ask) {
+    match ask {
+        Ask::Verdict => text.say("accepted"),
+        Ask::Address(a) => say_address(text, accepted, a),
+        Ask::Type(a) => text.say(if accepted.types().holds(a) {
+            "yes"
+        } else {
+            "no"
+        }),
+        Ask::Whole => say_whole(text, accepted),
+    }
+}
+
+/// `address ADDRESS`: whether it is a checked instruction, whether a function begins there, and its saves, as bits from the lowest word on.
+fn say_address(text: &mut Text, accepted: &Accepted, a: u32) {
     let saves = accepted.saves_at(a);
     let what = match (accepted.is_instr(a), accepted.is_function(a)) {
         (true, true) => "function",
@@ -130,43 +92,16 @@ fn told(alloc: Global, accepted: &Accepted, a: u32) -> Result<String, AllocError
         (false, false) => "nothing",
         (false, true) => "no instruction",
     };
-    format!(in alloc; "{what}, saves {saves:b}")
-}
-
-/// `address ADDRESS` in the image that is accepted.
-fn address(alloc: Global, a: u32) -> Result<String, Unanswered> {
-    let file = well(alloc)?;
-    match check(alloc, opened(alloc, &file)?) {
-        Ok(accepted) => Ok(told(alloc, &accepted, a)?),
-        Err(_fault) => Err(Unanswered::Because("not accepted")),
-    }
-}
-
-/// `type ADDRESS`: whether its graph holds a type.
-fn held(alloc: Global, a: u32) -> Result<String, Unanswered> {
-    let file = well(alloc)?;
-    match check(alloc, opened(alloc, &file)?) {
-        Ok(accepted) => {
-            let answer = if accepted.types().holds(a) {
-                "yes"
-            } else {
-                "no"
-            };
-            Ok(format!(in alloc; "{answer}")?)
-        }
-        Err(_fault) => Err(Unanswered::Because("not accepted")),
-    }
+    text.say(what);
+    text.say(", saves ");
+    text.say_bits(saves);
 }
 
 /// `whole`: the entry and how many rows its index has.
-fn whole(alloc: Global) -> Result<String, Unanswered> {
-    let file = well(alloc)?;
-    match check(alloc, opened(alloc, &file)?) {
-        Ok(accepted) => {
-            let entry = accepted.image().entry();
-            let rows = accepted.index().len();
-            Ok(format!(in alloc; "entry {entry:X}, {rows} rows")?)
-        }
-        Err(_fault) => Err(Unanswered::Because("not accepted")),
-    }
+fn say_whole(text: &mut Text, accepted: &Accepted) {
+    text.say("entry ");
+    text.say_hex(accepted.image().entry());
+    text.say(", ");
+    text.say_count(accepted.index().len());
+    text.say(" rows");
 }

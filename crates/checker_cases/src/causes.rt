@@ -1,14 +1,6 @@
 //! Causes in words: their names, and the register of those that have one.
+use case_rows::Text;
 use frame_facts::FrameCause;
-use std::alloc::{AllocError, Global};
-
-/// A text of ASCII bytes.
-pub fn push_name(text: &mut String, name: &[u8]) -> Result<(), AllocError> {
-    for byte in name {
-        text.push(*byte as char)?;
-    }
-    Ok(())
-}
 
 /// The register that a cause names.
 fn register_of(cause: FrameCause) -> Option<u8> {
@@ -31,12 +23,11 @@ fn register_of(cause: FrameCause) -> Option<u8> {
     }
 }
 
-/// The name of a cause, and its register.
-pub fn cause_text(alloc: Global, cause: FrameCause) -> Result<String, AllocError> {
-    let mut text = String::new(alloc);
-    push_name(&mut text, cause.name())?;
+/// Adds the name of a cause, and its register.
+pub fn say_cause(text: &mut Text, cause: FrameCause) {
+    text.say_ascii(cause.name());
     if let Some(reg) = register_of(cause) {
-        text.push_str(format!(in alloc; " r{reg}")?.as_str())?;
+        text.say(" r");
+        text.say_decimal(u32::from(reg));
     }
-    Ok(text)
 }

@@ -1,10 +1,10 @@
 //! Effects of instructions on facts, meetings, and the causes that an instruction shows.
-use crate::causes::cause_text;
-use crate::facts::{difference, fact_of, registers_text, usual_prologue};
+use crate::causes::say_cause;
+use crate::facts::{fact_of, say_difference, say_fact};
+use crate::prologues::usual_prologue;
 use crate::source::instruction;
-use case_rows::{Asked, Unanswered, first_word, number};
+use case_rows::{Telling, Text, Unanswered, first_word};
 use frame_facts::{Fact, after, clobber, is_same, join};
-use std::alloc::Global;
 
 /// An address after the prologue, and the entry.
 const AFTER: u32 = 0x8010;
@@ -12,57 +12,54 @@ const AFTER: u32 = 0x8010;
 const ENTRY: u32 = 0x8000;
 
 /// What facts are asked.
-#[derive(Clone, Copy)]
 pub struct Effects;
 
-impl Asked for Effects {
-    fn answer(&self, alloc: Global, question: &str) -> Result<String, Unanswered> {
+impl Telling for Effects {
+    fn tell(&self, text: &mut Text, question: &str) {
         let (what, rest) = first_word(question);
         let (fact, rest) = rest.split_once(" ; ").unwrap_or((rest, ""));
-        let fact = fact_of(fact)?;
+        let fact = fact_of(text, fact);
         match what {
-            "fact" => Ok(registers_text(alloc, &fact)?),
-            "effect" => effect(alloc, &fact, rest, AFTER, false),
-            "lowers" => effect(alloc, &fact, rest, AFTER, true),
-            "first" => effect(alloc, &fact, rest, ENTRY, false),
-            "forget" => Ok(difference(
-                alloc,
-                &fact,
-                &clobber(&fact, (number(rest)? % 0x1_0000) as u16),
-            )?),
-            "meet" => meeting(alloc, &fact, &fact_of(rest)?),
-            "same" => same(alloc, &fact, &fact_of(rest)?),
-            _ => Err(Unanswered::NotKnown),
+            "fact" => say_fact(text, &fact),
+            "effect" => say_effect(text, &fact, rest, AFTER, false),
+            "lowers" => say_effect(text, &fact, rest, AFTER, true),
+            "first" => say_effect(text, &fact, rest, ENTRY, false),
+            "forget" => say_forgotten(text, &fact, rest),
+            "meet" => say_meeting(text, &fact, rest),
+            "same" => say_same(text, &fact, rest),
+            _ => text.refuse(Unanswered::NotKnown),
         }
     }
 }
 
 /// `effect FACT ; INSTRUCTION`, `lowers ..` where sp is lowered by an unknown amount there, and `first ..` at the entry: what of
 /// the fact differs after it, or its cause.
-fn effect(
-    alloc: Global,
-    fact: &Fact,
-    text: &str,
-    at: u32,
-    lowers: bool,
-) -> Result<String, Unanswered> {
-    let i = instruction(alloc, text)?;
-    Ok(match after(fact, &i, at, &usual_prologue(), lowers) {
-        Ok(next) => difference(alloc, fact, &next)?,
-        Err(cause) => cause_text(alloc, cause)?,
-    })
+fn say_effect(text: &mut Text, fact: &Fact, words: &str, at: u32, lowers: bool) {
+    if let Some(i) = instruction(text, words) {
+        match after(fact, &i, at, &usual_prologue(), lowers) {
+            Ok(next) => say_difference(text, fact, &next),
+            Err(cause) => say_cause(text, cause),
+        }
+    }
+}
+
+/// `forget FACT ; LIST`: what differs where nothing is known of these registers.
+fn say_forgotten(text: &mut Text, fact: &Fact, list: &str) {
+    let list = (text.hex(list) % 0x1_0000) as u16;
+    say_difference(text, fact, &clobber(fact, list));
 }
 
 /// `meet FACT ; FACT`: what of the second fact differs in what both have in common.
-fn meeting(alloc: Global, a: &Fact, b: &Fact) -> Result<String, Unanswered> {
-    Ok(match join(a, b) {
-        Some(both) => difference(alloc, b, &both)?,
-        None => format!(in alloc; "no meeting")?,
-    })
+fn say_meeting(text: &mut Text, a: &Fact, words: &str) {
+    let b = fact_of(text, words);
+    match join(a, &b) {
+        Some(both) => say_difference(text, &b, &both),
+        None => text.say("no meeting"),
+    }
 }
 
 /// `same FACT ; FACT`.
-fn same(alloc: Global, a: &Fact, b: &Fact) -> Result<String, Unanswered> {
-    let answer = if is_same(a, b) { "yes" } else { "no" };
-    Ok(format!(in alloc; "{answer}")?)
+fn say_same(text: &mut Text, a: &Fact, words: &str) {
+    let b = fact_of(text, words);
+    text.say(if is_same(a, &b) { "yes" } else { "no" });
 }

@@ -1,25 +1,10 @@
-//! Facts and prologues in words.
+//! Facts in words.
 //!
 //! A fact is `entry`, that of a function's entry, `after`, that after `push {r4, lr}` there, or `mixed`, the same with r1
 //! unknown, the CFA minus 8 in r2, r5's value in r3 and the CFA minus 4 in r7; and then its changes, in decimal: `depth=N`,
 //! `kept=N`, `below=yes`, and for a register, as `r7=cfa-4`, `r7=r5` or `r7=?`, what it holds.
-//!
-//! A prologue is its saves, as `lr@4 r4@8`, or `-`.
-use case_rows::{Unanswered, decimal, first_word};
-use frame_facts::{Fact, Prologue, Save, Source, entry_fact};
-use std::alloc::{AllocError, Global};
-
-/// `push {r4, lr}` at 8000.
-pub fn usual_prologue() -> Prologue {
-    let mut saves = [Save { reg: 0, offset: 0 }; 16];
-    saves[0] = Save { reg: 14, offset: 4 };
-    saves[1] = Save { reg: 4, offset: 8 };
-    Prologue {
-        end: 0x8002,
-        count: 2,
-        saves,
-    }
-}
+use case_rows::{Text, Unanswered, first_word};
+use frame_facts::{Fact, Source, entry_fact};
 
 fn after() -> Fact {
     let mut fact = entry_fact();
@@ -37,212 +22,150 @@ fn mixed() -> Fact {
     fact
 }
 
-/// `r0` to `r15`, `lr` and `pc`.
-fn register_of(word: &str) -> Result<u8, Unanswered> {
+/// `r0` to `r15`, and `lr`.
+pub fn register_of(text: &mut Text, word: &str) -> u8 {
     if word == "lr" {
-        return Ok(14);
+        return 14;
     }
-    let Some(digits) = word.strip_prefix('r') else {
-        return Err(Unanswered::NotKnown);
-    };
-    let number = decimal(digits)?;
+    let number = text.decimal(word.strip_prefix('r').unwrap_or(""));
     if number < 16 {
-        Ok(number as u8)
+        number as u8
     } else {
-        Err(Unanswered::NotKnown)
+        text.refuse(Unanswered::NotKnown);
+        0
     }
 }
 
 /// What a register holds.
-fn source_of(word: &str) -> Result<Source, Unanswered> {
+fn source_of(text: &mut Text, word: &str) -> Source {
     if word == "?" {
-        return Ok(Source::Other);
+        return Source::Other;
     }
     match word.strip_prefix("cfa-") {
-        Some(digits) => Ok(Source::SpAt(decimal(digits)?)),
-        None => Ok(Source::Entry(register_of(word)?)),
+        Some(digits) => Source::SpAt(text.decimal(digits)),
+        None => Source::Entry(register_of(text, word)),
     }
 }
 
-/// The place of a register in a fact.
-fn register_place(word: &str) -> Result<usize, Unanswered> {
-    match register_of(word)? {
-        14 => Ok(13),
-        register => {
-            if register < 13 {
-                Ok(register as usize)
-            } else {
-                Err(Unanswered::NotKnown)
-            }
-        }
-    }
-}
-
-/// A fact with a change.
-fn changed(fact: Fact, change: &str) -> Result<Fact, Unanswered> {
-    let Some((what, value)) = change.split_once('=') else {
-        return Err(Unanswered::NoWord);
+/// Changes what a register holds.
+fn change_register(text: &mut Text, fact: &mut Fact, register: &str, value: &str) {
+    let place = match register_of(text, register) {
+        14 => 13,
+        register => register as usize,
     };
-    let mut fact = fact;
-    match what {
-        "depth" => fact.depth = decimal(value)?,
-        "kept" => fact.kept = decimal(value)?,
-        "below" => fact.below = value == "yes",
-        register => {
-            let place = register_place(register)?;
-            if let Some(source) = fact.regs.get_mut(place) {
-                *source = source_of(value)?;
-            }
-        }
+    let source = source_of(text, value);
+    match fact.regs.get_mut(place) {
+        Some(held) => *held = source,
+        None => text.refuse(Unanswered::NotKnown),
     }
-    Ok(fact)
 }
 
-/// The fact of a text.
-pub fn fact_of(text: &str) -> Result<Fact, Unanswered> {
-    let (name, changes) = first_word(text);
-    let mut fact = match name {
+/// Makes a change.
+fn change(text: &mut Text, fact: &mut Fact, words: &str) {
+    let (what, value) = words.split_once('=').unwrap_or((words, ""));
+    match what {
+        "depth" => fact.depth = text.decimal(value),
+        "kept" => fact.kept = text.decimal(value),
+        "below" => fact.below = value == "yes",
+        register => change_register(text, fact, register, value),
+    }
+}
+
+/// The fact of a name.
+fn named(text: &mut Text, name: &str) -> Fact {
+    match name {
         "entry" => entry_fact(),
         "after" => after(),
         "mixed" => mixed(),
-        _ => return Err(Unanswered::NotKnown),
-    };
+        _ => {
+            text.refuse(Unanswered::NotKnown);
+            entry_fact()
+        }
+    }
+}
+
+/// The fact of words.
+pub fn fact_of(text: &mut Text, words: &str) -> Fact {
+    let (name, changes) = first_word(words);
+    let mut fact = named(text, name);
     if !changes.is_empty() {
-        for change in changes.split(' ') {
-            fact = changed(fact, change)?;
+        for words in changes.split(' ') {
+            change(text, &mut fact, words);
         }
     }
-    Ok(fact)
+    fact
 }
 
-/// A prologue with a save more.
-fn with_save(p: Prologue, text: &str) -> Result<Prologue, Unanswered> {
-    let Some((register, offset)) = text.split_once('@') else {
-        return Err(Unanswered::NoWord);
-    };
-    let reg = register_of(register)?;
-    let offset = decimal(offset)?;
-    let place = p.count as usize;
-    let mut saves = p.saves;
-    if place >= saves.len() {
-        return Err(Unanswered::Because("too many saves"));
-    }
-    saves[place] = Save { reg, offset };
-    Ok(Prologue {
-        end: p.end,
-        count: p.count.wrapping_add(1),
-        saves,
-    })
-}
-
-/// The prologue of a text, which begins at 8000 and has one instruction where it saves something.
-pub fn prologue_of(text: &str) -> Result<Prologue, Unanswered> {
-    let mut p = Prologue {
-        end: 0x8000,
-        count: 0,
-        saves: [Save { reg: 0, offset: 0 }; 16],
-    };
-    if text != "-" {
-        p.end = 0x8002;
-        for save in text.split(' ') {
-            p = with_save(p, save)?;
-        }
-    }
-    Ok(p)
-}
-
-/// The name of the register at a place in a fact, or of a register.
-fn register_text(alloc: Global, register: usize) -> Result<String, AllocError> {
+/// Adds the name of the register at a place in a fact, or of a register.
+pub fn say_register(text: &mut Text, register: usize) {
     if register > 12 {
-        format!(in alloc; "lr")
+        text.say("lr");
     } else {
-        format!(in alloc; "r{register}")
+        text.say("r");
+        text.say_count(register);
     }
 }
 
-fn source_text(alloc: Global, source: Source) -> Result<String, AllocError> {
+fn say_source(text: &mut Text, source: Source) {
     match source {
-        Source::Entry(register) => register_text(alloc, register as usize),
-        Source::SpAt(offset) => format!(in alloc; "cfa-{offset}"),
-        Source::Other => format!(in alloc; "?"),
+        Source::Entry(register) => say_register(text, register as usize),
+        Source::SpAt(offset) => {
+            text.say("cfa-");
+            text.say_decimal(offset);
+        }
+        Source::Other => text.say("?"),
     }
 }
 
-fn push_words(text: &mut String, words: &str) -> Result<(), AllocError> {
-    if !text.is_empty() {
-        text.push(' ')?;
-    }
-    text.push_str(words)
+/// Adds the name of something, and a number.
+fn say_number(text: &mut Text, name: &str, number: u32) {
+    text.say_between(" ");
+    text.say(name);
+    text.say_decimal(number);
 }
 
-/// What differs in depth and saves.
-fn push_frame(
-    alloc: Global,
-    text: &mut String,
-    before: &Fact,
-    after: &Fact,
-) -> Result<(), AllocError> {
-    let (depth, kept) = (after.depth, after.kept);
-    if before.depth != depth {
-        push_words(text, format!(in alloc; "depth={depth}")?.as_str())?;
+/// Adds what the register at a place holds.
+fn say_held(text: &mut Text, place: usize, source: Source) {
+    text.say_between(" ");
+    say_register(text, place);
+    text.say("=");
+    say_source(text, source);
+}
+
+/// Adds what differs in depth and saves.
+fn say_frame_difference(text: &mut Text, before: &Fact, after: &Fact) {
+    if before.depth != after.depth {
+        say_number(text, "depth=", after.depth);
     }
     if before.below != after.below {
-        push_words(text, if after.below { "below=yes" } else { "below=no" })?;
+        text.say_between(" ");
+        text.say(if after.below { "below=yes" } else { "below=no" });
     }
-    if before.kept != kept {
-        push_words(text, format!(in alloc; "kept={kept}")?.as_str())?;
+    if before.kept != after.kept {
+        say_number(text, "kept=", after.kept);
     }
-    Ok(())
 }
 
-/// What of a fact differs from another one before it, or `the same`.
-pub fn difference(alloc: Global, before: &Fact, after: &Fact) -> Result<String, AllocError> {
-    let mut text = String::new(alloc);
-    push_frame(alloc, &mut text, before, after)?;
+/// Says what of a fact differs from another one before it, or `the same`.
+pub fn say_difference(text: &mut Text, before: &Fact, after: &Fact) {
+    say_frame_difference(text, before, after);
     for (place, (old, new)) in before.regs.iter().zip(&after.regs).enumerate() {
         if old != new {
-            let register = register_text(alloc, place)?;
-            let source = source_text(alloc, *new)?;
-            push_words(
-                &mut text,
-                format!(in alloc; "{register}={source}")?.as_str(),
-            )?;
+            say_held(text, place, *new);
         }
     }
     if text.is_empty() {
-        text.push_str("the same")?;
+        text.say("the same");
     }
-    Ok(text)
 }
 
-/// All of a fact's registers.
-pub fn registers_text(alloc: Global, fact: &Fact) -> Result<String, AllocError> {
-    let (depth, below, kept) = (fact.depth, fact.below, fact.kept);
-    let mut text = format!(in alloc; "depth={depth} below={below} kept={kept}")?;
+/// Says all of a fact.
+pub fn say_fact(text: &mut Text, fact: &Fact) {
+    say_number(text, "depth=", fact.depth);
+    text.say(" below=");
+    text.say_whether(fact.below);
+    say_number(text, "kept=", fact.kept);
     for (place, source) in fact.regs.iter().enumerate() {
-        let register = register_text(alloc, place)?;
-        let source = source_text(alloc, *source)?;
-        push_words(
-            &mut text,
-            format!(in alloc; "{register}={source}")?.as_str(),
-        )?;
+        say_held(text, place, *source);
     }
-    Ok(text)
-}
-
-/// The saves of a prologue.
-pub fn saves_text(alloc: Global, p: &Prologue) -> Result<String, AllocError> {
-    let mut text = String::new(alloc);
-    for save in p.saves.iter().take(p.count as usize) {
-        let register = register_text(alloc, save.reg as usize)?;
-        let offset = save.offset;
-        push_words(
-            &mut text,
-            format!(in alloc; "{register}@{offset}")?.as_str(),
-        )?;
-    }
-    if text.is_empty() {
-        text.push('-')?;
-    }
-    Ok(text)
 }

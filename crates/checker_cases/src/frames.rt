@@ -1,102 +1,94 @@
 //! The facts of functions in images: which functions have valid facts, and at which place which cause stands.
-use crate::causes::cause_text;
-use crate::facts::prologue_of;
-use case_images::{image_of, opened};
-use case_rows::{Asked, Unanswered, first_word, want_of_memory};
+use crate::causes::say_cause;
+use crate::prologues::prologue_of;
+use crate::source::count_of;
+use case_images::{image_by, opened_in};
+use case_rows::{Telling, Text, Unanswered, first_word};
 use eh_index::Index;
-use elf_image::image::Image;
 use frame_facts::Prologue;
 use frame_flow::{FrameFault, Framed, solve};
 use frame_graph::FlowGraph;
 use frame_reach::reach;
 use image_memory::profile::profile_of;
-use std::alloc::{AllocError, Global};
+use std::alloc::Global;
 
 const START: u32 = 0x8000;
 
+/// An image of a function with its code, a leaf `bx lr` at 8080, the words of a table at 9000, and the index at 9100 with a row for each
+/// function, of which the first one's has this word.
+const IMAGE: &str =
+    "entry 8000 ; thumb 8000 ; function _start 8000 2 ; function leaf 8080 2 ; index 9100 10 ; segment 8000 2000 ; code 8000 {} ; code 8080 4770 0 ; words 9000 {} ; words 9100 >8000 {} >8080 80B0B0B0";
+
 /// What functions at 8000 are asked.
-#[derive(Clone, Copy)]
 pub struct Frames;
 
-impl Asked for Frames {
+impl Telling for Frames {
     /// `ENTRY ; SAVES ; PADS ; HALFWORDS`, where ENTRY is the second word of the function's row, with a table's words after it at
     /// 9000, PADS a letter for each halfword, `p` for a landing pad.
-    fn answer(&self, alloc: Global, question: &str) -> Result<String, Unanswered> {
-        let Some((entry, rest)) = question.split_once(" ; ") else {
-            return Err(Unanswered::NoWord);
-        };
-        let Some((saves, rest)) = rest.split_once(" ; ") else {
-            return Err(Unanswered::NoWord);
-        };
-        let Some((pads, code)) = rest.split_once(" ; ") else {
-            return Err(Unanswered::NoWord);
-        };
-        let file = file_of(alloc, entry, code)?;
-        let image = opened(alloc, &file)?;
-        let end = end_of(code);
-        solved(
-            alloc,
-            &image,
-            end,
-            prologue_of(saves)?,
-            &pads_of(alloc, pads)?,
-        )
+    fn tell(&self, text: &mut Text, question: &str) {
+        let (entry, rest) = question.split_once(" ; ").unwrap_or((question, ""));
+        let (saves, rest) = rest.split_once(" ; ").unwrap_or((rest, ""));
+        let (pads, code) = rest.split_once(" ; ").unwrap_or((rest, ""));
+        let (word, table) = first_word(entry);
+        let prologue = prologue_of(text, saves);
+        let end = START.saturating_add(count_of(code).saturating_mul(2));
+        if let Some(file) = image_by(text, IMAGE, &[code, table, word]) {
+            say_file(text, file.as_slice(), end, prologue, pads);
+        }
     }
 }
 
-/// The image: the function, a leaf `bx lr` at 8080, the table at 9000, and the index at 9100 with a row for each function.
-fn file_of(alloc: Global, entry: &str, code: &str) -> Result<Vec<u8>, Unanswered> {
-    let (word, table) = first_word(entry);
-    let front =
-        "entry 8000 ; thumb 8000 ; function _start 8000 2 ; function leaf 8080 2 ; index 9100 10 ; segment 8000 2000";
-    let text = format!(in alloc;
-        "{front} ; code 8000 {code} ; code 8080 4770 0 ; words 9000 {table} ; words 9100 >8000 {word} >8080 80B0B0B0"
-    )?;
-    image_of(alloc, text.as_str())
-}
-
-/// The address after so many halfwords.
-fn end_of(code: &str) -> u32 {
-    let mut end = START;
-    for _ in code.split(' ') {
-        end = end.wrapping_add(2);
-    }
-    end
-}
-
-fn pads_of(alloc: Global, letters: &str) -> Result<Vec<bool>, AllocError> {
+/// Which places are pads, by letters; None where memory is wanting.
+fn pads_of(alloc: Global, letters: &str) -> Option<Vec<bool>> {
     let mut pads = Vec::new(alloc);
     for letter in letters.as_bytes() {
-        pads.push(*letter == b'p')?;
+        pads.push(*letter == b'p').ok()?;
     }
-    Ok(pads)
+    Some(pads)
 }
 
-/// What the facts of the function at the start say, which ends at an address.
-fn solved(
-    alloc: Global,
-    image: &Image,
-    end: u32,
-    prologue: Prologue,
-    pads: &[bool],
-) -> Result<String, Unanswered> {
-    let Ok(index) = Index::read(image) else {
-        return Err(Unanswered::Because("no index"));
+/// Says what the facts of the function at the start say, which ends at an address.
+fn say_file(text: &mut Text, file: &[u8], end: u32, prologue: Prologue, pads: &str) {
+    let Some(image) = opened_in(text, file) else {
+        return;
     };
-    if end <= START {
-        return Err(Unanswered::NoWord);
-    }
-    let flow_graph = FlowGraph::new(&index, profile_of(image), START, end);
-    let Ok(reached) = reach(alloc, &flow_graph) else {
-        return Err(Unanswered::Because("not reached"));
-    };
-    let framed = Framed::new(&flow_graph, prologue, pads, reached.reached());
-    match solve(alloc, &framed) {
-        Ok(()) => Ok(format!(in alloc; "fine")?),
-        Err(FrameFault::Stands(place, cause)) => {
-            let cause = cause_text(alloc, cause)?;
-            Ok(format!(in alloc; "{cause} at {place}")?)
+    match Index::read(&image) {
+        Ok(index) => {
+            let flow_graph = FlowGraph::new(&index, profile_of(&image), START, end);
+            say_function(text, &flow_graph, prologue, pads);
         }
-        Err(FrameFault::OutOfMemory) => Err(want_of_memory()),
+        Err(_fault) => text.refuse(Unanswered::Because("no index")),
+    }
+}
+
+fn say_function(text: &mut Text, flow_graph: &FlowGraph, prologue: Prologue, pads: &str) {
+    match pads_of(text.alloc(), pads) {
+        Some(pads) => say_solved(text, flow_graph, prologue, pads.as_slice()),
+        None => text.want_memory(),
+    }
+}
+
+fn say_solved(text: &mut Text, flow_graph: &FlowGraph, prologue: Prologue, pads: &[bool]) {
+    if flow_graph.start() >= flow_graph.end() {
+        return text.refuse(Unanswered::NoWord);
+    }
+    match reach(text.alloc(), flow_graph) {
+        Ok(reached) => {
+            let framed = Framed::new(flow_graph, prologue, pads, reached.reached());
+            say_solution(text, solve(text.alloc(), &framed));
+        }
+        Err(_fault) => text.refuse(Unanswered::Because("not reached")),
+    }
+}
+
+fn say_solution(text: &mut Text, solution: Result<(), FrameFault>) {
+    match solution {
+        Ok(()) => text.say("fine"),
+        Err(FrameFault::Stands(place, cause)) => {
+            say_cause(text, cause);
+            text.say(" at ");
+            text.say_decimal(place);
+        }
+        Err(FrameFault::OutOfMemory) => text.want_memory(),
     }
 }

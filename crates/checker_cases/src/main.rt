@@ -10,14 +10,16 @@ mod effects;
 mod facts;
 mod frames;
 mod laws;
+mod prologues;
 mod reached;
 mod runs;
 mod sites;
 mod source;
+mod verdicts;
 
 use accepted::Accepting;
 use called::Called;
-use case_rows::run_file;
+use case_rows::run_telling;
 use effects::Effects;
 use frames::Frames;
 use laws::laws_at_numbers;
@@ -28,12 +30,12 @@ use std::io::Error;
 
 fn main(host: HostRuntime) -> Result<(), Error> {
     laws_at_numbers();
-    run_file(&host, "effects.txt", &Effects)?;
-    run_file(&host, "prologues.txt", &Runs)?;
-    run_file(&host, "sites.txt", &Sites)?;
-    run_file(&host, "reached.txt", &Reaching)?;
-    run_file(&host, "frames.txt", &Frames)?;
-    run_file(&host, "images.txt", &Accepting)?;
-    run_file(&host, "variable_frames.txt", &Called)?;
-    run_file(&host, "profiles.txt", &Called)
+    run_telling(&host, "effects.txt", &Effects)?;
+    run_telling(&host, "prologues.txt", &Runs)?;
+    run_telling(&host, "sites.txt", &Sites)?;
+    run_telling(&host, "reached.txt", &Reaching)?;
+    run_telling(&host, "frames.txt", &Frames)?;
+    run_telling(&host, "images.txt", &Accepting)?;
+    run_telling(&host, "variable_frames.txt", &Called)?;
+    run_telling(&host, "profiles.txt", &Called)
 }

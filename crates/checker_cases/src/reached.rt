@@ -1,167 +1,161 @@
 //! What is reached, which places are targets and landing pads, and the prologue of functions at 9000 in images.
-use crate::facts::saves_text;
-use case_images::{image_of, opened};
-use case_rows::{Asked, Unanswered, decimal, first_word, want_of_memory};
+use crate::prologues::say_saves;
+use crate::source::count_of;
+use case_images::{image_of_text, opened_in};
+use case_rows::{Telling, Text, Unanswered, first_word};
 use eh_index::Index;
-use elf_image::image::Image;
 use frame_graph::FlowGraph;
 use frame_reach::{ReachFault, Reached, reach};
 use image_memory::profile::profile_of;
-use std::alloc::{AllocError, Global};
 
 const CODE: u32 = 0x9000;
 
-/// What functions are asked.
+/// What is asked of a function.
 #[derive(Clone, Copy)]
+enum Ask {
+    /// Its places, and its prologue.
+    Places,
+    /// How many places are reached.
+    Count,
+    /// Whether a row splits it.
+    Split,
+}
+
+/// What functions are asked.
 pub struct Reaching;
 
-impl Asked for Reaching {
-    fn answer(&self, alloc: Global, question: &str) -> Result<String, Unanswered> {
+impl Telling for Reaching {
+    fn tell(&self, text: &mut Text, question: &str) {
         let (what, rest) = first_word(question);
-        let (rows, code) = match rest.split_once(" ; ") {
-            Some(parts) => parts,
-            None => ("-", rest),
-        };
+        let (rows, code) = rest.split_once(" ; ").unwrap_or(("-", rest));
         match what {
-            "reach" => reached(alloc, rows, code),
-            "nops" => counted(alloc, rest),
-            "split" => split(alloc, rows, code),
-            _ => Err(Unanswered::NotKnown),
+            "reach" => say_function(text, rows, code, Ask::Places),
+            "nops" => say_nops(text, code),
+            "split" => say_split(text, rows, code),
+            _ => text.refuse(Unanswered::NotKnown),
         }
     }
 }
 
-/// The file of an image with code at 9000, and rows of the index at 8100: `-` for none, `table WORD..` for one that leads to a table
-/// at 8000, and else the words of rows.
-fn file_of(alloc: Global, rows: &str, code: &str) -> Result<Vec<u8>, Unanswered> {
-    let front = "entry 9000 ; thumb 9000 ; function f 9000 2 ; segment 8000 10000";
-    let text = if rows == "-" {
-        format!(in alloc; "{front} ; index 8100 0 ; words 8100  ; code 9000 {code}")?
-    } else if let Some(table) = rows.strip_prefix("table ") {
-        format!(in alloc;
-            "{front} ; index 8100 8 ; words 8000 {table} ; words 8100 >9000 >8000 ; code 9000 {code}"
-        )?
-    } else {
-        let mut bytes = 0u32;
-        for _ in rows.split(' ') {
-            bytes = bytes.wrapping_add(4);
-        }
-        format!(in alloc; "{front} ; index 8100 {bytes:X} ; words 8100 {rows} ; code 9000 {code}")?
+/// `reach [ROWS ;] HALFWORDS`: what is asked of the function of these halfwords.
+fn say_function(text: &mut Text, rows: &str, code: &str, ask: Ask) {
+    if let Some(file) = file_of(text, rows, code) {
+        say_file(text, file.as_slice(), count_of(code), ask);
+    }
+}
+
+/// `nops COUNT`: how many places are reached of so many nops and a return.
+fn say_nops(text: &mut Text, count: &str) {
+    let mut code = Text::new(text.alloc());
+    for _ in 0..text.decimal(count) {
+        code.say("BF00 ");
+    }
+    code.say("4770");
+    if let Some(code) = text.taken(code.finish()) {
+        say_function(text, "-", code.as_str(), Ask::Count);
+    }
+}
+
+/// `split ROWS ; HALFWORDS`: whether a row splits the function of these halfwords, and how many places are reached of an empty one.
+fn say_split(text: &mut Text, rows: &str, code: &str) {
+    if let Some(file) = file_of(text, rows, code) {
+        say_file(text, file.as_slice(), count_of(code), Ask::Split);
+        text.say(", ");
+        say_file(text, file.as_slice(), 0, Ask::Count);
+        text.say(" of none");
+    }
+}
+
+/// The words of a table at 8000, and those of the index: `-` for none, `table WORD..` for a row that leads to a table, and else the words of
+/// rows.
+fn table_and_rows(rows: &str) -> (&str, &str) {
+    if rows == "-" {
+        return ("", "");
+    }
+    match rows.strip_prefix("table ") {
+        Some(table) => (table, ">9000 >8000"),
+        None => ("", rows),
+    }
+}
+
+/// The file of an image with code at 9000, and rows of the index at 8100.
+fn file_of<'a>(text: &mut Text, rows: &'a str, code: &'a str) -> Option<Vec<u8>> {
+    let (table, rows) = table_and_rows(rows);
+    let mut image = Text::new(text.alloc());
+    image.say("entry 9000 ; thumb 9000 ; function f 9000 2 ; segment 8000 10000 ; index 8100 ");
+    image.say_hex(count_of(rows).saturating_mul(4));
+    image.fill(
+        " ; words 8000 {} ; words 8100 {} ; code 9000 {}",
+        &[table, rows, code],
+    );
+    image_of_text(text, image)
+}
+
+/// Says what is asked of the function of so many halfwords.
+fn say_file(text: &mut Text, file: &[u8], count: u32, ask: Ask) {
+    let Some(image) = opened_in(text, file) else {
+        return;
     };
-    image_of(alloc, text.as_str())
+    match Index::read(&image) {
+        Ok(index) => {
+            let end = CODE.saturating_add(count.saturating_mul(2));
+            let flow_graph = FlowGraph::new(&index, profile_of(&image), CODE, end);
+            say_graph(text, &flow_graph, count, ask);
+        }
+        Err(_fault) => text.refuse(Unanswered::Because("no index")),
+    }
 }
 
-fn count_of(code: &str) -> u32 {
-    let mut count = 0u32;
-    for _ in code.split(' ') {
-        count = count.wrapping_add(1);
+fn say_graph(text: &mut Text, flow_graph: &FlowGraph, count: u32, ask: Ask) {
+    match reach(text.alloc(), flow_graph) {
+        Ok(reached) => match ask {
+            Ask::Places => say_reached(text, flow_graph, &reached, count),
+            Ask::Count => say_count(text, reached.places().len()),
+            Ask::Split => text.say(if reached.splits(flow_graph) {
+                "split"
+            } else {
+                "whole"
+            }),
+        },
+        Err(ReachFault::TooLong) => text.say("too long"),
+        Err(ReachFault::OutOfMemory) => text.want_memory(),
     }
-    count
+}
+
+/// Says how many places are reached.
+fn say_count(text: &mut Text, places: usize) {
+    text.say_count(places);
+    text.say(if places == 1 { " place" } else { " places" });
 }
 
 /// A place: `r` is reached, `t` is a target too, `p` a landing pad, and `-` none of them.
-fn letter(reached: &Reached, place: u32) -> char {
+fn letter(reached: &Reached, place: u32) -> &'static str {
     match (
         reached.is_reached(place),
         reached.is_target(place),
         reached.is_pad(place),
     ) {
-        (true, false, false) => 'r',
-        (true, true, false) => 't',
-        (true, true, true) => 'p',
-        (false, false, false) => '-',
-        _ => '?',
+        (true, false, false) => "r",
+        (true, true, false) => "t",
+        (true, true, true) => "p",
+        (false, false, false) => "-",
+        _ => "?",
     }
 }
 
-/// What is told of a function: its places as letters, its prologue, and the reached places in the order in which they were found.
-fn told(
-    alloc: Global,
-    flow_graph: &FlowGraph,
-    reached: &Reached,
-    count: u32,
-) -> Result<String, AllocError> {
-    let mut text = String::new(alloc);
+/// Says what is told of a function: its places as letters, its prologue, and the reached places in the order in which they were found.
+fn say_reached(text: &mut Text, flow_graph: &FlowGraph, reached: &Reached, count: u32) {
     for place in 0..count {
-        text.push(letter(reached, place))?;
+        text.say(letter(reached, place));
     }
     let prologue = reached.prologue(flow_graph);
-    let end = prologue.end;
-    let saves = saves_text(alloc, &prologue)?;
-    text.push_str(format!(in alloc; ", to {end:X}, saves {saves}, places")?.as_str())?;
+    text.say(", to ");
+    text.say_hex(prologue.end);
+    text.say(", saves ");
+    say_saves(text, &prologue);
+    text.say(", places");
     for place in reached.places() {
-        text.push_str(format!(in alloc; " {place}")?.as_str())?;
+        text.say(" ");
+        text.say_decimal(*place);
     }
-    Ok(text)
-}
-
-fn told_of(alloc: Global, image: &Image, count: u32) -> Result<String, Unanswered> {
-    let Ok(index) = Index::read(image) else {
-        return Err(Unanswered::Because("no index"));
-    };
-    let end = CODE.saturating_add(count.saturating_mul(2));
-    let flow_graph = FlowGraph::new(&index, profile_of(image), CODE, end);
-    match reach(alloc, &flow_graph) {
-        Ok(reached) => Ok(told(alloc, &flow_graph, &reached, count)?),
-        Err(ReachFault::TooLong) => Err(Unanswered::Because("too long")),
-        Err(ReachFault::OutOfMemory) => Err(want_of_memory()),
-    }
-}
-
-/// `reach [ROWS ;] HALFWORDS`.
-fn reached(alloc: Global, rows: &str, code: &str) -> Result<String, Unanswered> {
-    let file = file_of(alloc, rows, code)?;
-    let image = opened(alloc, &file)?;
-    told_of(alloc, &image, count_of(code))
-}
-
-/// How many places are reached of a function with so many halfwords.
-fn count_in(alloc: Global, image: &Image, count: u32) -> Result<String, Unanswered> {
-    let Ok(index) = Index::read(image) else {
-        return Err(Unanswered::Because("no index"));
-    };
-    let end = CODE.saturating_add(count.saturating_mul(2));
-    match reach(alloc, &FlowGraph::new(&index, profile_of(image), CODE, end)) {
-        Ok(reached) => {
-            let places = reached.places().len();
-            let word = if places == 1 { "place" } else { "places" };
-            Ok(format!(in alloc; "{places} {word}")?)
-        }
-        Err(ReachFault::TooLong) => Err(Unanswered::Because("too long")),
-        Err(ReachFault::OutOfMemory) => Err(want_of_memory()),
-    }
-}
-
-/// `nops COUNT`: so many nops and a return.
-fn counted(alloc: Global, count: &str) -> Result<String, Unanswered> {
-    let count = decimal(count)?;
-    let mut code = String::new(alloc);
-    for _ in 0..count {
-        code.push_str("BF00 ")?;
-    }
-    code.push_str("4770")?;
-    let file = file_of(alloc, "-", code.as_str())?;
-    let image = opened(alloc, &file)?;
-    count_in(alloc, &image, count.saturating_add(1))
-}
-
-/// `split ROWS ; HALFWORDS`: whether a row splits the function of these halfwords, and how many places are reached of an empty one.
-fn split(alloc: Global, rows: &str, code: &str) -> Result<String, Unanswered> {
-    let file = file_of(alloc, rows, code)?;
-    let image = opened(alloc, &file)?;
-    let Ok(index) = Index::read(&image) else {
-        return Err(Unanswered::Because("no index"));
-    };
-    let end = CODE.saturating_add(count_of(code).saturating_mul(2));
-    let whole = FlowGraph::new(&index, profile_of(&image), CODE, end);
-    let Ok(reached) = reach(alloc, &whole) else {
-        return Err(Unanswered::Because("not reached"));
-    };
-    let empty = count_in(alloc, &image, 0)?;
-    let answer = if reached.splits(&whole) {
-        "split"
-    } else {
-        "whole"
-    };
-    Ok(format!(in alloc; "{answer}, {empty} of none")?)
 }

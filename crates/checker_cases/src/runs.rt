@@ -1,48 +1,58 @@
 //! Prologues, instruction by instruction from 8000 on.
-use crate::facts::saves_text;
-use crate::source::instructions;
-use case_rows::{Asked, Unanswered, first_word};
+use crate::prologues::say_saves;
+use crate::source::{code_of, instruction_at};
+use case_rows::{Telling, Text, Unanswered, first_word};
 use frame_facts::Straight;
-use std::alloc::Global;
-use thumb_isa::instr::Instr;
 
 /// What runs of instructions are asked.
-#[derive(Clone, Copy)]
 pub struct Runs;
 
-impl Asked for Runs {
-    fn answer(&self, alloc: Global, question: &str) -> Result<String, Unanswered> {
-        let (what, text) = first_word(question);
-        let text = if text == "-" { "" } else { text };
-        let lines = instructions(alloc, text)?;
-        let run = run_of(&lines);
+impl Telling for Runs {
+    fn tell(&self, text: &mut Text, question: &str) {
+        let (what, words) = first_word(question);
+        let words = if words == "-" { "" } else { words };
+        let run = run_of_words(text, words);
         match what {
-            "run" => told(alloc, run),
-            "stand" => {
-                let answer = if run.is_some() { "yes" } else { "no" };
-                Ok(format!(in alloc; "{answer}")?)
-            }
-            _ => Err(Unanswered::NotKnown),
+            "run" => say_run(text, run),
+            "stand" => text.say(if run.is_some() { "yes" } else { "no" }),
+            _ => text.refuse(Unanswered::NotKnown),
         }
     }
 }
 
-/// The run of these instructions, where all of them may stand in it.
-fn run_of(lines: &[(Instr, u32)]) -> Option<Straight> {
+/// The run of the instructions that words write, where all of them may stand in it.
+fn run_of_words(text: &mut Text, words: &str) -> Option<Straight> {
+    let code = code_of(text, words)?;
+    run_of(text, code.as_slice())
+}
+
+/// The run of these instructions.
+fn run_of(text: &mut Text, code: &[u8]) -> Option<Straight> {
     let mut straight = Straight::begin(0x8000);
-    for (i, size) in lines {
-        straight = straight.taken(i, *size)?;
+    let mut at = 0usize;
+    for _ in 0..code.len() {
+        if at < code.len() {
+            let (i, size) = instruction_at(text, code, at)?;
+            straight = straight.taken(&i, size)?;
+            at = at.wrapping_add(size as usize);
+        }
     }
     Some(straight)
 }
 
-/// A run's end, its saves, and the depth after it.
-fn told(alloc: Global, run: Option<Straight>) -> Result<String, Unanswered> {
-    let Some(straight) = run else {
-        return Ok(format!(in alloc; "no prologue")?);
-    };
-    let end = straight.prologue.end;
-    let saves = saves_text(alloc, &straight.prologue)?;
-    let depth = straight.fact.depth;
-    Ok(format!(in alloc; "to {end:X}, saves {saves}, depth {depth}")?)
+/// Says a run's end, its saves, and the depth after it.
+fn say_run(text: &mut Text, run: Option<Straight>) {
+    match run {
+        None => text.say("no prologue"),
+        Some(straight) => say_straight(text, &straight),
+    }
+}
+
+fn say_straight(text: &mut Text, straight: &Straight) {
+    text.say("to ");
+    text.say_hex(straight.prologue.end);
+    text.say(", saves ");
+    say_saves(text, &straight.prologue);
+    text.say(", depth ");
+    text.say_decimal(straight.fact.depth);
 }

@@ -1,46 +1,42 @@
 //! Recipes of real entries at facts of frames.
-use crate::causes::cause_text;
-use crate::facts::{fact_of, prologue_of};
-use case_rows::{Asked, Unanswered, first_word, number};
+use crate::causes::say_cause;
+use crate::facts::fact_of;
+use crate::prologues::prologue_of;
+use case_rows::{Telling, Text, Unanswered, first_word};
 use eh_bytecode::{Codes, Recipe, summarise};
 use frame_facts::agrees;
-use std::alloc::Global;
 
 /// What sites are asked.
-#[derive(Clone, Copy)]
 pub struct Sites;
 
 /// The recipe of an inline entry.
-fn recipe(word: u32) -> Option<Recipe> {
-    match Codes::inline(word) {
-        Ok(codes) => summarise(&codes).ok(),
-        Err(_fault) => None,
+fn recipe_of(word: u32) -> Option<Recipe> {
+    let codes = Codes::inline(word).ok()?;
+    summarise(&codes).ok()
+}
+
+/// Says whether a recipe takes a frame of such a fact and saves back, or the cause.
+fn say_site(text: &mut Text, fact: &str, saves: &str, recipe: &Recipe, is_call: bool) {
+    let fact = fact_of(text, fact);
+    let prologue = prologue_of(text, saves);
+    match agrees(&fact, &prologue, recipe, is_call) {
+        Ok(()) => text.say("agrees"),
+        Err(cause) => say_cause(text, cause),
     }
 }
 
-impl Asked for Sites {
+impl Telling for Sites {
     /// `call FACT ; SAVES ; WORD` and `gate FACT ; SAVES ; WORD`: what a site says where the covering entry is this word.
-    fn answer(&self, alloc: Global, question: &str) -> Result<String, Unanswered> {
+    fn tell(&self, text: &mut Text, question: &str) {
         let (what, rest) = first_word(question);
-        let Some((fact, rest)) = rest.split_once(" ; ") else {
-            return Err(Unanswered::NoWord);
-        };
-        let Some((saves, word)) = rest.split_once(" ; ") else {
-            return Err(Unanswered::NoWord);
-        };
-        let is_call = match what {
-            "call" => true,
-            "gate" => false,
-            _ => return Err(Unanswered::NotKnown),
-        };
-        let Some(r) = recipe(number(word)?) else {
-            return Ok(format!(in alloc; "no recipe")?);
-        };
-        Ok(
-            match agrees(&fact_of(fact)?, &prologue_of(saves)?, &r, is_call) {
-                Ok(()) => format!(in alloc; "agrees")?,
-                Err(cause) => cause_text(alloc, cause)?,
-            },
-        )
+        let (fact, rest) = rest.split_once(" ; ").unwrap_or((rest, ""));
+        let (saves, word) = rest.split_once(" ; ").unwrap_or((rest, ""));
+        if what != "call" && what != "gate" {
+            text.refuse(Unanswered::NotKnown);
+        }
+        match recipe_of(text.hex(word)) {
+            Some(recipe) => say_site(text, fact, saves, &recipe, what == "call"),
+            None => text.say("no recipe"),
+        }
     }
 }

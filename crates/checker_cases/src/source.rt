@@ -1,59 +1,67 @@
-//! Instructions of source text, with `; ` in the place of the ends of lines.
+//! Instructions of source text, with `; ` in the place of the ends of lines, and how many words there are.
 use asm_object::assemble;
 use asm_read::read_source;
-use case_rows::Unanswered;
+use case_rows::{Text, Unanswered};
 use eh_word::words::get_half;
 use std::alloc::Global;
 use thumb_isa::decode::decode_for;
 use thumb_isa::instr::{Decoded, Instr};
 use thumb_isa::profile::Profile;
 
-/// The bytes of instructions.
-fn bytes_of(alloc: Global, text: &str) -> Result<Vec<u8>, Unanswered> {
-    let mut source = Vec::new(alloc);
-    for line in text.split("; ") {
-        source.extend_from_slice(line.as_bytes())?;
-        source.push(b'\n')?;
+/// How many words there are.
+pub fn count_of(words: &str) -> u32 {
+    let mut count = 0u32;
+    for word in words.split(' ') {
+        if !word.is_empty() {
+            count = count.saturating_add(1);
+        }
     }
-    let Ok(stmts) = read_source(alloc, &source) else {
-        return Err(Unanswered::Because("no source"));
-    };
-    match assemble(alloc, stmts.as_slice()) {
-        Ok(object) => Ok(object.text.into_vec()),
-        Err(_fault) => Err(Unanswered::Because("no code")),
+    count
+}
+
+/// The source whose lines these words write.
+fn source_of(text: &mut Text, words: &str) -> Option<String> {
+    let mut source = Text::new(text.alloc());
+    for line in words.split("; ") {
+        source.say(line);
+        source.say("\n");
     }
+    text.taken(source.finish())
+}
+
+/// The bytes that a source is assembled to.
+fn assembled(alloc: Global, source: &str) -> Option<Vec<u8>> {
+    let stmts = read_source(alloc, source.as_bytes()).ok()?;
+    let object = assemble(alloc, stmts.as_slice()).ok()?;
+    Some(object.text.into_vec())
+}
+
+/// The bytes of the instructions that words write.
+pub fn code_of(text: &mut Text, words: &str) -> Option<Vec<u8>> {
+    let source = source_of(text, words)?;
+    let code = assembled(text.alloc(), source.as_str());
+    if code.is_none() {
+        text.refuse(Unanswered::Because("no code"));
+    }
+    code
 }
 
 /// The instruction at an offset in the second profile, which has all of the first one's, and its size.
-fn instruction_at(bytes: &[u8], at: usize) -> Result<(Instr, u32), Unanswered> {
-    let first = get_half(bytes, at).unwrap_or(0);
-    let second = get_half(bytes, at.wrapping_add(2)).unwrap_or(0);
+pub fn instruction_at(text: &mut Text, code: &[u8], at: usize) -> Option<(Instr, u32)> {
+    let first = get_half(code, at).unwrap_or(0);
+    let second = get_half(code, at.wrapping_add(2)).unwrap_or(0);
     match decode_for(Profile::Two, first, second) {
-        Decoded::Is(i, size) => Ok((i, size)),
+        Decoded::Is(i, size) => Some((i, size)),
         Decoded::Undefined | Decoded::Unpredictable | Decoded::NotInProfile => {
-            Err(Unanswered::Because("no instruction"))
+            text.refuse(Unanswered::Because("no instruction"));
+            None
         }
     }
 }
 
-/// The instructions of a text with their sizes.
-pub fn instructions(alloc: Global, text: &str) -> Result<Vec<(Instr, u32)>, Unanswered> {
-    let bytes = bytes_of(alloc, text)?;
-    let mut instructions = Vec::new(alloc);
-    let mut at = 0usize;
-    for _ in 0..bytes.len() {
-        if at < bytes.len() {
-            let (i, size) = instruction_at(&bytes, at)?;
-            instructions.push((i, size))?;
-            at = at.wrapping_add(size as usize);
-        }
-    }
-    Ok(instructions)
-}
-
-/// The first instruction of a text.
-pub fn instruction(alloc: Global, text: &str) -> Result<Instr, Unanswered> {
-    let bytes = bytes_of(alloc, text)?;
-    let (i, _size) = instruction_at(&bytes, 0)?;
-    Ok(i)
+/// The first instruction that words write.
+pub fn instruction(text: &mut Text, words: &str) -> Option<Instr> {
+    let code = code_of(text, words)?;
+    let (i, _size) = instruction_at(text, code.as_slice(), 0)?;
+    Some(i)
 }

@@ -1,0 +1,64 @@
+//! Prologues in words: their saves, as `lr@4 r4@8`, or `-`.
+use crate::facts::{register_of, say_register};
+use case_rows::{Text, Unanswered};
+use frame_facts::{Prologue, Save};
+
+/// No instruction at 8000.
+const NONE: Prologue = Prologue {
+    end: 0x8000,
+    count: 0,
+    saves: [Save { reg: 0, offset: 0 }; 16],
+};
+
+/// `push {r4, lr}` at 8000.
+pub fn usual_prologue() -> Prologue {
+    let mut p = NONE;
+    p.end = 0x8002;
+    p.count = 2;
+    p.saves[0] = Save { reg: 14, offset: 4 };
+    p.saves[1] = Save { reg: 4, offset: 8 };
+    p
+}
+
+/// Adds a save to a prologue.
+fn add_save(text: &mut Text, p: &mut Prologue, words: &str) {
+    let (register, offset) = words.split_once('@').unwrap_or((words, ""));
+    let reg = register_of(text, register);
+    let offset = text.decimal(offset);
+    match p.saves.get_mut(p.count as usize) {
+        Some(save) => *save = Save { reg, offset },
+        None => text.refuse(Unanswered::Because("too many saves")),
+    }
+    p.count = p.count.saturating_add(1);
+}
+
+/// The prologue of words, which begins at 8000 and has one instruction where it saves something.
+pub fn prologue_of(text: &mut Text, words: &str) -> Prologue {
+    let mut p = NONE;
+    if words != "-" {
+        p.end = 0x8002;
+        for save in words.split(' ') {
+            add_save(text, &mut p, save);
+        }
+    }
+    p
+}
+
+fn say_save(text: &mut Text, save: Save) {
+    say_register(text, save.reg as usize);
+    text.say("@");
+    text.say_decimal(save.offset);
+}
+
+/// Adds the saves of a prologue.
+pub fn say_saves(text: &mut Text, p: &Prologue) {
+    if p.count == 0 {
+        text.say("-");
+    }
+    let mut between = "";
+    for save in p.saves.iter().take(p.count as usize) {
+        text.say(between);
+        say_save(text, *save);
+        between = " ";
+    }
+}
