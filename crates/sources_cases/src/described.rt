@@ -1,7 +1,7 @@
 //! Objects that no source has, described line by line: `object` begins one, `text`, `rodata`, `tables` and `data` give bytes,
 //! `zeros COUNT`, `label NAME SECTION OFFSET WHAT`, `field SECTION OFFSET KIND NAME ADDEND` and `row OFFSET ENTRY WORD`.
-//! A function answers None where a line is none of these, or memory is wanting.
-use case_rows::first_word;
+//! Where a line is none of these, the answer is refused.
+use case_rows::{Text, Unanswered, first_word};
 use eh_word::Name;
 use relocatable_object::{
     IndexRow, IndexRows, Marks, ObjSymbol, ObjSymbols, Object, Octets, Reloc, Relocs, RowEntry,
@@ -27,116 +27,166 @@ fn empty(alloc: Global) -> Object {
     }
 }
 
-fn section_of(word: &str) -> Option<Section> {
+/// A line is no description.
+fn refuse(text: &mut Text) {
+    text.refuse(Unanswered::Because("a line is no description"));
+}
+
+fn section_of(text: &mut Text, word: &str) -> Section {
     match word {
-        "text" => Some(Section::Text),
-        "rodata" => Some(Section::Rodata),
-        "tables" => Some(Section::Extab),
-        "data" => Some(Section::Init),
-        "zeros" => Some(Section::Bss),
-        _ => None,
-    }
-}
-
-/// Adds the bytes of words of two digits.
-fn push_octets(octets: &mut Octets, words: &str) -> Option<()> {
-    for word in words.split(' ') {
-        octets.push(u8::from_str_radix(word, 16).ok()?).ok()?;
-    }
-    Some(())
-}
-
-/// A label: `NAME SECTION OFFSET WHAT`, of which WHAT is `function global`, `global` or `local`.
-fn label_of(alloc: Global, words: &str) -> Option<ObjSymbol> {
-    let (name, words) = first_word(words);
-    let (section, words) = first_word(words);
-    let (offset, what) = first_word(words);
-    let section = section_of(section)?;
-    let offset = offset.parse().ok()?;
-    Some(ObjSymbol {
-        name: Name::of(alloc, name.as_bytes()).ok()?,
-        section,
-        offset,
-        size: LABEL_SIZE,
-        function: what.starts_with("function"),
-        global: what.ends_with("global"),
-    })
-}
-
-/// A field: `SECTION OFFSET KIND NAME ADDEND`.
-fn field_of(alloc: Global, words: &str) -> Option<Reloc> {
-    let (section, words) = first_word(words);
-    let (offset, words) = first_word(words);
-    let (kind, words) = first_word(words);
-    let (name, addend) = first_word(words);
-    let section = section_of(section)?;
-    let offset = offset.parse().ok()?;
-    let kind = kind.parse().ok()?;
-    let addend = addend.parse().ok()?;
-    Some(Reloc {
-        section,
-        offset,
-        kind,
-        name: Name::of(alloc, name.as_bytes()).ok()?,
-        addend,
-    })
-}
-
-/// A row of the index: `OFFSET none`, `OFFSET inline WORD` or `OFFSET table PLACE`.
-fn row_of(words: &str) -> Option<IndexRow> {
-    let (offset, words) = first_word(words);
-    let (entry, word) = first_word(words);
-    let offset = offset.parse().ok()?;
-    let entry = match entry {
-        "none" => RowEntry::CantUnwind,
-        "inline" => RowEntry::Inline(u32::from_str_radix(word, 16).ok()?),
-        "table" => RowEntry::Table(word.parse().ok()?),
-        _ => return None,
-    };
-    Some(IndexRow { offset, entry })
-}
-
-/// Takes a line of an object that gives bytes.
-fn take_bytes(object: &mut Object, section: Section, words: &str) -> Option<()> {
-    match section {
-        Section::Text => push_octets(&mut object.text, words),
-        Section::Rodata => push_octets(&mut object.rodata, words),
-        Section::Extab => push_octets(&mut object.extab, words),
-        Section::Init => push_octets(&mut object.init, words),
-        Section::Bss => {
-            object.bss = words.parse().ok()?;
-            Some(())
+        "text" => Section::Text,
+        "rodata" => Section::Rodata,
+        "tables" => Section::Extab,
+        "data" => Section::Init,
+        "zeros" => Section::Bss,
+        _ => {
+            refuse(text);
+            Section::Bss
         }
     }
 }
 
+/// A number that may have a sign.
+fn signed(text: &mut Text, word: &str) -> i32 {
+    match word.parse::<i32>() {
+        Ok(number) => number,
+        Err(_why) => {
+            refuse(text);
+            0
+        }
+    }
+}
+
+fn name_of(text: &mut Text, word: &str) -> Name {
+    match Name::of(text.alloc(), word.as_bytes()) {
+        Ok(name) => name,
+        Err(_why) => {
+            text.want_memory();
+            Name::of_vec(Vec::new(text.alloc()))
+        }
+    }
+}
+
+/// A label: `NAME SECTION OFFSET WHAT`, of which WHAT is `function global`, `global` or `local`.
+fn label_of(text: &mut Text, words: &str) -> ObjSymbol {
+    let (name, words) = first_word(words);
+    let (section, words) = first_word(words);
+    let (offset, what) = first_word(words);
+    ObjSymbol {
+        section: section_of(text, section),
+        offset: text.decimal(offset),
+        size: LABEL_SIZE,
+        function: what.starts_with("function"),
+        global: what.ends_with("global"),
+        name: name_of(text, name),
+    }
+}
+
+/// A field: `SECTION OFFSET KIND NAME ADDEND`.
+fn field_of(text: &mut Text, words: &str) -> Reloc {
+    let (section, words) = first_word(words);
+    let (offset, words) = first_word(words);
+    let (kind, words) = first_word(words);
+    let (name, addend) = first_word(words);
+    Reloc {
+        section: section_of(text, section),
+        offset: text.decimal(offset),
+        kind: text.decimal(kind),
+        addend: signed(text, addend),
+        name: name_of(text, name),
+    }
+}
+
+/// An entry of the index: `none`, `inline WORD` or `table PLACE`.
+fn entry_of(text: &mut Text, words: &str) -> RowEntry {
+    let (entry, word) = first_word(words);
+    match entry {
+        "none" => RowEntry::CantUnwind,
+        "inline" => RowEntry::Inline(text.hex(word)),
+        "table" => RowEntry::Table(text.decimal(word)),
+        _ => {
+            refuse(text);
+            RowEntry::CantUnwind
+        }
+    }
+}
+
+/// A row of the index: `OFFSET ENTRY`.
+fn row_of(text: &mut Text, words: &str) -> IndexRow {
+    let (offset, words) = first_word(words);
+    IndexRow {
+        offset: text.decimal(offset),
+        entry: entry_of(text, words),
+    }
+}
+
+/// Adds the bytes of words of two digits.
+fn push_octets(text: &mut Text, octets: &mut Octets, words: &str) {
+    for word in words.split(' ') {
+        let byte = (text.hex(word) % 0x100) as u8;
+        let added = octets.push(byte);
+        text.note(added);
+    }
+}
+
+/// Takes a line of an object that gives bytes.
+fn take_bytes(text: &mut Text, object: &mut Object, section: Section, words: &str) {
+    match section {
+        Section::Text => push_octets(text, &mut object.text, words),
+        Section::Rodata => push_octets(text, &mut object.rodata, words),
+        Section::Extab => push_octets(text, &mut object.extab, words),
+        Section::Init => push_octets(text, &mut object.init, words),
+        Section::Bss => object.bss = text.decimal(words),
+    }
+}
+
 /// Takes a line of an object.
-fn take(alloc: Global, object: &mut Object, line: &str) -> Option<()> {
+fn take(text: &mut Text, object: &mut Object, line: &str) {
     let (what, words) = first_word(line);
     match what {
-        "label" => object.symbols.push(label_of(alloc, words)?).ok(),
-        "field" => object.relocs.push(field_of(alloc, words)?).ok(),
-        "row" => object.rows.push(row_of(words)?).ok(),
-        _ => take_bytes(object, section_of(what)?, words),
+        "label" => {
+            let added = object.symbols.push(label_of(text, words));
+            text.note(added);
+        }
+        "field" => {
+            let added = object.relocs.push(field_of(text, words));
+            text.note(added);
+        }
+        "row" => {
+            let added = object.rows.push(row_of(text, words));
+            text.note(added);
+        }
+        _ => {
+            let section = section_of(text, what);
+            take_bytes(text, object, section, words);
+        }
+    }
+}
+
+/// Begins an object.
+fn begin(text: &mut Text, objects: &mut Vec<Object>) {
+    if objects.push(empty(text.alloc())).is_err() {
+        text.want_memory();
     }
 }
 
 /// Takes a line of a text of objects. Those that begin with `#` are passed over.
-fn take_line(alloc: Global, objects: &mut Vec<Object>, line: &str) -> Option<()> {
+fn take_line(text: &mut Text, objects: &mut Vec<Object>, line: &str) {
     if line == "object" {
-        return objects.push(empty(alloc)).ok();
+        begin(text, objects);
+    } else if !line.starts_with('#') {
+        match objects.last_mut() {
+            Some(object) => take(text, object, line),
+            None => refuse(text),
+        }
     }
-    if line.starts_with('#') {
-        return Some(());
-    }
-    take(alloc, objects.last_mut()?, line)
 }
 
 /// The objects of a text.
-pub fn objects_of(alloc: Global, text: &str) -> Option<Vec<Object>> {
-    let mut objects = Vec::new(alloc);
-    for line in text.lines() {
-        take_line(alloc, &mut objects, line)?;
+pub fn objects_of(text: &mut Text, described: &str) -> Vec<Object> {
+    let mut objects = Vec::new(text.alloc());
+    for line in described.lines() {
+        take_line(text, &mut objects, line);
     }
-    Some(objects)
+    objects
 }

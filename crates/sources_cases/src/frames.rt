@@ -1,14 +1,11 @@
 //! Unwind directives of a function, and its entry (docs/unwind-directives.md).
-use crate::statements::push_place;
-use crate::texts::text_of;
+use crate::texts::{asked, say_words};
 use UnwindDirective::{
     CantUnwind, FnEnd, FnStart, HandlerData, Pad, PersonalityIndex, Save, SetFp,
 };
-use asm_read::read_source;
-use asm_statements::{Stmt, StmtKind};
+use asm_read::{Stmt, StmtKind};
 use asm_unwind::{EntryWords, FrameText, UnwindDirective, UnwindFault, new_frame};
-use case_rows::{Asked, Unanswered};
-use std::alloc::{AllocError, Global};
+use case_rows::{Telling, Text};
 
 /// The most words of a table that an answer lists.
 const MOST_LISTED: usize = 8;
@@ -32,98 +29,88 @@ fn directive_of(kind: &StmtKind) -> Option<UnwindDirective> {
     }
 }
 
-/// Gives a frame the directives of statements, up to the first that is refused: its line, and why.
-fn give(frame: &mut FrameText, stmts: &[Stmt]) -> Result<(), (u32, UnwindFault)> {
+/// Gives a frame the directive of a statement, if it is one; why it is refused, if it is.
+fn give(frame: &mut FrameText, stmt: &Stmt) -> Option<UnwindFault> {
+    let directive = directive_of(&stmt.kind)?;
+    frame.directive(directive).err()
+}
+
+/// Gives a frame the directives of statements, up to the first that is refused, whose line and cause are said.
+fn give_all(text: &mut Text, frame: &mut FrameText, stmts: &[Stmt]) -> bool {
     for stmt in stmts {
-        if let Some(directive) = directive_of(&stmt.kind) {
-            if let Err(fault) = frame.directive(directive) {
-                return Err((stmt.line, fault));
-            }
+        if let Some(fault) = give(frame, stmt) {
+            text.say_decimal(stmt.line);
+            text.say(" ");
+            text.say_ascii(fault.name());
+            return false;
         }
     }
-    Ok(())
+    true
 }
 
 /// Adds the words of a table; of a long one how many, the first and the last two.
-fn push_table(answer: &mut String, words: &[u32]) -> Result<(), AllocError> {
+fn say_table(text: &mut Text, words: &[u32]) {
+    text.say("table");
     match words {
         [first, .., before, last] if words.len() > MOST_LISTED => {
-            let count = words.len();
-            write!(
-                answer,
-                "table of {count} words {first:X} .. {before:X} {last:X}"
-            )
+            text.say(" of ");
+            text.say_count(words.len());
+            text.say(" words");
+            say_words(text, &[*first]);
+            text.say(" ..");
+            say_words(text, &[*before, *last]);
         }
-        _ => push_words(answer, words),
+        _ => say_words(text, words),
     }
 }
 
-fn push_words(answer: &mut String, words: &[u32]) -> Result<(), AllocError> {
-    answer.push_str("table")?;
-    for word in words {
-        write!(answer, " {word:X}")?;
-    }
-    Ok(())
-}
-
-fn push_entry(answer: &mut String, entry: &EntryWords) -> Result<(), AllocError> {
+fn say_entry(text: &mut Text, entry: &EntryWords) {
     match entry {
-        EntryWords::CantUnwind => answer.push_str("can't unwind"),
-        EntryWords::Inline(word) => write!(answer, "inline {word:X}"),
-        EntryWords::Table(words) => push_table(answer, words.as_slice()),
+        EntryWords::CantUnwind => text.say("can't unwind"),
+        EntryWords::Inline(word) => {
+            text.say("inline ");
+            text.say_hex(*word);
+        }
+        EntryWords::Table(words) => say_table(text, words.as_slice()),
     }
 }
 
 /// Adds what a frame ends with; where it doesn't end, it is handed back.
-fn push_end(answer: &mut String, frame: FrameText) -> Result<Option<FrameText>, AllocError> {
+fn say_end(text: &mut Text, frame: FrameText) -> Option<FrameText> {
     match frame.finish() {
         Ok(entry) => {
-            push_entry(answer, &entry)?;
-            Ok(None)
+            say_entry(text, &entry);
+            None
         }
         Err((fault, frame)) => {
-            write!(answer, "{fault:?}")?;
-            Ok(Some(frame))
+            text.say_ascii(fault.name());
+            Some(frame)
         }
     }
 }
 
 /// Adds what a frame ends with once its function is ended.
-fn push_ended(answer: &mut String, mut frame: FrameText) -> Result<(), AllocError> {
+fn say_ended(text: &mut Text, mut frame: FrameText) {
     if frame.directive(FnEnd).is_ok() {
-        answer.push_str(", and ended ")?;
-        let _frame = push_end(answer, frame)?;
+        text.say(", and ended ");
+        let _frame = say_end(text, frame);
     }
-    Ok(())
 }
 
 /// Adds what the directives of statements come to.
-fn push_frame(alloc: Global, answer: &mut String, stmts: &[Stmt]) -> Result<(), AllocError> {
-    let mut frame = new_frame(alloc);
-    if let Err((line, fault)) = give(&mut frame, stmts) {
-        return write!(answer, "{line} {fault:?}");
-    }
-    match push_end(answer, frame)? {
-        Some(open) => push_ended(answer, open),
-        None => Ok(()),
+fn say_frame(text: &mut Text, stmts: &[Stmt]) {
+    let mut frame = new_frame(text.alloc());
+    if give_all(text, &mut frame, stmts) {
+        if let Some(open) = say_end(text, frame) {
+            say_ended(text, open);
+        }
     }
 }
 
-/// Adds what the directives of a text come to.
-fn push_read(alloc: Global, answer: &mut String, text: &[u8]) -> Result<(), AllocError> {
-    match read_source(alloc, text) {
-        Ok(stmts) => push_frame(alloc, answer, stmts.as_slice()),
-        Err(fault) => push_place(answer, fault),
-    }
-}
-
-impl Asked for Frames {
-    fn answer(&self, alloc: Global, question: &str) -> Result<String, Unanswered> {
-        let Some(text) = text_of(alloc, question) else {
-            return Err(Unanswered::Because("no text"));
-        };
-        let mut answer = String::new(alloc);
-        push_read(alloc, &mut answer, text.as_slice())?;
-        Ok(answer)
+impl Telling for Frames {
+    fn tell(&self, text: &mut Text, question: &str) {
+        if let Some(stmts) = asked(text, question) {
+            say_frame(text, stmts.as_slice());
+        }
     }
 }

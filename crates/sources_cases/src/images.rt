@@ -1,12 +1,11 @@
 //! What objects are linked to (docs/linking.md; IHI 0044).
 use crate::described::objects_of;
-use crate::texts::{push_bytes, push_text};
-use case_rows::{Asked, Unanswered, first_word};
+use crate::objects::text_in;
+use crate::texts::{say_bytes, say_text};
+use case_rows::{Telling, Text, Unanswered, first_word};
 use eh_link::{LinkFault, link};
 use elf_write::{ImageParts, OwnSegment, OwnSymbol};
 use relocatable_object::Object;
-use std::alloc::{AllocError, Global};
-use std::fs;
 
 /// `PART ENTRY FILE`: a part of the image of the objects that a file describes, with the entry at a function; or why there is no
 /// image.
@@ -24,102 +23,91 @@ fn segment_bytes(parts: &ImageParts, place: usize) -> &[u8] {
 }
 
 /// Adds where a segment begins, its size, and its rights.
-fn push_segment(answer: &mut String, segment: &OwnSegment) -> Result<(), AllocError> {
-    let (start, size) = (segment.start, segment.size);
-    let (write, run) = (segment.write, segment.exec);
-    write!(answer, "{start:X} of {size} write {write} run {run};")
+fn say_segment(text: &mut Text, segment: &OwnSegment) {
+    text.say_hex(segment.start);
+    text.say(" of ");
+    text.say_decimal(segment.size);
+    text.say(" write ");
+    text.say_whether(segment.write);
+    text.say(" run ");
+    text.say_whether(segment.exec);
+    text.say(";");
 }
 
-fn push_segments(answer: &mut String, segments: &[OwnSegment]) -> Result<(), AllocError> {
+fn say_segments(text: &mut Text, segments: &[OwnSegment]) {
     for segment in segments {
-        push_segment(answer, segment)?;
+        say_segment(text, segment);
     }
-    Ok(())
 }
 
 /// Adds a symbol: what it is, its address and its name.
-fn push_symbol(answer: &mut String, symbol: &OwnSymbol) -> Result<(), AllocError> {
-    let (kind, value) = (symbol.kind, symbol.value);
-    write!(answer, "{kind:?} {value:X} ")?;
-    push_text(answer, symbol.name.bytes())?;
-    answer.push(';')
+fn say_symbol(text: &mut Text, symbol: &OwnSymbol) {
+    text.show(&symbol.kind);
+    text.say(" ");
+    text.say_hex(symbol.value);
+    text.say(" ");
+    say_text(text, symbol.name.bytes());
+    text.say(";");
 }
 
-fn push_symbols(answer: &mut String, symbols: &[OwnSymbol]) -> Result<(), AllocError> {
+fn say_symbols(text: &mut Text, symbols: &[OwnSymbol]) {
     for symbol in symbols {
-        push_symbol(answer, symbol)?;
+        say_symbol(text, symbol);
     }
-    Ok(())
+}
+
+/// Adds an index: its address and its size.
+fn say_index(text: &mut Text, index: (u32, u32)) {
+    let (start, size) = index;
+    text.say_hex(start);
+    text.say(" of ");
+    text.say_decimal(size);
 }
 
 /// Adds a part of an image.
-fn push_part(answer: &mut String, part: &str, parts: &ImageParts) -> Result<(), AllocError> {
-    let entry = parts.entry;
-    let (index, size) = parts.index;
+fn say_part(text: &mut Text, part: &str, parts: &ImageParts) {
     match part {
-        "code" => push_bytes(answer, segment_bytes(parts, 0)),
-        "data" => push_bytes(answer, segment_bytes(parts, 1)),
-        "segments" => push_segments(answer, parts.segments.as_slice()),
-        "symbols" => push_symbols(answer, parts.symbols.as_slice()),
-        "entry" => write!(answer, "{entry:X}"),
-        "index" => write!(answer, "{index:X} of {size}"),
-        _ => answer.push_str("nothing is asked"),
+        "code" => say_bytes(text, segment_bytes(parts, 0)),
+        "data" => say_bytes(text, segment_bytes(parts, 1)),
+        "segments" => say_segments(text, parts.segments.as_slice()),
+        "symbols" => say_symbols(text, parts.symbols.as_slice()),
+        "entry" => text.say_hex(parts.entry),
+        "index" => say_index(text, parts.index),
+        _ => text.refuse(Unanswered::NotKnown),
     }
 }
 
 /// Adds why objects have no image.
-fn push_fault(answer: &mut String, fault: &LinkFault) -> Result<(), AllocError> {
+fn say_fault(text: &mut Text, fault: &LinkFault) {
+    text.say_ascii(fault.name());
     match fault {
-        LinkFault::Duplicate(name) => {
-            answer.push_str("Duplicate ")?;
-            push_text(answer, name.bytes())
+        LinkFault::Duplicate(name) | LinkFault::Undefined(name) => {
+            text.say(" ");
+            say_text(text, name.bytes());
         }
-        LinkFault::Undefined(name) => {
-            answer.push_str("Undefined ")?;
-            push_text(answer, name.bytes())
+        LinkFault::RelocationRange(address) => {
+            text.say(" ");
+            text.say_hex(*address);
         }
-        LinkFault::RelocationRange(address) => write!(answer, "RelocationRange {address:X}"),
-        LinkFault::NoEntry => answer.push_str("NoEntry"),
-        LinkFault::TooLarge => answer.push_str("TooLarge"),
-        LinkFault::OutOfMemory => answer.push_str("OutOfMemory"),
+        LinkFault::NoEntry | LinkFault::TooLarge | LinkFault::OutOfMemory => {}
     }
 }
 
 /// Adds a part of the image of objects.
-fn push_image(
-    alloc: Global,
-    answer: &mut String,
-    part: &str,
-    entry: &str,
-    objects: &[Object],
-) -> Result<(), AllocError> {
-    match link(alloc, objects, entry.as_bytes()) {
-        Ok(parts) => push_part(answer, part, &parts),
-        Err(fault) => push_fault(answer, &fault),
+fn say_image(text: &mut Text, part: &str, entry: &str, objects: &[Object]) {
+    match link(text.alloc(), objects, entry.as_bytes()) {
+        Ok(parts) => say_part(text, part, &parts),
+        Err(fault) => say_fault(text, &fault),
     }
 }
 
-/// Adds a part of the image of the objects that a text describes.
-fn push_described(
-    alloc: Global,
-    answer: &mut String,
-    part: &str,
-    entry: &str,
-    text: &str,
-) -> Result<(), AllocError> {
-    match objects_of(alloc, text) {
-        Some(objects) => push_image(alloc, answer, part, entry, objects.as_slice()),
-        None => answer.push_str("a line is no description"),
-    }
-}
-
-impl Asked for Images<'_> {
-    fn answer(&self, alloc: Global, question: &str) -> Result<String, Unanswered> {
+impl Telling for Images<'_> {
+    fn tell(&self, text: &mut Text, question: &str) {
         let (part, words) = first_word(question);
         let (entry, file) = first_word(words);
-        let text = fs::read_to_string(self.host, file)?;
-        let mut answer = String::new(alloc);
-        push_described(alloc, &mut answer, part, entry, text.as_str())?;
-        Ok(answer)
+        if let Some(described) = text_in(text, self.host, file) {
+            let objects = objects_of(text, described.as_str());
+            say_image(text, part, entry, objects.as_slice());
+        }
     }
 }

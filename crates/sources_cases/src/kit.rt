@@ -1,13 +1,11 @@
 //! Sources that no user writes: the stubs (docs/stubs.md), and generated programs (docs/generated-programs.md).
-use crate::objects::object_of;
-use crate::texts::text_of;
-use case_rows::{Asked, Unanswered, first_word};
+use crate::objects::{object_of, text_in};
+use crate::texts::source_of;
+use case_rows::{Telling, Text, Unanswered, first_word};
 use eh_kit::{MAX_FUNCTIONS, generate, stubs};
 use eh_link::link;
 use elf_write::{ImageParts, SymbolKind};
-use relocatable_object::Object;
-use std::alloc::{AllocError, Global};
-use std::fs;
+use std::alloc::Global;
 use std::str::from_utf8;
 
 /// `begins TEXT`, `ends TEXT`: whether the source of the stubs does. `lines TEXT`: how many of its lines end so.
@@ -34,30 +32,22 @@ fn lines_ending_in(text: &str, end: &str) -> u32 {
 }
 
 /// Adds what is asked of the source of the stubs.
-fn push_stubs(answer: &mut String, what: &str, part: &[u8]) -> Result<(), AllocError> {
-    let begins = stubs().starts_with(part);
-    let ends = stubs().ends_with(part);
-    let lines = lines_ending_in(
-        from_utf8(stubs()).unwrap_or(""),
-        from_utf8(part).unwrap_or(""),
-    );
+fn say_stubs(text: &mut Text, what: &str, part: &str) {
+    let source = from_utf8(stubs()).unwrap_or("");
     match what {
-        "begins" => write!(answer, "{begins}"),
-        "ends" => write!(answer, "{ends}"),
-        "lines" => write!(answer, "{lines}"),
-        _ => answer.push_str("nothing is asked"),
+        "begins" => text.say_whether(source.starts_with(part)),
+        "ends" => text.say_whether(source.ends_with(part)),
+        "lines" => text.say_decimal(lines_ending_in(source, part)),
+        _ => text.refuse(Unanswered::NotKnown),
     }
 }
 
-impl Asked for Stubs {
-    fn answer(&self, alloc: Global, question: &str) -> Result<String, Unanswered> {
+impl Telling for Stubs {
+    fn tell(&self, text: &mut Text, question: &str) {
         let (what, rest) = first_word(question);
-        let Some(part) = text_of(alloc, rest) else {
-            return Err(Unanswered::Because("no text"));
-        };
-        let mut answer = String::new(alloc);
-        push_stubs(&mut answer, what, part.as_slice())?;
-        Ok(answer)
+        if let Some(part) = source_of(text, rest) {
+            say_stubs(text, what, from_utf8(part.as_slice()).unwrap_or(""));
+        }
     }
 }
 
@@ -69,12 +59,16 @@ fn program(alloc: Global, number: u32, functions: u32) -> Option<Vec<u8>> {
     generate(alloc, number, functions).ok()
 }
 
-/// The generated program of a question, and what stands after its numbers.
-fn program_of(alloc: Global, question: &str) -> Option<(Vec<u8>, &str)> {
+/// The generated program of a question.
+fn program_of(text: &mut Text, question: &str) -> Option<Vec<u8>> {
     let (number, words) = first_word(question);
-    let (functions, file) = first_word(words);
-    let text = program(alloc, number.parse().ok()?, functions.parse().ok()?)?;
-    Some((text, file))
+    let (functions, _file) = first_word(words);
+    let number = text.decimal(number);
+    let program = program(text.alloc(), number, text.decimal(functions));
+    if program.is_none() {
+        text.refuse(Unanswered::Because("no program"));
+    }
+    program
 }
 
 /// How many functions parts have.
@@ -88,42 +82,51 @@ fn functions_of(parts: &ImageParts) -> u32 {
     count
 }
 
-fn linked(alloc: Global, program: Object, stubs: Object) -> Option<ImageParts> {
+/// The parts of the image of a program and the stubs.
+fn parts_of(alloc: Global, program: &[u8]) -> Option<ImageParts> {
+    let program = object_of(alloc, program)?;
+    let stubs = object_of(alloc, stubs())?;
     link(alloc, &[program, stubs], b"_start").ok()
 }
 
-/// The parts of the image of a program and the stubs.
-fn parts_of(alloc: Global, text: &[u8]) -> Option<ImageParts> {
-    let program = object_of(alloc, text)?;
-    let stubs = object_of(alloc, stubs())?;
-    linked(alloc, program, stubs)
+/// Says how many functions an image has, and how large its index is.
+fn say_parts(text: &mut Text, parts: &ImageParts) {
+    text.say_decimal(functions_of(parts));
+    text.say(" functions, index of ");
+    text.say_decimal(parts.index.1);
+    text.say(" bytes");
 }
 
-fn image_text(alloc: Global, text: &[u8]) -> Result<String, AllocError> {
-    let Some(parts) = parts_of(alloc, text) else {
-        return format!(in alloc; "no image");
-    };
-    let functions = functions_of(&parts);
-    let size = parts.index.1;
-    format!(in alloc; "{functions} functions, index of {size} bytes")
+fn say_image(text: &mut Text, program: &[u8]) {
+    match parts_of(text.alloc(), program) {
+        Some(parts) => say_parts(text, &parts),
+        None => text.say("no image"),
+    }
 }
 
-impl Asked for Images {
-    fn answer(&self, alloc: Global, question: &str) -> Result<String, Unanswered> {
-        match program_of(alloc, question) {
-            Some((text, _file)) => Ok(image_text(alloc, text.as_slice())?),
-            None => Err(Unanswered::Because("no program")),
+impl Telling for Images {
+    fn tell(&self, text: &mut Text, question: &str) {
+        if let Some(program) = program_of(text, question) {
+            say_image(text, program.as_slice());
         }
     }
 }
 
-impl Asked for Texts<'_> {
-    fn answer(&self, alloc: Global, question: &str) -> Result<String, Unanswered> {
-        let Some((program, file)) = program_of(alloc, question) else {
-            return Err(Unanswered::Because("no program"));
-        };
-        let text = fs::read_to_string(self.host, file)?;
-        let is = text.as_bytes() == program.as_slice();
-        Ok(format!(in alloc; "{is}")?)
+impl Texts<'_> {
+    /// Says whether a program is the text of a file.
+    fn say_whether_same(&self, text: &mut Text, program: &[u8], file: &str) {
+        if let Some(source) = text_in(text, self.host, file) {
+            text.say_whether(source.as_bytes() == program);
+        }
+    }
+}
+
+impl Telling for Texts<'_> {
+    fn tell(&self, text: &mut Text, question: &str) {
+        let (_number, words) = first_word(question);
+        let (_functions, file) = first_word(words);
+        if let Some(program) = program_of(text, question) {
+            self.say_whether_same(text, program.as_slice(), file);
+        }
     }
 }

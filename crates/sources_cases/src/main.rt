@@ -11,7 +11,7 @@ mod objects;
 mod statements;
 mod texts;
 
-use case_rows::run_file;
+use case_rows::run_telling;
 use frames::Frames;
 use kit::Stubs;
 use objects::{Codes, Parts};
@@ -20,29 +20,29 @@ use std::io::Error;
 
 /// What sources are read as.
 fn run_reader(host: &HostRuntime) -> Result<(), Error> {
-    run_file(host, "statements.txt", &Statements)?;
-    run_file(host, "refused_lines.txt", &Statements)?;
-    run_file(host, "places.txt", &Statements)
+    run_telling(host, "statements.txt", &Statements)?;
+    run_telling(host, "refused_lines.txt", &Statements)?;
+    run_telling(host, "places.txt", &Statements)
 }
 
 /// What sources are assembled to.
 fn run_assembler(host: &HostRuntime) -> Result<(), Error> {
-    run_file(host, "codes.txt", &Codes)?;
-    run_file(host, "refused_sources.txt", &Codes)?;
-    run_file(host, "frames.txt", &Frames)?;
-    run_file(host, "objects.txt", &Parts { host })
+    run_telling(host, "codes.txt", &Codes)?;
+    run_telling(host, "refused_sources.txt", &Codes)?;
+    run_telling(host, "frames.txt", &Frames)?;
+    run_telling(host, "objects.txt", &Parts { host })
 }
 
 /// The stubs, and generated programs.
 fn run_kit(host: &HostRuntime) -> Result<(), Error> {
-    run_file(host, "stubs.txt", &Stubs)?;
-    run_file(host, "generated_texts.txt", &kit::Texts { host })?;
-    run_file(host, "generated_images.txt", &kit::Images)
+    run_telling(host, "stubs.txt", &Stubs)?;
+    run_telling(host, "generated_texts.txt", &kit::Texts { host })?;
+    run_telling(host, "generated_images.txt", &kit::Images)
 }
 
 fn main(host: HostRuntime) -> Result<(), Error> {
     run_reader(&host)?;
     run_assembler(&host)?;
-    run_file(&host, "links.txt", &images::Images { host: &host })?;
+    run_telling(&host, "links.txt", &images::Images { host: &host })?;
     run_kit(&host)
 }

@@ -1,12 +1,10 @@
 //! What a source is assembled to (docs/objects.md).
-use crate::statements::push_place;
-use crate::texts::{push_bytes, push_text, text_of};
+use crate::texts::{asked, say_bytes, say_text};
 use asm_object::{AsmFault, assemble};
-use asm_read::read_source;
-use asm_statements::Stmt;
-use case_rows::{Asked, Unanswered, first_word};
-use relocatable_object::{IndexRow, ObjSymbol, Object, Reloc, RowEntry};
-use std::alloc::{AllocError, Global};
+use asm_read::{Stmt, read_source};
+use case_rows::{Telling, Text, Unanswered, first_word};
+use relocatable_object::{IndexRow, ObjSymbol, Object, Reloc, RowEntry, Section};
+use std::alloc::Global;
 use std::fs;
 
 /// `TEXT`: the bytes of the text of a source, or the line at which it is refused, and why.
@@ -25,120 +23,133 @@ pub fn object_of(alloc: Global, text: &[u8]) -> Option<Object> {
 }
 
 /// Adds the bytes of the text of statements.
-fn push_assembled(alloc: Global, answer: &mut String, stmts: &[Stmt]) -> Result<(), AllocError> {
-    match assemble(alloc, stmts) {
-        Ok(object) => push_bytes(answer, object.text.as_slice()),
-        Err(AsmFault { line, what }) => write!(answer, "{line} {what:?}"),
+fn say_assembled(text: &mut Text, stmts: &[Stmt]) {
+    match assemble(text.alloc(), stmts) {
+        Ok(object) => say_bytes(text, object.text.as_slice()),
+        Err(AsmFault { line, what }) => {
+            text.say_decimal(line);
+            text.say(" ");
+            text.show(&what);
+        }
     }
 }
 
-/// Adds the bytes of the text of a source.
-fn push_code(alloc: Global, answer: &mut String, text: &[u8]) -> Result<(), AllocError> {
-    match read_source(alloc, text) {
-        Ok(stmts) => push_assembled(alloc, answer, stmts.as_slice()),
-        Err(fault) => push_place(answer, fault),
-    }
-}
-
-impl Asked for Codes {
-    fn answer(&self, alloc: Global, question: &str) -> Result<String, Unanswered> {
-        let Some(text) = text_of(alloc, question) else {
-            return Err(Unanswered::Because("no text"));
-        };
-        let mut answer = String::new(alloc);
-        push_code(alloc, &mut answer, text.as_slice())?;
-        Ok(answer)
+impl Telling for Codes {
+    fn tell(&self, text: &mut Text, question: &str) {
+        if let Some(stmts) = asked(text, question) {
+            say_assembled(text, stmts.as_slice());
+        }
     }
 }
 
 /// Adds a function's row of the index.
-fn push_row(answer: &mut String, row: IndexRow) -> Result<(), AllocError> {
-    let offset = row.offset;
+fn say_row(text: &mut Text, row: IndexRow) {
+    text.say_decimal(row.offset);
     match row.entry {
-        RowEntry::CantUnwind => write!(answer, "{offset} can't unwind;"),
-        RowEntry::Inline(word) => write!(answer, "{offset} inline {word:X};"),
-        RowEntry::Table(at) => write!(answer, "{offset} table at {at};"),
+        RowEntry::CantUnwind => text.say(" can't unwind"),
+        RowEntry::Inline(word) => {
+            text.say(" inline ");
+            text.say_hex(word);
+        }
+        RowEntry::Table(at) => {
+            text.say(" table at ");
+            text.say_decimal(at);
+        }
+    }
+    text.say(";");
+}
+
+fn say_rows(text: &mut Text, rows: &[IndexRow]) {
+    for row in rows {
+        say_row(text, *row);
     }
 }
 
-fn push_rows(answer: &mut String, rows: &[IndexRow]) -> Result<(), AllocError> {
-    for row in rows {
-        push_row(answer, *row)?;
-    }
-    Ok(())
+/// Adds a section and a place in it.
+fn say_place(text: &mut Text, section: Section, offset: u32) {
+    text.show(&section);
+    text.say(" ");
+    text.say_decimal(offset);
 }
 
 /// Adds a field that the linker fills: its section, its place there, its kind, its addend and its name.
-fn push_field(answer: &mut String, field: &Reloc) -> Result<(), AllocError> {
-    let (section, offset, kind, addend) = (field.section, field.offset, field.kind, field.addend);
-    write!(answer, "{section:?} {offset} kind {kind} {addend} ")?;
-    push_text(answer, field.name.bytes())?;
-    answer.push(';')
+fn say_field(text: &mut Text, field: &Reloc) {
+    say_place(text, field.section, field.offset);
+    text.say(" kind ");
+    text.say_decimal(field.kind);
+    text.say(" ");
+    text.say_signed(field.addend);
+    text.say(" ");
+    say_text(text, field.name.bytes());
+    text.say(";");
 }
 
-fn push_fields(answer: &mut String, fields: &[Reloc]) -> Result<(), AllocError> {
+fn say_fields(text: &mut Text, fields: &[Reloc]) {
     for field in fields {
-        push_field(answer, field)?;
+        say_field(text, field);
     }
-    Ok(())
 }
 
 /// Adds a symbol: its section, its place there, its size, whether it is a function and global, and its name.
-fn push_symbol(answer: &mut String, symbol: &ObjSymbol) -> Result<(), AllocError> {
-    let (section, offset, size) = (symbol.section, symbol.offset, symbol.size);
-    let (function, global) = (symbol.function, symbol.global);
-    write!(
-        answer,
-        "{section:?} {offset} of {size} function {function} global {global} "
-    )?;
-    push_text(answer, symbol.name.bytes())?;
-    answer.push(';')
+fn say_symbol(text: &mut Text, symbol: &ObjSymbol) {
+    say_place(text, symbol.section, symbol.offset);
+    text.say(" of ");
+    text.say_decimal(symbol.size);
+    text.say(" function ");
+    text.say_whether(symbol.function);
+    text.say(" global ");
+    text.say_whether(symbol.global);
+    text.say(" ");
+    say_text(text, symbol.name.bytes());
+    text.say(";");
 }
 
-fn push_symbols(answer: &mut String, symbols: &[ObjSymbol]) -> Result<(), AllocError> {
+fn say_symbols(text: &mut Text, symbols: &[ObjSymbol]) {
     for symbol in symbols {
-        push_symbol(answer, symbol)?;
+        say_symbol(text, symbol);
     }
-    Ok(())
 }
 
 /// Adds a part of an object.
-fn push_part(answer: &mut String, object: &Object, part: &str) -> Result<(), AllocError> {
-    let zeros = object.bss;
-    let marks = object.marks.as_slice();
+fn say_part(text: &mut Text, object: &Object, part: &str) {
     match part {
-        "text" => push_bytes(answer, object.text.as_slice()),
-        "rodata" => push_bytes(answer, object.rodata.as_slice()),
-        "tables" => push_bytes(answer, object.extab.as_slice()),
-        "data" => push_bytes(answer, object.init.as_slice()),
-        "zeros" => write!(answer, "{zeros}"),
-        "marks" => write!(answer, "{marks:?}"),
-        "rows" => push_rows(answer, object.rows.as_slice()),
-        "fields" => push_fields(answer, object.relocs.as_slice()),
-        "symbols" => push_symbols(answer, object.symbols.as_slice()),
-        _ => answer.push_str("nothing is asked"),
+        "text" => say_bytes(text, object.text.as_slice()),
+        "rodata" => say_bytes(text, object.rodata.as_slice()),
+        "tables" => say_bytes(text, object.extab.as_slice()),
+        "data" => say_bytes(text, object.init.as_slice()),
+        "zeros" => text.say_decimal(object.bss),
+        "marks" => text.show(&object.marks.as_slice()),
+        "rows" => say_rows(text, object.rows.as_slice()),
+        "fields" => say_fields(text, object.relocs.as_slice()),
+        "symbols" => say_symbols(text, object.symbols.as_slice()),
+        _ => text.refuse(Unanswered::NotKnown),
     }
 }
 
-/// Adds a part of the object of a text.
-fn push_part_of(
-    alloc: Global,
-    answer: &mut String,
-    part: &str,
-    text: &[u8],
-) -> Result<(), AllocError> {
-    match object_of(alloc, text) {
-        Some(object) => push_part(answer, &object, part),
-        None => answer.push_str("no object"),
+/// Adds a part of the object of a source.
+fn say_part_of(text: &mut Text, part: &str, source: &str) {
+    match object_of(text.alloc(), source.as_bytes()) {
+        Some(object) => say_part(text, &object, part),
+        None => text.say("no object"),
     }
 }
 
-impl Asked for Parts<'_> {
-    fn answer(&self, alloc: Global, question: &str) -> Result<String, Unanswered> {
+/// The text of a file of the folder where the program runs.
+pub fn text_in(text: &mut Text, host: &HostRuntime, name: &str) -> Option<String> {
+    match fs::read_to_string(host, name) {
+        Ok(source) => Some(source),
+        Err(why) => {
+            text.refuse(Unanswered::Failed(why));
+            None
+        }
+    }
+}
+
+impl Telling for Parts<'_> {
+    fn tell(&self, text: &mut Text, question: &str) {
         let (part, file) = first_word(question);
-        let text = fs::read_to_string(self.host, file)?;
-        let mut answer = String::new(alloc);
-        push_part_of(alloc, &mut answer, part, text.as_bytes())?;
-        Ok(answer)
+        if let Some(source) = text_in(text, self.host, file) {
+            say_part_of(text, part, source.as_str());
+        }
     }
 }

@@ -1,109 +1,180 @@
 //! How a question writes the text of a source, and how an answer writes bytes.
-use std::alloc::{AllocError, Global};
+use asm_read::{SourceFault, Stmt, read_source};
+use case_rows::{Text, Unanswered};
+use std::alloc::Global;
 
 /// The lowest byte that an answer writes as a character, and the highest.
 const LOWEST: u8 = 32;
 
 const HIGHEST: u8 = 126;
 
-/// Adds a part of a text, in which `|` ends a line.
-fn push_plain(text: &mut Vec<u8>, part: &str) -> Result<(), AllocError> {
-    for byte in part.bytes() {
-        text.push(if byte == b'|' { b'\n' } else { byte })?;
-    }
-    Ok(())
+/// The bytes of a source, and whether each part of the question gave some.
+#[derive(Drop)]
+struct Source {
+    bytes: Vec<u8>,
+    is_whole: bool,
 }
 
-/// Adds a part of a text so many times.
-fn push_times(alloc: Global, text: &mut Vec<u8>, count: u32, part: &str) -> Result<(), AllocError> {
-    let mut once = Vec::new(alloc);
-    push_plain(&mut once, part)?;
-    for _ in 0..count {
-        text.extend_from_slice(once.as_slice())?;
-    }
-    Ok(())
-}
-
-/// Adds what a mark stands for: `80` is a byte of two hexadecimal digits, and `300 times ,0` a part so many times.
-fn push_mark(alloc: Global, text: &mut Vec<u8>, mark: &str) -> Option<()> {
-    match mark.split_once(" times ") {
-        Some((count, part)) => push_times(alloc, text, count.parse().ok()?, part).ok(),
-        None => text.push(u8::from_str_radix(mark, 16).ok()?).ok(),
-    }
-}
-
-/// Adds a mark that ends with `>`, if one does, and what stands after it.
-fn push_part(alloc: Global, text: &mut Vec<u8>, part: &str) -> Option<()> {
-    match part.split_once('>') {
-        Some((mark, plain)) => {
-            push_mark(alloc, text, mark)?;
-            push_plain(text, plain).ok()
+impl Source {
+    fn new(alloc: Global) -> Source {
+        Source {
+            bytes: Vec::new(alloc),
+            is_whole: true,
         }
-        None => push_plain(text, part).ok(),
+    }
+
+    fn push(&mut self, byte: u8) {
+        if self.bytes.push(byte).is_err() {
+            self.is_whole = false;
+        }
+    }
+
+    /// Adds a part of a text, in which `|` ends a line.
+    fn push_plain(&mut self, part: &str) {
+        for byte in part.bytes() {
+            self.push(if byte == b'|' { b'\n' } else { byte });
+        }
+    }
+
+    /// Adds a part so many times.
+    fn push_times(&mut self, count: &str, part: &str) {
+        match count.parse::<u32>() {
+            Ok(count) => {
+                for _ in 0..count {
+                    self.push_plain(part);
+                }
+            }
+            Err(_why) => self.is_whole = false,
+        }
+    }
+
+    /// Adds a byte of two hexadecimal digits.
+    fn push_digits(&mut self, digits: &str) {
+        match u8::from_str_radix(digits, 16) {
+            Ok(byte) => self.push(byte),
+            Err(_why) => self.is_whole = false,
+        }
+    }
+
+    /// Adds what a mark stands for: `80` is a byte of two hexadecimal digits, and `300 times ,0` a part so many times.
+    fn push_mark(&mut self, mark: &str) {
+        match mark.split_once(" times ") {
+            Some((count, part)) => self.push_times(count, part),
+            None => self.push_digits(mark),
+        }
+    }
+
+    /// Adds a mark that ends with `>`, if one does, and what stands after it.
+    fn push_part(&mut self, part: &str) {
+        match part.split_once('>') {
+            Some((mark, plain)) => {
+                self.push_mark(mark);
+                self.push_plain(plain);
+            }
+            None => self.push_plain(part),
+        }
     }
 }
 
-/// The text of a question: `|` ends a line, and a mark stands between `<` and `>`. None where a mark is none.
-pub fn text_of(alloc: Global, question: &str) -> Option<Vec<u8>> {
-    let mut text = Vec::new(alloc);
+/// The text of a question: `|` ends a line, and a mark stands between `<` and `>`.
+pub fn source_of(text: &mut Text, question: &str) -> Option<Vec<u8>> {
+    let mut source = Source::new(text.alloc());
     for part in question.split('<') {
-        push_part(alloc, &mut text, part)?;
+        source.push_part(part);
     }
-    Some(text)
+    let Source { bytes, is_whole } = source;
+    if !is_whole {
+        text.refuse(Unanswered::Because("no text"));
+    }
+    Some(bytes)
+}
+
+/// Adds where a source is refused, and why.
+fn say_place(text: &mut Text, fault: SourceFault) {
+    let SourceFault { line, column, what } = fault;
+    text.say_decimal(line);
+    text.say(":");
+    text.say_decimal(column);
+    text.say(" ");
+    text.show(&what);
+}
+
+/// The statements of a source; or else it is said where it is refused, and why.
+pub fn read_in(text: &mut Text, source: &[u8]) -> Option<Vec<Stmt>> {
+    match read_source(text.alloc(), source) {
+        Ok(stmts) => Some(stmts),
+        Err(fault) => {
+            say_place(text, fault);
+            None
+        }
+    }
+}
+
+/// The statements of the source that a question writes.
+pub fn asked(text: &mut Text, question: &str) -> Option<Vec<Stmt>> {
+    let source = source_of(text, question)?;
+    read_in(text, source.as_slice())
 }
 
 /// Adds a byte of a text: itself where it is a character, else its two digits between `<` and `>`.
-fn push_byte(answer: &mut String, byte: u8) -> Result<(), AllocError> {
+fn say_byte(text: &mut Text, byte: u8) {
     if LOWEST <= byte && byte <= HIGHEST {
-        answer.push(char::from(byte))
+        text.say_ascii(&[byte]);
     } else {
-        write!(answer, "<{byte:02x}>")
+        text.say("<");
+        text.say_digits(byte);
+        text.say(">");
     }
 }
 
 /// Adds the bytes of a text.
-pub fn push_text(answer: &mut String, bytes: &[u8]) -> Result<(), AllocError> {
+pub fn say_text(text: &mut Text, bytes: &[u8]) {
     for byte in bytes {
-        push_byte(answer, *byte)?;
+        say_byte(text, *byte);
     }
-    Ok(())
 }
 
 /// Adds bytes by their digits.
-pub fn push_bytes(answer: &mut String, bytes: &[u8]) -> Result<(), AllocError> {
-    answer.push_str("bytes")?;
+pub fn say_bytes(text: &mut Text, bytes: &[u8]) {
+    text.say("bytes");
     for byte in bytes {
-        write!(answer, " {byte:02x}")?;
+        text.say(" ");
+        text.say_digits(*byte);
     }
-    Ok(())
+}
+
+/// Adds words by their digits.
+pub fn say_words(text: &mut Text, words: &[u32]) {
+    for word in words {
+        text.say(" ");
+        text.say_hex(*word);
+    }
 }
 
 /// Adds the bytes of a name by their numbers.
-fn push_numbers(answer: &mut String, numbers: &str) -> Result<(), AllocError> {
+fn say_numbers(text: &mut Text, numbers: &str) {
     for number in numbers.split(", ") {
         if let Ok(byte) = number.parse::<u8>() {
-            push_byte(answer, byte)?;
+            say_byte(text, byte);
         }
     }
-    Ok(())
 }
 
 /// Adds a name by the numbers of its bytes, between double quotes, and what is shown after it.
-fn push_name(answer: &mut String, shown: &str) -> Result<(), AllocError> {
+fn say_name(text: &mut Text, shown: &str) {
     let (numbers, after) = shown.split_once("] }").unwrap_or((shown, ""));
-    answer.push('"')?;
-    push_numbers(answer, numbers)?;
-    answer.push('"')?;
-    answer.push_str(after)
+    text.say("\"");
+    say_numbers(text, numbers);
+    text.say("\"");
+    text.say(after);
 }
 
 /// Adds what is shown of a value, each name in it as a text.
-pub fn push_shown(answer: &mut String, shown: &str) -> Result<(), AllocError> {
+pub fn say_shown(text: &mut Text, shown: &str) {
     for piece in shown.split("Name { bytes: ") {
         match piece.strip_prefix("[") {
-            Some(name) => push_name(answer, name)?,
-            None => answer.push_str(piece)?,
+            Some(name) => say_name(text, name),
+            None => text.say(piece),
         }
     }
-    Ok(())
 }
