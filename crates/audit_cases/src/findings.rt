@@ -1,98 +1,114 @@
 //! What an audit finds, in words.
+use case_rows::Text;
 use eh_index::IndexFault;
 use eh_types::TypeFault;
 use frame_audit::{Audit, Audited, CAUSES, Question};
-use std::alloc::{AllocError, Global};
 
 /// How many functions that aren't well are told; of more their counts say enough.
 const MOST_TOLD: usize = 8;
 
-/// A text of ASCII bytes.
-fn push_name(text: &mut String, name: &[u8]) -> Result<(), AllocError> {
-    for byte in name {
-        text.push(*byte as char)?;
-    }
-    Ok(())
-}
-
 /// `NAME at ADDRESS CAUSE; ` of a function that isn't well.
-fn push_function(alloc: Global, text: &mut String, a: &Audited) -> Result<(), AllocError> {
-    if let Some(unwell) = a.unwell {
-        let at = unwell.at;
-        push_name(text, a.name)?;
-        text.push_str(format!(in alloc; " at {at:X} ")?.as_str())?;
-        push_name(text, unwell.cause.name())?;
-        text.push_str("; ")?;
+fn say_function(text: &mut Text, audited: &Audited) {
+    if let Some(unwell) = audited.unwell {
+        text.say_ascii(audited.name);
+        text.say(" at ");
+        text.say_hex(unwell.at);
+        text.say(" ");
+        text.say_ascii(unwell.cause.name());
+        text.say("; ");
     }
-    Ok(())
 }
 
-/// What the types show.
-fn push_types(alloc: Global, text: &mut String, fault: TypeFault) -> Result<(), AllocError> {
-    text.push_str("types ")?;
-    push_name(text, fault.name())?;
+fn say_functions(text: &mut Text, functions: &[Audited]) {
+    if functions.len() <= MOST_TOLD {
+        for audited in functions {
+            say_function(text, audited);
+        }
+    }
+}
+
+/// The address of the type that a refusal names.
+fn type_of(fault: TypeFault) -> Option<u32> {
     match fault {
         TypeFault::Unreadable(a)
         | TypeFault::Writable(a)
         | TypeFault::NameTooLong(a)
         | TypeFault::Cyclic(a)
-        | TypeFault::TooManyPaths(a) => { text.push_str(format!(in alloc; " {a:X}; ")?.as_str()) }
-        TypeFault::OutOfMemory => text.push_str("; "),
+        | TypeFault::TooManyPaths(a) => Some(a),
+        TypeFault::OutOfMemory => None,
     }
 }
 
-/// `CAUSE COUNT, ` of each cause that was named.
-fn push_causes(alloc: Global, text: &mut String, audit: &Audit) -> Result<(), AllocError> {
-    for cause in CAUSES.iter() {
-        let count = audit.count(Question::Cause(*cause));
-        if count > 0 {
-            push_name(text, cause.name())?;
-            text.push_str(format!(in alloc; " {count}, ")?.as_str())?;
-        }
+/// What the types show.
+fn say_types(text: &mut Text, fault: TypeFault) {
+    text.say("types ");
+    text.say_ascii(fault.name());
+    if let Some(a) = type_of(fault) {
+        text.say(" ");
+        text.say_hex(a);
     }
-    Ok(())
+    text.say("; ");
+}
+
+/// `CAUSE COUNT, ` of a cause that was named.
+fn say_cause(text: &mut Text, name: &[u8], count: usize) {
+    if count > 0 {
+        text.say_ascii(name);
+        text.say(" ");
+        text.say_count(count);
+        text.say(", ");
+    }
+}
+
+/// `NAME COUNT of ALL, `.
+fn say_share(text: &mut Text, name: &str, count: usize, all: usize) {
+    text.say(name);
+    text.say_count(count);
+    text.say(" of ");
+    text.say_count(all);
+    text.say(", ");
 }
 
 /// The functions, with a table and without, and the code in none.
-fn push_counts(alloc: Global, text: &mut String, audit: &Audit) -> Result<(), AllocError> {
-    let table = audit.count(Question::UnwindsWell);
+fn say_counts(text: &mut Text, audit: &Audit) {
     let tables = audit.count(Question::Unwinds);
-    let none = audit.count(Question::CantUnwindWell);
+    say_share(text, "table ", audit.count(Question::UnwindsWell), tables);
     let nones = audit.count(Question::CantUnwind);
-    let well = audit.count(Question::Well);
+    say_share(text, "none ", audit.count(Question::CantUnwindWell), nones);
     let all = audit.functions().len();
-    let stray = audit.stray();
-    let clear = audit.is_clear();
-    text.push_str(format!(in alloc;
-        "table {table} of {tables}, none {none} of {nones}, well {well} of {all}, stray {stray}, clear {clear}"
-    )?.as_str())
+    say_share(text, "well ", audit.count(Question::Well), all);
+    text.say("stray ");
+    text.say_count(audit.stray() as usize);
+    text.say(", clear ");
+    text.say_whether(audit.is_clear());
 }
 
-/// All that an audit finds.
-pub fn findings_text(alloc: Global, audit: &Audit) -> Result<String, AllocError> {
-    let mut text = String::new(alloc);
-    if audit.functions().len() <= MOST_TOLD {
-        for a in audit.functions() {
-            push_function(alloc, &mut text, a)?;
-        }
-    }
+/// Adds all that an audit finds.
+pub fn say_findings(text: &mut Text, audit: &Audit) {
+    say_functions(text, audit.functions());
     if let Some(fault) = audit.types() {
-        push_types(alloc, &mut text, fault)?;
+        say_types(text, fault);
     }
-    push_causes(alloc, &mut text, audit)?;
-    push_counts(alloc, &mut text, audit)?;
-    Ok(text)
+    for cause in CAUSES.iter() {
+        say_cause(text, cause.name(), audit.count(Question::Cause(*cause)));
+    }
+    say_counts(text, audit);
 }
 
-/// Why an index isn't read.
-pub fn refused_text(alloc: Global, fault: IndexFault) -> Result<String, AllocError> {
-    let mut text = format!(in alloc; "index ")?;
-    push_name(&mut text, fault.name())?;
+/// The row that a refusal of an index names.
+fn row_of(fault: IndexFault) -> Option<u32> {
     match fault {
-        IndexFault::OutsideImage(row) | IndexFault::Unsorted(row) => {
-            text.push_str(format!(in alloc; " {row}")?.as_str())?;
-        }
-        IndexFault::Length => {}
+        IndexFault::OutsideImage(row) | IndexFault::Unsorted(row) => Some(row),
+        IndexFault::Length => None,
     }
-    Ok(text)
+}
+
+/// Adds why an index isn't read.
+pub fn say_refused(text: &mut Text, fault: IndexFault) {
+    text.say("index ");
+    text.say_ascii(fault.name());
+    if let Some(row) = row_of(fault) {
+        text.say(" ");
+        text.say_decimal(row);
+    }
 }

@@ -6,11 +6,11 @@ mod findings;
 mod reports;
 
 use audits::Audits;
-use case_rows::run_file;
+use case_rows::run_telling;
 use reports::Reports;
 use std::io::Error;
 
 fn main(host: HostRuntime) -> Result<(), Error> {
-    run_file(&host, "audits.txt", &Audits)?;
-    run_file(&host, "reports.txt", &Reports { host: &host })
+    run_telling(&host, "audits.txt", &Audits)?;
+    run_telling(&host, "reports.txt", &Reports { host: &host })
 }

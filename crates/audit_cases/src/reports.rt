@@ -1,12 +1,13 @@
 //! What `ehabi_audit` writes, and its status (docs/audit.md, "The program").
 use crate::audits::file_of;
-use case_rows::{Asked, Unanswered, decimal, first_word};
+use case_rows::{Telling, Text, Unanswered, first_word};
 use eh_files::{FileList, MemFile, SureFiles};
 use eh_port::{Bytes, HostSink};
 use ehabi_audit_top::audit_main;
 use source_images::image_of_sources;
-use std::alloc::{AllocError, Global};
+use std::alloc::Global;
 use std::fs;
+use std::str::from_utf8;
 
 /// The name of the only file.
 const NAME: &str = "x";
@@ -21,97 +22,152 @@ const MOST_LINES: usize = 40;
 const MOST_BYTES: usize = 120;
 
 /// What `ehabi_audit` is asked.
-#[derive(Clone, Copy)]
+#[derive(Drop)]
 pub struct Reports<'a> {
     pub host: &'a HostRuntime,
 }
 
-impl Asked for Reports<'_> {
-    fn answer(&self, alloc: Global, question: &str) -> Result<String, Unanswered> {
+impl Telling for Reports<'_> {
+    fn tell(&self, text: &mut Text, question: &str) {
         let (what, rest) = first_word(question);
-        match what {
-            "words" => Ok(told(alloc, &words_of(alloc, rest)?, Vec::new(alloc))?),
-            "size" => Ok(told(alloc, &[NAME], zeros(alloc, decimal(rest)?)?)?),
-            "source" => Ok(told(alloc, &[NAME], self.linked(alloc, rest)?)?),
-            "file" => Ok(told(alloc, &[NAME], fs::read(self.host, rest)?)?),
-            _ => Ok(told(alloc, &[NAME], file_of(alloc, question)?)?),
+        let words = if what == "words" { rest } else { NAME };
+        if let Some(bytes) = self.bytes_of(text, question) {
+            say_words(text, words, bytes);
         }
     }
 }
 
 impl Reports<'_> {
+    /// The bytes of the only file.
+    fn bytes_of(&self, text: &mut Text, question: &str) -> Option<Vec<u8>> {
+        let (what, rest) = first_word(question);
+        match what {
+            "words" => Some(Vec::new(text.alloc())),
+            "size" => zeros(text, rest),
+            "source" => self.linked(text, rest),
+            "file" => self.read(text, rest),
+            _ => file_of(text, question),
+        }
+    }
+
+    /// `file NAME`: a file of the folder where the program runs.
+    fn read(&self, text: &mut Text, name: &str) -> Option<Vec<u8>> {
+        match fs::read(self.host, name) {
+            Ok(bytes) => Some(bytes),
+            Err(why) => {
+                text.refuse(Unanswered::Failed(why));
+                None
+            }
+        }
+    }
+
     /// `source NAME`: the image of a source of the folder where the program runs, linked with the stubs.
-    fn linked(&self, alloc: Global, name: &str) -> Result<Vec<u8>, Unanswered> {
-        let mut texts = Vec::new(alloc);
-        texts.push(fs::read_to_string(self.host, name)?)?;
-        image_of_sources(alloc, texts.as_slice()).ok_or(Unanswered::Because("no image"))
+    fn linked(&self, text: &mut Text, name: &str) -> Option<Vec<u8>> {
+        match fs::read_to_string(self.host, name) {
+            Ok(source) => image_of(text, source),
+            Err(why) => {
+                text.refuse(Unanswered::Failed(why));
+                None
+            }
+        }
     }
 }
 
-/// `words WORD ..`: these words, where the only file has no bytes.
-fn words_of<'a>(alloc: Global, rest: &'a str) -> Result<Vec<&'a str>, AllocError> {
-    if rest.is_empty() {
-        Ok(Vec::new(alloc))
-    } else {
-        Ok(rest.split(' ').collect(alloc)?)
+/// The image of a source, linked with the stubs.
+fn image_of(text: &mut Text, source: String) -> Option<Vec<u8>> {
+    let image = image_of_sources(text.alloc(), &[source]);
+    if image.is_none() {
+        text.refuse(Unanswered::Because("no image"));
     }
+    image
 }
 
 /// `size N`: a file of so many zeros.
-fn zeros(alloc: Global, count: u32) -> Result<Vec<u8>, AllocError> {
-    let mut bytes = Vec::new(alloc);
-    bytes.resize(count as usize, 0)?;
-    Ok(bytes)
+fn zeros(text: &mut Text, count: &str) -> Option<Vec<u8>> {
+    let mut bytes = Vec::new(text.alloc());
+    let count = text.decimal(count);
+    if bytes.resize(count as usize, 0).is_err() {
+        text.want_memory();
+    }
+    Some(bytes)
 }
 
-/// A line, with `; ` after it.
-fn push_line(alloc: Global, text: &mut String, line: &str) -> Result<(), AllocError> {
+/// The words of a text, of which an empty one has none.
+fn words_of<'a>(alloc: Global, text: &'a str) -> Option<Vec<&'a str>> {
+    if text.is_empty() {
+        return Some(Vec::new(alloc));
+    }
+    text.split(' ').collect(alloc).ok()
+}
+
+/// The only file, with these bytes.
+fn files_of(alloc: Global, bytes: Vec<u8>) -> Option<SureFiles> {
+    let mut list = Vec::new(alloc);
+    let name = Bytes::of_vec(NAME.as_bytes().to_vec(alloc).ok()?);
+    let bytes = Bytes::of_vec(bytes);
+    list.push(MemFile { name, bytes }).ok()?;
+    Some(SureFiles {
+        files: FileList::of_vec(list),
+    })
+}
+
+/// Adds a line, with `; ` after it.
+fn say_line(text: &mut Text, line: &str) {
     let size = line.len();
     if size > MOST_BYTES {
-        text.push_str(format!(in alloc; "a line of {size} bytes; ")?.as_str())
+        text.say("a line of ");
+        text.say_count(size);
+        text.say(" bytes");
     } else {
-        text.push_str(line)?;
-        text.push_str("; ")
+        text.say(line);
     }
+    text.say("; ");
 }
 
-/// The lines of a text.
-fn push_lines(alloc: Global, text: &mut String, written: &str) -> Result<(), AllocError> {
+/// Adds the lines that are told.
+fn say_lines(text: &mut Text, written: &str) {
     let count = written.lines().count();
     let is_short = count <= MOST_LINES;
     if !is_short {
-        text.push_str(format!(in alloc; "{count} lines; ")?.as_str())?;
+        text.say_count(count);
+        text.say(" lines; ");
     }
     let mut is_first = true;
-    let mut in_summary = false;
+    let mut in_summary = is_short;
     for line in written.lines() {
         in_summary = in_summary || line == SUMMARY;
-        if is_short || is_first || in_summary {
-            push_line(alloc, text, line)?;
+        if is_first || in_summary {
+            say_line(text, line);
         }
         is_first = false;
     }
-    Ok(())
 }
 
-/// What is written for these words over a file of these bytes, and the status.
-fn told(alloc: Global, words: &[&str], bytes: Vec<u8>) -> Result<String, AllocError> {
-    let mut list = Vec::new(alloc);
-    list.push(MemFile {
-        name: Bytes::of_vec(NAME.as_bytes().to_vec(alloc)?),
-        bytes: Bytes::of_vec(bytes),
-    })?;
-    let mut files = SureFiles {
-        files: FileList::of_vec(list),
-    };
+/// Adds what is written for these words over these files, and the status.
+fn say_run(text: &mut Text, words: &[&str], mut files: SureFiles) {
+    let alloc = text.alloc();
     let mut out = HostSink {
         writer: Vec::new(alloc),
         faults: 0,
     };
     let status = audit_main(alloc, words, &mut files, &mut out);
-    let written = String::from_utf8_lossy(alloc, out.writer.as_slice())?;
-    let mut text = String::new(alloc);
-    push_lines(alloc, &mut text, &written)?;
-    text.push_str(format!(in alloc; "status {status}")?.as_str())?;
-    Ok(text)
+    say_lines(text, from_utf8(out.writer.as_slice()).unwrap_or(""));
+    text.say("status ");
+    text.say_decimal(u32::from(status));
+}
+
+/// Adds what is written for these words where the only file has these bytes, and the status.
+fn say_report(text: &mut Text, words: &[&str], bytes: Vec<u8>) {
+    match files_of(text.alloc(), bytes) {
+        Some(files) => say_run(text, words, files),
+        None => text.want_memory(),
+    }
+}
+
+/// The same for the words of a text.
+fn say_words(text: &mut Text, words: &str, bytes: Vec<u8>) {
+    match words_of(text.alloc(), words) {
+        Some(words) => say_report(text, words.as_slice(), bytes),
+        None => text.want_memory(),
+    }
 }
