@@ -55,10 +55,10 @@ pub fn say_saves(text: &mut Text, p: &Prologue) {
     if p.count == 0 {
         text.say("-");
     }
-    let mut between = "";
+    let mut is_first = true;
     for save in p.saves.iter().take(p.count as usize) {
-        text.say(between);
+        text.say(if is_first { "" } else { " " });
         say_save(text, *save);
-        between = " ";
+        is_first = false;
     }
 }
