@@ -2,7 +2,7 @@
 ghost use Rattle.std.specs.Prelude.{◌≡◌};
 ghost use Rattle.asm_layout.specs.Given.{bytes_of, limit, takes_addresses};
 
-use asm_statements::Expr;
+use asm_statements::Exprs;
 
 /// The width of a field: all that tells `.byte`, `.half` and `.word` apart.
 #[derive(Clone, Copy)]
@@ -56,7 +56,7 @@ impl Width {
 #[derive(Clone, Copy)]
 pub enum Data<'a> {
     /// Fields of one width.
-    Fields(Width, &'a [Expr]),
+    Fields(Width, &'a Exprs),
     /// A text, and whether a zero byte closes it.
     Text { text: &'a [u8], closed: bool },
     /// So many zeros.

@@ -128,9 +128,9 @@ pub fn given(kind: &StmtKind) -> Option<Data<'_>>
     ensures { option_map given_by result ≡ given kind.now }
 {
     match kind {
-        StmtKind::Words(fields) => Some(Data::Fields(Width::Word, fields.as_slice())),
-        StmtKind::Halves(fields) => Some(Data::Fields(Width::Half, fields.as_slice())),
-        StmtKind::Bytes(fields) => Some(Data::Fields(Width::Byte, fields.as_slice())),
+        StmtKind::Words(fields) => Some(Data::Fields(Width::Word, fields)),
+        StmtKind::Halves(fields) => Some(Data::Fields(Width::Half, fields)),
+        StmtKind::Bytes(fields) => Some(Data::Fields(Width::Byte, fields)),
         StmtKind::Ascii(text) => Some(Data::Text {
             text: text.bytes(),
             closed: false,

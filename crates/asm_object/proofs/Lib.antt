@@ -8,3 +8,4 @@ pub mod LabelLaws
 pub mod LoadLaws
 pub mod ByteLemmas
 pub mod RefusalLemmas
+pub mod PlainLemmas

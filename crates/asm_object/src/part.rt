@@ -3,7 +3,7 @@ ghost use Rattle.std.specs.Prelude.{◌≡◌, ◌++◌, [], flat_map, map, OnOk
 ghost use Rattle.byteorder.specs.Endian.{little_bytes};
 ghost use Rattle.asm_layout.specs.Given.{bytes_of, given_by};
 ghost use Rattle.asm_layout.specs.Labels.{named_in};
-ghost use Rattle.asm_layout.specs.Words.{word_of};
+ghost use Rattle.asm_layout.specs.Words.{low_word, word_of};
 ghost use Rattle.asm_object.specs.Bytes.{word_bytes};
 ghost use Rattle.asm_object.specs.Values.{held, low_or_zero, link_of, number};
 ghost use Rattle.asm_object.specs.Instructions.{branch_link};
@@ -21,7 +21,7 @@ use asm_layout::{
     bare_form, branch_form, computed_form, data_form, local_form, name_form, nameless_form,
     reader_form, wide_form,
 };
-use asm_statements::{Expr, StmtKind};
+use asm_statements::{Expr, Exprs, Lent, StmtKind};
 use relocatable_object::object::{Octets, Reloc, Relocs};
 use relocatable_object::place::{Place, Section};
 use std::alloc::{AllocError, Global};
@@ -38,6 +38,16 @@ fn push_link(relocs: &mut Relocs, at: Place, link: Option<Link>) -> Result<(), A
             name: link.name,
             addend: link.addend,
         })?;
+    }
+    Ok(())
+}
+
+/// Adds numbers as fields.
+fn push_plain(bytes: &mut Octets, width: Width, numbers: &[i64]) -> Result<(), AllocError>
+    ensures { OnOk result (bytes.new ≡ bytes.old ++ flat_map (λ n. little_bytes (bytes_of width) (low_word n)) numbers.now) }
+{
+    for n in numbers {
+        push_field(bytes, width, low_number(i128::from(*n)))?;
     }
     Ok(())
 }
@@ -143,8 +153,8 @@ impl Part {
         Ok(())
     }
 
-    /// Adds fields from a place on.
-    fn push_fields(
+    /// Adds expressions as fields from a place on.
+    fn push_mixed(
         &mut self,
         alloc: Global,
         labels: &Labels,
@@ -158,6 +168,24 @@ impl Part {
             return self.push_words(alloc, labels, at, fields);
         }
         push_numbers(&mut self.bytes, labels, width, fields)
+    }
+
+    /// Adds fields from a place on.
+    #[tactic(auto, using(crate::proofs::PlainLemmas::bytes_of_plain, crate::proofs::PlainLemmas::no_relocs))]
+    fn push_fields(
+        &mut self,
+        alloc: Global,
+        labels: &Labels,
+        at: Place,
+        width: Width,
+        fields: &Exprs,
+    ) -> Result<(), AllocError>
+        ensures { OnOk result (self.new ≡ part_with self.old (fields_bytes (named_in labels.now) width fields.now) (fields_relocs width fields.now at)) }
+    {
+        match fields.lent() {
+            Lent::Numbers(numbers) => push_plain(&mut self.bytes, width, numbers),
+            Lent::Mixed(fields) => self.push_mixed(alloc, labels, at, width, fields),
+        }
     }
 
     /// Adds data at a place.

@@ -1,6 +1,7 @@
 //! Why a statement is refused at its place (docs/objects.md, in the order of its table).
 ghost use Rattle.std.specs.Prelude.{◌≡◌, None, Some, List};
 ghost use Rattle.std.specs.List.{list_all};
+ghost use Rattle.asm_statements.specs.Exprs.{plain};
 ghost use Rattle.asm_layout.specs.Given.{given_by, FieldsOf};
 ghost use Rattle.asm_layout.specs.Sorts.{given};
 ghost use Rattle.asm_layout.specs.Labels.{Named, named_in};
@@ -19,7 +20,7 @@ use asm_layout::{
     bare_form, branch_form, computed_form, data_form, local_form, name_form, nameless_form,
     reader_form, wide_form,
 };
-use asm_statements::{Expr, StmtKind};
+use asm_statements::{Expr, Exprs, Lent, StmtKind};
 use relocatable_object::place::{Place, Section};
 use thumb_isa::encode_fault::EncodeFault;
 
@@ -115,9 +116,35 @@ fn numbers_refusal(labels: &Labels, limit: u16, fields: &[Expr]) -> Option<AsmWh
     encoded(fault_unless(all_fit, EncodeFault::ImmediateRange))
 }
 
-/// Why fields of a width are refused.
+/// Whether numbers fit their fields.
+fn all_within(limit: u16, numbers: &[i64]) -> bool
+    ensures { result ≡ list_all (λ n. fits limit (Some n)) numbers.now }
+{
+    for n in numbers {
+        if !fits(i128::from(*n), limit) {
+            return false;
+        }
+    }
+    true
+}
+
+/// Why numbers are refused as fields of a width.
+#[tactic(auto, using(crate::proofs::PlainLemmas::limited, crate::proofs::PlainLemmas::unlimited))]
+fn plain_refusal(width: Width, numbers: &[i64]) -> Option<AsmWhat>
+    ensures { (labels : List Named) → result ≡ data_refusal labels (FieldsOf width (plain numbers.now)) }
+{
+    match width.limit() {
+        Some(limit) => encoded(fault_unless(
+            all_within(limit, numbers),
+            EncodeFault::ImmediateRange,
+        )),
+        None => None,
+    }
+}
+
+/// Why expressions are refused as fields of a width.
 #[tactic(auto, using(crate::proofs::RefusalLemmas::numbered, crate::proofs::RefusalLemmas::addressed))]
-fn fields_refusal(labels: &Labels, width: Width, fields: &[Expr]) -> Option<AsmWhat>
+fn mixed_refusal(labels: &Labels, width: Width, fields: &[Expr]) -> Option<AsmWhat>
     ensures { result ≡ data_refusal (named_in labels.now) (FieldsOf width fields.now) }
 {
     match width.limit() {
@@ -129,6 +156,16 @@ fn fields_refusal(labels: &Labels, width: Width, fields: &[Expr]) -> Option<AsmW
                 Some(AsmWhat::UndefinedLocal)
             }
         }
+    }
+}
+
+/// Why fields of a width are refused.
+fn fields_refusal(labels: &Labels, width: Width, fields: &Exprs) -> Option<AsmWhat>
+    ensures { result ≡ data_refusal (named_in labels.now) (FieldsOf width fields.now) }
+{
+    match fields.lent() {
+        Lent::Numbers(numbers) => plain_refusal(width, numbers),
+        Lent::Mixed(fields) => mixed_refusal(labels, width, fields),
     }
 }
 

@@ -11,7 +11,7 @@ use crate::form::Operands;
 use crate::line::{Span, bytes_of};
 use crate::makes::{Computation, Control, Directive, Makes, Named, Transfer};
 use crate::token::escape;
-use asm_statements::statement::{Expr, Exprs, PoolValue, StmtKind};
+use asm_statements::{Expr, Exprs, PoolValue, StmtKind};
 use eh_word::{Name, NameMemory};
 use std::alloc::{AllocError, Global};
 
@@ -47,12 +47,12 @@ fn exprs(alloc: Global, word: bool, line: &[u8], from: usize) -> Result<Exprs, N
     ensures { IfOk result (λ e. e ≡ exprs_of line.now (expressions_at (length line.now) word line.now from)) }
 {
     if from > line.len() {
-        return Ok(Exprs::of_vec(Vec::new(alloc)));
+        return Ok(Exprs::new(alloc));
     }
     let mut exprs = exprs_from(alloc, word, line, from)?;
     // no more come
     exprs.shrink_to_fit();
-    Ok(Exprs::of_vec(exprs))
+    Ok(exprs)
 }
 
 /// The text of a span that has its quotes.
@@ -107,34 +107,45 @@ fn most_expressions(bytes: &[u8]) -> usize
     most
 }
 
-fn push_expr(exprs: &mut Vec<Expr>, expr: Expr) -> Result<(), AllocError>
-    ensures { OnOk result (exprs.new.items ≡ exprs.old.items ++ expr ∷ []) }
+/// Adds the expression of a shape, where at most so many come.
+fn push_shape(
+    alloc: Global,
+    line: &[u8],
+    most: usize,
+    shape: Shape,
+    exprs: &mut Exprs,
+) -> Result<(), NameMemory>
+    ensures { OnOk result (exprs.new ≡ exprs.old ++ expr_of line.now shape ∷ []) }
 {
-    exprs.push(expr)?;
+    match shape {
+        Shape::Num(n) => exprs.push_number(most, n)?,
+        shape => exprs.push(alloc, most, expr(alloc, line, shape)?)?,
+    }
     Ok(())
 }
 
 /// The expressions between commas at an offset; none where no list stands there.
 #[tactic(auto, using(crate::proofs::Steps::joined_none, crate::proofs::Steps::joined_stop, crate::proofs::Steps::joined_more, crate::proofs::Steps::joined_last, crate::proofs::Steps::joined_end))]
-fn exprs_from(alloc: Global, word: bool, line: &[u8], from: usize) -> Result<Vec<Expr>, NameMemory>
+fn exprs_from(alloc: Global, word: bool, line: &[u8], from: usize) -> Result<Exprs, NameMemory>
     requires { from ≤ length line.now }
-    ensures { IfOk result (λ v. v.items ≡ exprs_of line.now (expressions_at (length line.now) word line.now from)) }
+    ensures { IfOk result (λ e. e ≡ exprs_of line.now (expressions_at (length line.now) word line.now from)) }
 {
-    let mut exprs = Vec::with_capacity(alloc, most_expressions(&line[from..]))?;
+    let most = most_expressions(&line[from..]);
+    let mut exprs = Exprs::new(alloc);
     let mut at = from;
     let mut left = line.len();
     while left > 0 {
         let Ok(item) = list_item_at(word, line, at) else {
-            return Ok(Vec::new(alloc));
+            return Ok(Exprs::new(alloc));
         };
-        push_expr(&mut exprs, expr(alloc, line, item.shape)?)?;
+        push_shape(alloc, line, most, item.shape, &mut exprs)?;
         match item.next {
             None => return Ok(exprs),
             Some(next) => at = next,
         }
         left -= 1;
     }
-    Ok(Vec::new(alloc))
+    Ok(Exprs::new(alloc))
 }
 
 /// Computations with an operand that is always the same.

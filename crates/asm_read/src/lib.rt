@@ -14,6 +14,6 @@ pub mod read;
 mod table;
 mod token;
 
-pub use asm_statements::statement::{Expr, Exprs, PoolValue, Stmt, StmtKind};
+pub use asm_statements::{Expr, Exprs, PoolValue, Stmt, StmtKind};
 pub use fault::{SourceFault, SourceWhat};
 pub use read::read_source;

@@ -1,1 +1,2 @@
 pub mod Computations
+pub mod Exprs

@@ -2,7 +2,9 @@
 #![tactic(auto)]
 
 pub mod computation;
+pub mod exprs;
 pub mod statement;
 
 pub use computation::{OfRegisterNumber, OfThreeRegisters, OfTwoRegisters, OfTwoRegistersNumber};
-pub use statement::{Expr, Exprs, PoolValue, Stmt, StmtKind};
+pub use exprs::{Exprs, Lent};
+pub use statement::{Expr, PoolValue, Stmt, StmtKind};

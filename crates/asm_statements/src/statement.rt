@@ -4,7 +4,7 @@ ghost use Rattle.std.specs.Prelude.{◌≡◌, IfOk};
 use crate::computation::{
     OfRegisterNumber, OfThreeRegisters, OfTwoRegisters, OfTwoRegistersNumber,
 };
-use eh_list::Seq;
+use crate::exprs::Exprs;
 use eh_word::Name;
 use std::alloc::{AllocError, Global};
 use std::marker::Model;
@@ -34,9 +34,6 @@ pub enum Expr {
     /// `name(rel)`.
     Rel(Name),
 }
-
-/// Expressions, which contracts see as their list.
-pub type Exprs = Seq<Expr>;
 
 /// The value of a word of the pool, in a box: an expression is the longest of what a statement has, and few have one.
 /// Contracts see the expression.
