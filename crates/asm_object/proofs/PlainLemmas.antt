@@ -1,21 +1,20 @@
 -- Fields that are numbers alone: their bytes, that the linker fills nothing in them, and why they are refused.
-use Rattle.std.proofs.Common.{◌≡◌, ◌&&◌, ℕ, ℤ, Bool, true, List, [], ◌∷◌, ◌++◌, flat_map, map, Option, Some, None, is_some, if◌then◌else◌, refl, ap, sym, arith}
+use Rattle.std.proofs.Common.{◌≡◌, ◌&&◌, ℕ, ℤ, true, List, [], ◌∷◌, ◌++◌, flat_map, map, Some, None, refl, ap, sym, ◌∙◌, append-nil}
 use Rattle.std.specs.List.{list_all}
 use Rattle.byteorder.specs.Endian.{little_bytes}
 use Rattle.asm_statements.specs.declared.statement.Expr.{Expr}
-use Rattle.asm_statements.specs.declared.statement.Expr.TheVariants.{Num}
 use Rattle.asm_statements.specs.Exprs.{plain}
 use Rattle.thumb_isa.specs.declared.encode_fault.EncodeFault.TheVariants.{ImmediateRange}
 use Rattle.relocatable_object.specs.declared.place.Place.{Place}
 use Rattle.relocatable_object.specs.declared.place.Section.{Section}
-use Rattle.asm_layout.specs.declared.fault.AsmWhat.{AsmWhat}
-use Rattle.asm_layout.specs.declared.fault.AsmWhat.TheVariants.{UndefinedLocal}
 use Rattle.asm_layout.specs.declared.given.Width.{Width}
 use Rattle.asm_layout.specs.declared.given.Width.TheVariants.{Byte, Half, Word}
 use Rattle.asm_layout.specs.Given.{FieldsOf, bytes_of, limit}
 use Rattle.asm_layout.specs.Labels.{Named}
 use Rattle.asm_layout.specs.Sizes.{sum_64}
 use Rattle.asm_layout.specs.Words.{low_word, word_of}
+use Rattle.asm_object.specs.declared.part.Part.{Part}
+use Rattle.asm_object.specs.Built.{part_with}
 use Rattle.asm_object.specs.Pieces.{word_relocs, words_bytes, fields_bytes, fields_relocs}
 use Rattle.asm_object.specs.Refusals.{fits, fault_unless, is_field_known, encode_or, data_refusal}
 use Rattle.asm_object.specs.Values.{number, low_or_zero}
@@ -33,9 +32,6 @@ of_plain labels Byte ns = numbers_of_plain labels 1 ns
 of_plain labels Half ns = numbers_of_plain labels 2 ns
 of_plain labels Word ns = words_of_plain labels ns
 
-pub bytes_of_plain : (labels : List Named) (width : Width) (ns : List ℤ) (fields : List Expr) → plain ns ≡ fields → flat_map (λ n. little_bytes (bytes_of width) (low_word n)) ns ≡ fields_bytes labels width fields
-bytes_of_plain labels width ns fields e = rw (← e) (of_plain labels width ns)
-
 no_words : (section : Section) (offset : ℕ) (ns : List ℤ) → word_relocs section offset (map word_of (plain ns)) ≡ []
 unfolding word_relocs
 no_words section offset [] = refl
@@ -46,12 +42,17 @@ none_of_plain Byte ns place = refl
 none_of_plain Half ns place = refl
 none_of_plain Word ns place = no_words place.section place.offset ns
 
-pub no_relocs : (width : Width) (ns : List ℤ) (fields : List Expr) (place : Place) → plain ns ≡ fields → fields_relocs width fields place ≡ []
-no_relocs width ns fields place e = rw (← e) (none_of_plain width ns place)
-
-all_numbers : (labels : List Named) (ns : List ℤ) → list_all (λ field. is_some (number labels field)) (plain ns) ≡ true
-all_numbers labels [] = refl
-all_numbers labels (n ∷ ns) = all_numbers labels ns
+-- a section with the bytes of numbers is one with those of their fields
+pub part_of_plain : (labels : List Named) (width : Width) (ns : List ℤ) (fields : List Expr) (place : Place) (part : Part) (bytes : List ℕ) → plain ns ≡ fields
+    → bytes ≡ part.bytes ++ flat_map (λ n. little_bytes (bytes_of width) (low_word n)) ns
+    → ◌≡◌ {A = Part} (record { bytes = bytes; relocs = part.relocs }) (part_with part (fields_bytes labels width fields) (fields_relocs width fields place))
+part_of_plain labels width ns fields place part bytes e given =
+    let same : bytes ≡ part.bytes ++ fields_bytes labels width fields =
+        given ∙ ap (λ b. part.bytes ++ b) (of_plain labels width ns ∙ ap (fields_bytes labels width) e) in
+    let none : part.relocs ++ fields_relocs width fields place ≡ part.relocs =
+        ap (λ r. part.relocs ++ r) (ap (λ f. fields_relocs width f place) (sym e) ∙ none_of_plain width ns place) ∙ append-nil part.relocs in
+    let kept : part.relocs ≡ part.relocs ++ fields_relocs width fields place = sym none in
+    (λ j. record { bytes = same j; relocs = kept j })
 
 -- they may be given in each width
 all_known : (labels : List Named) (width : Width) (ns : List ℤ) → list_all (λ field. is_field_known labels width field) (plain ns) ≡ true

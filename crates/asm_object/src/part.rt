@@ -171,7 +171,6 @@ impl Part {
     }
 
     /// Adds fields from a place on.
-    #[tactic(auto, using(crate::proofs::PlainLemmas::bytes_of_plain, crate::proofs::PlainLemmas::no_relocs))]
     fn push_fields(
         &mut self,
         alloc: Global,

@@ -129,7 +129,7 @@ fn all_within(limit: u16, numbers: &[i64]) -> bool
 }
 
 /// Why numbers are refused as fields of a width.
-#[tactic(auto, using(crate::proofs::PlainLemmas::limited, crate::proofs::PlainLemmas::unlimited))]
+#[tactic(auto, using(crate::proofs::PlainLemmas::unlimited))]
 fn plain_refusal(width: Width, numbers: &[i64]) -> Option<AsmWhat>
     ensures { (labels : List Named) → result ≡ data_refusal labels (FieldsOf width (plain numbers.now)) }
 {
