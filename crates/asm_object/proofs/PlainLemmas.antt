@@ -48,9 +48,9 @@ pub part_of_plain : (labels : List Named) (width : Width) (ns : List ℤ) (field
     → ◌≡◌ {A = Part} (record { bytes = bytes; relocs = part.relocs }) (part_with part (fields_bytes labels width fields) (fields_relocs width fields place))
 part_of_plain labels width ns fields place part bytes e given =
     let same : bytes ≡ part.bytes ++ fields_bytes labels width fields =
-        given ∙ ap (λ b. part.bytes ++ b) (of_plain labels width ns ∙ ap (fields_bytes labels width) e) in
+    given ∙ ap (λ b. part.bytes ++ b) (of_plain labels width ns ∙ ap (fields_bytes labels width) e) in
     let none : part.relocs ++ fields_relocs width fields place ≡ part.relocs =
-        ap (λ r. part.relocs ++ r) (ap (λ f. fields_relocs width f place) (sym e) ∙ none_of_plain width ns place) ∙ append-nil part.relocs in
+    ap (λ r. part.relocs ++ r) (ap (λ f. fields_relocs width f place) (sym e) ∙ none_of_plain width ns place) ∙ append-nil part.relocs in
     let kept : part.relocs ≡ part.relocs ++ fields_relocs width fields place = sym none in
     (λ j. record { bytes = same j; relocs = kept j })
 
