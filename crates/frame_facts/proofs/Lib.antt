@@ -1,5 +1,6 @@
 pub mod Agreeing
 pub mod Changing
+pub mod Counted
 pub mod Described
 pub mod Fitting
 pub mod Following

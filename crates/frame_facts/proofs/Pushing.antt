@@ -9,7 +9,7 @@ use Rattle.frame_facts.specs.declared.facts.Source.{Source}
 use Rattle.frame_facts.specs.declared.facts.Fact.{Fact}
 use Rattle.frame_facts.specs.declared.saves.Save.{Save}
 use Rattle.frame_facts.specs.declared.saves.Prologue.{Prologue}
-use Rattle.frame_facts.specs.Facts.{source}
+use Rattle.frame_facts.specs.Facts.{source, placed}
 use Rattle.frame_facts.specs.Prologues.{saved, with_save, with_pushed}
 use Rattle.frame_facts.proofs.Walks.{one_more, one_less}
 
@@ -48,6 +48,9 @@ push_past p f list k old new low is was now = now ∙ was ∙ sym (ap (with_push
 
 pub push_end : (p : Prologue) (f : Fact) (list n : ℕ) (last : Option Prologue) → n ≡ 16 → last ≡ with_pushed p f (listed_from (16 - n) list) → last ≡ with_pushed p f (listed list)
 push_end p f list n last e is = is ∙ ap (λ m. with_pushed p f (listed_from (16 - m) list)) e ∙ ap (with_pushed p f) (sym (listed_all list))
+
+pub same_placed : (a b : Bool) (x y : Prologue) → a ≡ b → x ≡ y → placed a x ≡ placed b y
+same_placed a b x y e f = cc
 
 pub at_step : (n : ℕ) (list : ℕ) → n < 16 → listed_from (15 - n + 1) list ≡ listed_from (16 - n) list
 at_step n list l = let e : 15 - n + 1 ≡ 16 - n = omega arith in ap (λ m. listed_from m list) e

@@ -61,6 +61,11 @@ abbrev pub clobbered : List ℕ → Fact → Fact
 clobbered [] f = f
 clobbered (reg ∷ more) f = clobbered more (lost reg f)
 
+-- what is written to a place of its own, where there is any
+abbrev pub placed : {X : Type 0} → Bool → X → Option X
+placed true x = Some x
+placed false x = None
+
 -- ---- what two facts have in common
 
 abbrev pub same_source : Source → Source → Bool

@@ -11,28 +11,25 @@ use crate::saves::Prologue;
 use thumb_isa::instr::Instr;
 use thumb_isa::plain;
 
-/// A call, after its return: what a gate changes, and lr.
-#[tactic(auto, using(crate::proofs::Changing::call_leaves))]
-pub(crate) fn call(fact: &Fact) -> Fact
-    ensures { result ≡ clobbered call_changes fact.now }
-{
-    let mut left = gate(fact);
-    left.regs[13] = Source::Other;
-    left
-}
-
 /// A gate, after it: r0 to r3 and r12 are changed.
 #[tactic(auto, using(crate::proofs::Changing::gate_leaves))]
-pub(crate) fn gate(fact: &Fact) -> Fact
-    ensures { result ≡ clobbered gate_changes fact.now }
+pub(crate) fn gate(fact: &mut Fact)
+    ensures { fact.new ≡ clobbered gate_changes fact.old }
 {
-    let mut left = *fact;
-    left.regs[0] = Source::Other;
-    left.regs[1] = Source::Other;
-    left.regs[2] = Source::Other;
-    left.regs[3] = Source::Other;
-    left.regs[12] = Source::Other;
-    left
+    fact.regs[0] = Source::Other;
+    fact.regs[1] = Source::Other;
+    fact.regs[2] = Source::Other;
+    fact.regs[3] = Source::Other;
+    fact.regs[12] = Source::Other;
+}
+
+/// A call, after its return: what a gate changes, and lr.
+#[tactic(auto, using(crate::proofs::Changing::call_leaves))]
+pub(crate) fn call(fact: &mut Fact)
+    ensures { fact.new ≡ clobbered call_changes fact.old }
+{
+    gate(fact);
+    fact.regs[13] = Source::Other;
 }
 
 /// Whether an instruction branches to where a register says and is no call and no return.

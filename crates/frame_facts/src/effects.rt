@@ -1,49 +1,101 @@
 //! The effect of an instruction on a fact, and the causes that it can show. docs/acceptance.md, "Effects".
 ghost use Rattle.std.specs.Prelude.{◌≡◌};
+ghost use Rattle.frame_facts.specs.Facts.{placed};
 ghost use Rattle.frame_facts.specs.After.{effect, after_of, written};
 
 use crate::access::{mem_imm, mem_reg, mem_sp};
 use crate::branches::{call, gate, is_indirect, return_to, returns_well};
 use crate::cause::FrameCause;
 use crate::data::{add_high, add_sub_imm3, alu, imm8, mov_high};
-use crate::facts::{Fact, Source};
+use crate::facts::Fact;
 use crate::lists::{ldm, pop, push};
 use crate::saves::Prologue;
 use crate::shifts::shift_imm;
 use thumb_isa::instr::Instr;
 use thumb_isa::{idles, works};
 
-/// The fact after an instruction at the address `at`; `None` where sp is written as it may not be.
-pub(crate) fn effect(fact: &Fact, i: &Instr, at: u32, p: &Prologue, lowers: bool) -> Option<Fact>
-    ensures { result ≡ effect p.now lowers at i.now fact.now }
+/// Writes the fact after an instruction at the address `at` to `next`; false where sp is written as it may not be, and `next` then holds
+/// anything.
+pub(crate) fn effect(
+    fact: &Fact,
+    next: &mut Fact,
+    i: &Instr,
+    at: u32,
+    p: &Prologue,
+    lowers: bool,
+) -> bool
+    ensures { placed result next.new ≡ effect p.now lowers at i.now fact.now }
 {
+    *next = *fact;
     match *i {
-        works!(d) => Some(fact.with(d, Source::Other)),
-        idles!() => Some(*fact),
-        Instr::ShiftImm { op, d, m, n } => Some(shift_imm(fact, op, d, m, n)),
-        Instr::AddSubImm3 { sub, d, n, imm } => Some(add_sub_imm3(fact, sub, d, n, imm)),
-        Instr::Imm8 { op, d, imm } => Some(imm8(fact, op, d, imm)),
-        Instr::Alu { op, d, .. } => Some(alu(fact, op, d)),
-        Instr::AddRdSp { d, off } => Some(fact.with(d, fact.sp_plus(off))),
-        Instr::AddHigh { d, .. } => add_high(fact, d),
-        Instr::MovHigh { d, m } => mov_high(p, fact, lowers, d, m),
-        Instr::LdrLit { t, .. } => Some(fact.with(t, Source::Other)),
-        Instr::MemReg { op, t, .. } => Some(mem_reg(fact, op, t)),
-        Instr::MemImm { op, t, .. } => Some(mem_imm(fact, op, t)),
-        Instr::MemSp { load, t, off } => Some(mem_sp(p, fact, load, t, off)),
-        Instr::Stm { n, .. } => Some(fact.with(n, Source::Other)),
-        Instr::Ldm { n, list } => Some(ldm(fact, n, list)),
-        Instr::AddSp { off } => p.to_depth(fact, i64::from(fact.depth) - i64::from(off)),
-        Instr::SubSp { off } => p.to_depth(fact, i64::from(fact.depth) + i64::from(off)),
-        Instr::Push { list } => push(p, fact, at, list),
-        Instr::Pop { list } => pop(p, fact, list),
+        works!(d) => {
+            next.lose(d);
+            true
+        }
+        idles!() => true,
+        Instr::ShiftImm { op, d, m, n } => {
+            shift_imm(next, op, d, m, n);
+            true
+        }
+        Instr::AddSubImm3 { sub, d, n, imm } => {
+            add_sub_imm3(next, sub, d, n, imm);
+            true
+        }
+        Instr::Imm8 { op, d, imm } => {
+            imm8(next, op, d, imm);
+            true
+        }
+        Instr::Alu { op, d, .. } => {
+            alu(next, op, d);
+            true
+        }
+        Instr::AddRdSp { d, off } => {
+            next.set(d, fact.sp_plus(off));
+            true
+        }
+        Instr::AddHigh { d, .. } => add_high(next, d),
+        Instr::MovHigh { d, m } => mov_high(p, next, lowers, d, m),
+        Instr::LdrLit { t, .. } => {
+            next.lose(t);
+            true
+        }
+        Instr::MemReg { op, t, .. } => {
+            mem_reg(next, op, t);
+            true
+        }
+        Instr::MemImm { op, t, .. } => {
+            mem_imm(next, op, t);
+            true
+        }
+        Instr::MemSp { load, t, off } => {
+            mem_sp(p, next, load, t, off);
+            true
+        }
+        Instr::Stm { n, .. } => {
+            next.lose(n);
+            true
+        }
+        Instr::Ldm { n, list } => {
+            ldm(next, n, list);
+            true
+        }
+        Instr::AddSp { off } => p.to_depth(next, i64::from(fact.depth) - i64::from(off)),
+        Instr::SubSp { off } => p.to_depth(next, i64::from(fact.depth) + i64::from(off)),
+        Instr::Push { list } => push(p, next, at, list),
+        Instr::Pop { list } => pop(p, fact, next, list),
         Instr::B { .. }
         | Instr::BWide { .. }
         | Instr::BCond { .. }
         | Instr::Cbz { .. }
-        | Instr::Bx { .. } => Some(*fact),
-        Instr::Bl { .. } | Instr::Blx { .. } => Some(call(fact)),
-        Instr::Svc { .. } => Some(gate(fact)),
+        | Instr::Bx { .. } => true,
+        Instr::Bl { .. } | Instr::Blx { .. } => {
+            call(next);
+            true
+        }
+        Instr::Svc { .. } => {
+            gate(next);
+            true
+        }
     }
 }
 
@@ -64,16 +116,16 @@ pub fn follow(
 {
     // most sites are calls, which show no cause
     if let Instr::Bl { .. } = *i {
-        *next = call(fact);
+        *next = *fact;
+        call(next);
         return Ok(());
     }
     if is_indirect(fact, i) {
         return Err(FrameCause::IndirectBranch);
     }
-    let Some(left) = effect(fact, i, at, p, lowers) else {
+    if !effect(fact, next, i, at, p, lowers) {
         return Err(FrameCause::SpWrite);
-    };
-    *next = left;
+    }
     match return_to(p, fact, i) {
         None => Ok(()),
         Some(pc) => {

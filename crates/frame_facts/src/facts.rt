@@ -141,33 +141,22 @@ impl Fact {
         }
     }
 
-    /// The fact where a register holds something else.
-    pub(crate) fn with(&self, reg: u8, source: Source) -> Fact
-        ensures { result ≡ with_source self.now reg source }
+    /// A register holds something else.
+    pub(crate) fn set(&mut self, reg: u8, source: Source)
+        ensures { self.new ≡ with_source self.old reg source }
     {
-        let mut regs = self.regs;
         if reg < 13 {
-            regs[reg as usize] = source;
+            self.regs[reg as usize] = source;
         } else if reg == 14 {
-            regs[13] = source;
-        }
-        Fact {
-            depth: self.depth,
-            below: self.below,
-            kept: self.kept,
-            regs,
+            self.regs[13] = source;
         }
     }
 
     /// Nothing is known of a register any more.
-    fn lose(&mut self, reg: u8)
+    pub(crate) fn lose(&mut self, reg: u8)
         ensures { self.new ≡ lost reg self.old }
     {
-        if reg < 13 {
-            self.regs[reg as usize] = Source::Other;
-        } else if reg == 14 {
-            self.regs[13] = Source::Other;
-        }
+        self.set(reg, Source::Other);
     }
 
     /// The value of sp plus an offset.

@@ -1,48 +1,53 @@
-//! The effect of PUSH, POP and LDM on a fact.
+//! The effect of PUSH, POP and LDM on a fact, in its place.
 ghost use Rattle.std.specs.Prelude.{◌≡◌, ◌+◌, ◌-◌, ◌*◌, ◌/◌, ◌<◌, ◌≤◌, ◌^◌, length, pos};
 ghost use Rattle.thumb_core.specs.Words.{listed};
+ghost use Rattle.frame_facts.specs.Facts.{placed};
 ghost use Rattle.frame_facts.specs.Saves.{stack_word};
 ghost use Rattle.frame_facts.specs.Lists.{push, pushed_to, loaded, pop, popped_pc, ldm};
 
 use crate::facts::{Fact, Source, bounded_depth, clobber};
 use crate::saves::Prologue;
 
+/// How many registers a list has.
+#[tactic(auto, using(crate::proofs::Counted::listed_count))]
+pub fn words_of(list: u16) -> u32
+    ensures words { result ≡ length (listed list) }
+    ensures few { result ≤ 16 }
+{
+    list.count_ones()
+}
+
 /// How many bytes the registers of a list take.
 fn bytes_of(list: u16) -> u8
     ensures bytes { result ≡ 4 * length (listed list) }
     ensures few { result ≤ 64 }
 {
-    let mut bytes = 0u8;
-    for k in 0..16u8 {
-        if (list >> k) & 1 == 1 {
-            bytes += 4;
-        }
-    }
-    bytes
+    4 * words_of(list) as u8
 }
 
-/// The fact where a PUSH at the address `at` has brought sp to a depth.
-fn pushed_to(p: &Prologue, fact: &Fact, at: u32, depth: u32) -> Fact
-    ensures { result ≡ pushed_to p.now at depth fact.now }
+/// A PUSH at the address `at` has brought sp to a depth.
+fn push_to(p: &Prologue, fact: &mut Fact, at: u32, depth: u32)
+    ensures { fact.new ≡ pushed_to p.now at depth fact.old }
 {
     if at < p.end {
-        Fact {
-            depth,
-            below: fact.below,
-            kept: p.saves_within(depth),
-            regs: fact.regs,
-        }
+        fact.kept = p.saves_within(depth);
+        fact.depth = depth;
     } else {
-        p.moved_to(fact, depth)
+        p.move_to(fact, depth);
     }
 }
 
 /// PUSH at the address `at`.
-pub(crate) fn push(p: &Prologue, fact: &Fact, at: u32, list: u16) -> Option<Fact>
-    ensures { result ≡ push p.now at list fact.now }
+pub(crate) fn push(p: &Prologue, fact: &mut Fact, at: u32, list: u16) -> bool
+    ensures { placed result fact.new ≡ push p.now at list fact.old }
 {
-    let depth = bounded_depth(i64::from(fact.depth) + i64::from(bytes_of(list)))?;
-    Some(pushed_to(p, fact, at, depth))
+    match bounded_depth(i64::from(fact.depth) + i64::from(bytes_of(list))) {
+        None => false,
+        Some(depth) => {
+            push_to(p, fact, at, depth);
+            true
+        }
+    }
 }
 
 /// What a word holds that lies `at` bytes above sp.
@@ -52,27 +57,27 @@ fn word_above(p: &Prologue, fact: &Fact, at: u8) -> Source
     p.stack_word(fact, i32::from(at))
 }
 
-/// The registers of a list take the words of the stack.
-fn load(p: &Prologue, fact: &Fact, list: u16) -> Fact
-    ensures { result ≡ loaded p.now fact.now 0 (listed list) fact.now }
+/// The registers of a list take the words of the stack, as the fact before says. `left` is that fact first.
+fn load(p: &Prologue, fact: &Fact, left: &mut Fact, list: u16)
+    requires { left.old ≡ fact.now }
+    ensures { left.new ≡ loaded p.now fact.now 0 (listed list) fact.now }
 {
-    let mut left = *fact;
     let mut at = 0u8;
     for k in 0..16u8 {
         if (list >> k) & 1 == 1 {
-            left = left.with(k, word_above(p, fact, at));
+            left.set(k, word_above(p, fact, at));
             at += 4;
         }
     }
-    left
 }
 
-/// POP.
-pub(crate) fn pop(p: &Prologue, fact: &Fact, list: u16) -> Option<Fact>
-    ensures { result ≡ pop p.now list fact.now }
+/// POP, after the fact before it. `left` is that fact first.
+pub(crate) fn pop(p: &Prologue, fact: &Fact, left: &mut Fact, list: u16) -> bool
+    requires { left.old ≡ fact.now }
+    ensures { placed result left.new ≡ pop p.now list fact.now }
 {
-    let low = load(p, fact, list);
-    p.to_depth(&low, i64::from(fact.depth) - i64::from(bytes_of(list)))
+    load(p, fact, left, list);
+    p.to_depth(left, i64::from(fact.depth) - i64::from(bytes_of(list)))
 }
 
 /// What a POP into pc goes to.
@@ -87,8 +92,9 @@ pub(crate) fn popped_pc(p: &Prologue, fact: &Fact, list: u16) -> Option<Source>
 }
 
 /// LDM, with or without write-back.
-pub(crate) fn ldm(fact: &Fact, n: u8, list: u16) -> Fact
-    ensures { result ≡ ldm n list fact.now }
+pub(crate) fn ldm(fact: &mut Fact, n: u8, list: u16)
+    ensures { fact.new ≡ ldm n list fact.old }
 {
-    clobber(fact, list).with(n, Source::Other)
+    *fact = clobber(fact, list);
+    fact.lose(n);
 }

@@ -1,5 +1,6 @@
 //! A function's prologue: where it ends, and which words it saves registers in. docs/acceptance.md, "The prologue".
 ghost use Rattle.std.specs.Prelude.{◌≡◌, ℕ, ◌<◌, ◌≤◌, ◌^◌, ℤ, pos, ◌+ℤ◌, take, length};
+ghost use Rattle.frame_facts.specs.Facts.{placed};
 ghost use Rattle.frame_facts.specs.Saves.{lies_at, saves_within, word, stack_word, moved_to, to_depth};
 
 use crate::facts::{Fact, Source, bounded_depth};
@@ -81,23 +82,24 @@ impl Prologue {
         }
     }
 
-    /// The fact where sp comes to lie at a depth.
-    pub(crate) fn moved_to(&self, fact: &Fact, depth: u32) -> Fact
-        ensures { result ≡ moved_to self.now depth fact.now }
+    /// sp comes to lie at a depth.
+    pub(crate) fn move_to(&self, fact: &mut Fact, depth: u32)
+        ensures { fact.new ≡ moved_to self.now depth fact.old }
     {
-        Fact {
-            depth,
-            below: fact.below,
-            kept: fact.kept.min(self.saves_within(depth)),
-            regs: fact.regs,
-        }
+        fact.kept = fact.kept.min(self.saves_within(depth));
+        fact.depth = depth;
     }
 
-    /// The same, where it is a depth.
-    pub(crate) fn to_depth(&self, fact: &Fact, depth: i64) -> Option<Fact>
-        ensures { result ≡ to_depth self.now depth fact.now }
+    /// The same, where it is a depth; else false.
+    pub(crate) fn to_depth(&self, fact: &mut Fact, depth: i64) -> bool
+        ensures { placed result fact.new ≡ to_depth self.now depth fact.old }
     {
-        let depth = bounded_depth(depth)?;
-        Some(self.moved_to(fact, depth))
+        match bounded_depth(depth) {
+            None => false,
+            Some(depth) => {
+                self.move_to(fact, depth);
+                true
+            }
+        }
     }
 }

@@ -12,7 +12,11 @@ use eh_bytecode::{Recipe, Src};
 fn at_site(fact: &Fact, is_call: bool) -> Fact
     ensures { result ≡ at_site is_call fact.now }
 {
-    if is_call { call(fact) } else { *fact }
+    let mut here = *fact;
+    if is_call {
+        call(&mut here);
+    }
+    here
 }
 
 /// How many bytes below the CFA a register is known to stand; sp stands at the depth.

@@ -2,6 +2,7 @@
 ghost use Rattle.std.specs.Prelude.{◌≡◌, ◌+◌, ◌*◌, ◌<◌, ◌≤◌, ◌^◌, length, not, option_and_then};
 ghost use Rattle.std.specs.List.{list_any};
 ghost use Rattle.thumb_core.specs.Words.{listed};
+ghost use Rattle.frame_facts.specs.Facts.{placed};
 ghost use Rattle.frame_facts.specs.Prologues.{is_callers, is_free, may_stand, saved, with_save, with_pushed, pushed_by, taken, begun};
 
 use crate::effects::effect;
@@ -97,36 +98,39 @@ fn saved(offset: u32, held: Source) -> Option<Save>
     }
 }
 
-/// The prologue with a save more, where it isn't one too many.
-fn with_save(p: Option<Prologue>, save: Option<Save>) -> Option<Prologue>
-    ensures { result ≡ option_and_then (with_save save) p }
+/// Adds a save to a prologue whose saves so far fit; false where they didn't, and where this is one too many.
+fn add_save(grown: &mut Prologue, fits: bool, save: Option<Save>) -> bool
+    ensures { placed result grown.new ≡ option_and_then (with_save save) (placed fits grown.old) }
 {
-    let mut grown = p?;
-    if let Some(save) = save {
-        if grown.count >= MOST_SAVES {
-            return None;
-        }
-        grown.saves[grown.count as usize] = save;
-        grown.count += 1;
+    if !fits {
+        return false;
     }
-    Some(grown)
+    let Some(save) = save else {
+        return true;
+    };
+    if grown.count >= MOST_SAVES {
+        return false;
+    }
+    grown.saves[grown.count as usize] = save;
+    grown.count += 1;
+    true
 }
 
-/// The prologue with the saves of a PUSH, where they aren't too many.
-fn with_pushed(p: &Prologue, fact: &Fact, list: u16) -> Option<Prologue>
+/// Adds the saves of a PUSH to a prologue; false where they are too many.
+fn add_pushed(grown: &mut Prologue, fact: &Fact, list: u16) -> bool
     requires { fact.now.depth ≤ DEEPEST }
-    ensures { result ≡ with_pushed p.now fact.now (listed list) }
+    ensures { placed result grown.new ≡ with_pushed grown.old fact.now (listed list) }
 {
-    let mut grown = Some(*p);
+    let mut fits = true;
     let mut offset = fact.depth;
     for n in 0..16u8 {
         let k = 15 - n;
         if (list >> k) & 1 == 1 {
             offset += 4;
-            grown = with_save(grown, saved(offset, fact.source(k)));
+            fits = add_save(grown, fits, saved(offset, fact.source(k)));
         }
     }
-    grown
+    fits
 }
 
 impl Straight {
@@ -144,13 +148,14 @@ impl Straight {
         }
     }
 
-    /// The prologue with what an instruction saves, where that isn't too much.
-    fn pushed_by(&self, i: &Instr) -> Option<Prologue>
-        requires { self.now.fact.depth ≤ DEEPEST }
-        ensures { result ≡ pushed_by self.now i.now }
+    /// Adds what an instruction saves to the prologue, which is handed in; false where that is too much.
+    fn add_pushed_by(&self, grown: &mut Prologue, i: &Instr) -> bool
+        requires depth { self.now.fact.depth ≤ DEEPEST }
+        requires same { grown.old ≡ self.now.prologue }
+        ensures { placed result grown.new ≡ pushed_by self.now i.now }
     {
         match *i {
-            Instr::Push { list } => with_pushed(&self.prologue, &self.fact, list),
+            Instr::Push { list } => add_pushed(grown, &self.fact, list),
             plain!()
             | Instr::AddHigh { .. }
             | Instr::MovHigh { .. }
@@ -166,7 +171,7 @@ impl Straight {
             | Instr::Bl { .. }
             | Instr::Blx { .. }
             | Instr::Bx { .. }
-            | Instr::Svc { .. } => Some(self.prologue),
+            | Instr::Svc { .. } => true,
         }
     }
 
@@ -178,10 +183,17 @@ impl Straight {
         if self.fact.depth > DEEPEST || !may_stand(i) {
             return None;
         }
-        let mut prologue = self.pushed_by(i)?;
+        let mut prologue = self.prologue;
+        if !self.add_pushed_by(&mut prologue, i) {
+            return None;
+        }
         let at = self.prologue.end;
         prologue.end = at.wrapping_add(size);
-        let fact = effect(&self.fact, i, at, &prologue, false)?;
-        Some(Straight { fact, prologue })
+        let mut fact = self.fact;
+        if effect(&self.fact, &mut fact, i, at, &prologue, false) {
+            Some(Straight { fact, prologue })
+        } else {
+            None
+        }
     }
 }

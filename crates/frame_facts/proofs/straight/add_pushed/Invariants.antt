@@ -1,11 +1,12 @@
 use Rattle.std.proofs.Common.{◌≡◌, ◌≤◌, ◌+◌, ◌-◌, ◌*◌, length}
 use Rattle.thumb_core.proofs.Listed.{listed_from}
+use Rattle.frame_facts.specs.Facts.{placed}
 use Rattle.frame_facts.specs.Prologues.{with_pushed}
-use Rattle.frame_facts.proofs.straight.with_pushed.Given as goal
+use Rattle.frame_facts.proofs.straight.add_pushed.Given as goal
 
 abbrev pub invariant-loop-n : goal.invariant-loop-n
 invariant-loop-n l = record {
   far : l.offset ≤ l.fact.depth + 4 * l.n;
   offset : l.offset ≡ l.fact.depth + 4 * length (listed_from (16 - l.n) l.list);
-  grown : l.grown ≡ with_pushed l.p l.fact (listed_from (16 - l.n) l.list);
+  grown : placed l.fits l.grown ≡ with_pushed l.initial.grown l.fact (listed_from (16 - l.n) l.list);
 }
