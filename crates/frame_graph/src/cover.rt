@@ -1,6 +1,6 @@
 //! What the exception index says of an entry, read once for all sites of a function and for the next function that it covers.
 //! docs/flow-graphs.md, "Sites".
-ghost use Rattle.std.specs.Prelude.{◌≡◌, ◌++◌, Some, true, IfOk, IfSome};
+ghost use Rattle.std.specs.Prelude.{◌≡◌, ◌++◌, Some, true, IfOk, OnOk, IfSome};
 ghost use Rattle.std.specs.List.{list_any, filter};
 ghost use Rattle.eh_index.specs.Places.{table_of};
 ghost use Rattle.eh_desc.specs.Grammar.{items_of};
@@ -95,6 +95,21 @@ pub(crate) fn is_fault(item: Result<Desc, DescFault>) -> bool
     }
 }
 
+/// Puts the descriptors of an entry into a list, in place of what it held.
+fn put_items(
+    items: &mut Vec<Result<Desc, DescFault>>,
+    index: &Index,
+    e: &Entry,
+) -> Result<(), AllocError>
+    ensures { OnOk result (items.new.items ≡ items_of e.now (table_of index.now e.now)) }
+{
+    items.clear();
+    for item in Descs::of(index, e) {
+        items.push(item)?;
+    }
+    Ok(())
+}
+
 /// The descriptors of an entry as a list.
 pub(crate) fn read_items(
     alloc: Global,
@@ -104,9 +119,7 @@ pub(crate) fn read_items(
     ensures { IfOk result (λ items. items.items ≡ items_of e.now (table_of index.now e.now)) }
 {
     let mut items = Vec::new(alloc);
-    for item in Descs::of(index, e) {
-        items.push(item)?;
-    }
+    put_items(&mut items, index, e)?;
     Ok(items)
 }
 
@@ -166,75 +179,76 @@ impl<'s, 'i, 'a> Cover<'s, 'i, 'a> {
         }
     }
 
-    /// This entry.
-    fn read(
-        alloc: Global,
-        index: &'s Index<'i, 'a>,
-        profile: Profile,
-        e: Entry,
-    ) -> Result<Cover<'s, 'i, 'a>, AllocError>
-        requires { profile ≡ profile_of index.now }
-        ensures { IfOk result (λ c. c ≡ index.entry.now) }
+    /// Reads this entry in place of the one that is kept. Without memory none is kept any more.
+    fn read(&mut self, e: Entry) -> Result<(), AllocError>
+        ensures { self.new ≡ self.old }
     {
-        let items = read_items(alloc, index, &e)?;
-        let faulty = any_fault(&items);
-        Ok(Cover {
-            index,
-            profile,
-            entry: Some(e),
-            unwinding: of_entry(index, &e),
-            items,
-            faulty,
-            span: None,
-            near: Vec::new(alloc),
-            kept: KeptPlaces::none(alloc, index),
-            last: None,
-        })
+        self.entry = None;
+        self.span = None;
+        self.last = None;
+        put_items(&mut self.items, self.index, &e)?;
+        self.faulty = any_fault(&self.items);
+        self.unwinding = of_entry(self.index, &e);
+        self.entry = Some(e);
+        Ok(())
     }
 
-    /// The entry that covers an address. It is read only where another one is kept.
-    pub fn turned(self, alloc: Global, a: u32) -> Result<Cover<'s, 'i, 'a>, AllocError>
-        ensures { IfOk result (λ c. c ≡ self.entry) }
+    /// Turns it to the entry that covers an address. That is read only where another one is kept.
+    pub fn turn(&mut self, a: u32) -> Result<(), AllocError>
+        ensures { self.new ≡ self.old }
     {
-        let index = self.index;
-        match index.find(a) {
-            None => Ok(self),
+        match self.index.find(a) {
+            None => Ok(()),
             Some(e) => {
                 if is_entry(self.entry, &e) {
-                    Ok(self)
+                    Ok(())
                 } else {
-                    Cover::read(alloc, index, self.profile, e)
+                    self.read(e)
                 }
             }
         }
     }
 
-    /// The same, with the descriptors at hand whose scope meets a function. They are chosen for all addresses around it that no other
-    /// scope meets, and only where the function reaches beyond those of the last choice. Of few descriptors none are chosen.
-    fn chosen(self, alloc: Global, function: &Span) -> Result<Cover<'s, 'i, 'a>, AllocError>
+    /// The same, as a cover.
+    pub fn turned(self, alloc: Global, a: u32) -> Result<Cover<'s, 'i, 'a>, AllocError>
         ensures { IfOk result (λ c. c ≡ self.entry) }
     {
-        if self.items.len() <= FEW || lies_within(self.span, function) {
-            return Ok(self);
-        }
-        let span = function.widened(&self.items);
-        let near = near_items(alloc, &span, &self.items)?;
-        Ok(Cover {
-            index: self.index,
-            profile: self.profile,
-            entry: self.entry,
-            unwinding: self.unwinding,
-            items: self.items,
-            faulty: self.faulty,
-            span: Some(span),
-            near,
-            kept: self.kept,
-            last: self.last,
-        })
+        let _alloc = alloc;
+        let mut cover = self;
+        cover.turn(a)?;
+        Ok(cover)
     }
 
-    /// The same, with what stands at the places of a function, by its first address and the first one above it, with the descriptors at
-    /// hand whose scope meets it, and with its last address where the entry covers that.
+    /// Puts the descriptors at hand whose scope meets a function. They are chosen for all addresses around it that no other scope meets,
+    /// and only where the function reaches beyond those of the last choice. Of few descriptors none are chosen.
+    fn choose(&mut self, alloc: Global, function: &Span) -> Result<(), AllocError>
+        ensures { self.new ≡ self.old }
+    {
+        if self.items.len() <= FEW || lies_within(self.span, function) {
+            return Ok(());
+        }
+        let span = function.widened(&self.items);
+        self.near = near_items(alloc, &span, &self.items)?;
+        self.span = Some(span);
+        Ok(())
+    }
+
+    /// Turns it to a function, by its first address and the first one above it: keeps what stands at its places, has the descriptors at
+    /// hand whose scope meets it, and its last address where the entry covers that.
+    pub fn surround(&mut self, alloc: Global, start: u32, end: u32) -> Result<(), AllocError>
+        ensures { self.new ≡ self.old }
+    {
+        let function = Span {
+            low: start,
+            last: end.saturating_sub(1).max(start),
+        };
+        self.kept.turn(self.index, self.profile, start, end)?;
+        self.choose(alloc, &function)?;
+        self.last = covered(self.index, self.entry, function.last);
+        Ok(())
+    }
+
+    /// The same, as a cover.
     pub fn around(
         self,
         alloc: Global,
@@ -243,23 +257,8 @@ impl<'s, 'i, 'a> Cover<'s, 'i, 'a> {
     ) -> Result<Cover<'s, 'i, 'a>, AllocError>
         ensures { IfOk result (λ c. c ≡ self.entry) }
     {
-        let function = Span {
-            low: start,
-            last: end.saturating_sub(1).max(start),
-        };
-        let kept = KeptPlaces::read(alloc, self.index, self.profile, start, end)?;
-        let around = self.chosen(alloc, &function)?;
-        Ok(Cover {
-            index: around.index,
-            profile: around.profile,
-            entry: around.entry,
-            unwinding: around.unwinding,
-            items: around.items,
-            faulty: around.faulty,
-            span: around.span,
-            near: around.near,
-            kept,
-            last: covered(around.index, around.entry, function.last),
-        })
+        let mut cover = self;
+        cover.surround(alloc, start, end)?;
+        Ok(cover)
     }
 }

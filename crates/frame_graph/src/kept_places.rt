@@ -1,5 +1,5 @@
 //! What stands at the first places of a function, each read once. docs/flow-graphs.md, "Functions and places".
-ghost use Rattle.std.specs.Prelude.{◌≡◌, ◌+◌, ◌-◌, ◌/◌, ◌==◌, ◌&&◌, [], length, min, IfOk, if◌then◌else◌};
+ghost use Rattle.std.specs.Prelude.{◌≡◌, ◌+◌, ◌-◌, ◌/◌, ◌==◌, ◌&&◌, [], length, min, OnOk, if◌then◌else◌};
 ghost use Rattle.image_memory.specs.Profiles.{profile_of};
 ghost use Rattle.frame_graph.specs.declared.kept_places.TheConstants.{MOST_KEPT};
 ghost use Rattle.frame_graph.specs.KeptPlaces.{ArePlaces};
@@ -44,22 +44,24 @@ impl KeptPlaces {
         }
     }
 
-    /// The first places of a function, by the profile of its image. Each is read once, in their order.
-    pub(crate) fn read(
-        alloc: Global,
+    /// Keeps the first places of a function, by the profile of its image, in place of those that were kept. Each is read once, in their
+    /// order.
+    pub(crate) fn turn(
+        &mut self,
         index: &Index,
         profile: Profile,
         start: u32,
         end: u32,
-    ) -> Result<KeptPlaces, AllocError>
+    ) -> Result<(), AllocError>
         requires { profile ≡ profile_of index.now }
-        ensures start { IfOk result (λ kept. kept.start ≡ start) }
-        ensures end { IfOk result (λ kept. kept.end ≡ end) }
-        ensures places { IfOk result (λ kept. ArePlaces (record { image = index.now; start = kept.start; end = kept.end }) kept.places.items) }
-        ensures all { IfOk result (λ kept. length kept.places.items ≡ min ((end - start + 1) / 2) MOST_KEPT) }
+        ensures start { self.new.start ≡ start }
+        ensures end { self.new.end ≡ end }
+        ensures places { ArePlaces (record { image = index.now; start = self.new.start; end = self.new.end }) self.new.places.items }
+        ensures all { OnOk result (length self.new.places.items ≡ min ((end - start + 1) / 2) MOST_KEPT) }
     {
-        let places = FlowGraph::new(index, profile, start, end).read_places(alloc)?;
-        Ok(KeptPlaces { start, end, places })
+        self.start = start;
+        self.end = end;
+        FlowGraph::new(index, profile, start, end).put_places(&mut self.places)
     }
 
     /// What is kept of the places of this function; nothing where it is another one.
@@ -77,15 +79,15 @@ impl KeptPlaces {
 }
 
 impl<'s, 'i, 'a> FlowGraph<'s, 'i, 'a> {
-    /// What stands at its first places, each read once, in their order.
+    /// Puts what stands at its first places into a list, in place of what it held. Each is read once, in their order.
     #[tactic(auto, using(crate::proofs::KeptPlaces::none_kept, crate::proofs::KeptPlaces::read_more))]
-    fn read_places(&self, alloc: Global) -> Result<Vec<KeptPlace>, AllocError>
-        ensures places { IfOk result (λ places. ArePlaces self.now places.items) }
-        ensures all { IfOk result (λ places. length places.items ≡ min ((self.now.end - self.now.start + 1) / 2) MOST_KEPT) }
+    fn put_places(&self, places: &mut Vec<KeptPlace>) -> Result<(), AllocError>
+        ensures places { ArePlaces self.now places.new.items }
+        ensures all { OnOk result (length places.new.items ≡ min ((self.now.end - self.now.start + 1) / 2) MOST_KEPT) }
     {
+        places.clear();
         let count = self.end.saturating_sub(self.start).div_ceil(2);
         let kept = count.min(MOST_KEPT);
-        let mut places = Vec::with_capacity(alloc, kept as usize)?;
         let profile = self.profile();
         let mut here = self.fetch(0);
         for place in 0..kept {
@@ -96,6 +98,6 @@ impl<'s, 'i, 'a> FlowGraph<'s, 'i, 'a> {
             })?;
             here = next;
         }
-        Ok(places)
+        Ok(())
     }
 }

@@ -1,5 +1,5 @@
 //! Sites, and what the exception index says of each: how it unwinds, which landing pads it leads to. docs/flow-graphs.md, "Sites".
-ghost use Rattle.std.specs.Prelude.{◌≡◌, ◌+◌, ◌*◌, ◌<◌, ◌^◌, ◌++◌, ◌||◌, ◌∷◌, List, Some, false, IfOk, OnOk, option_and_then};
+ghost use Rattle.std.specs.Prelude.{◌≡◌, ◌+◌, ◌*◌, ◌<◌, ◌^◌, ◌++◌, ◌||◌, ◌∷◌, List, Some, false, IfOk, IfSome, OnOk, option_and_then};
 ghost use Rattle.std.specs.List.{list_any};
 ghost use Rattle.eh_index.specs.Places.{table_of};
 ghost use Rattle.eh_desc.specs.Grammar.{items_of};
@@ -150,9 +150,22 @@ impl<'s, 'i, 'a> FlowGraph<'s, 'i, 'a> {
         }
     }
 
+    /// What the codes of the entry that is kept say, where it covers an address. It is lent.
+    #[tactic(auto, using(crate::proofs::Kept::kept_unwinding), unfolding(crate::specs::Sites::unwinding_at))]
+    pub fn kept_unwinding_at(&self, a: u32) -> Option<&Unwinding>
+        ensures { IfSome result (λ u. u.now ≡ unwinding_at self.now a) }
+    {
+        let e = self.entry_at(a)?;
+        if is_entry(self.entry, &e) {
+            Some(&self.unwinding)
+        } else {
+            None
+        }
+    }
+
     /// What the codes of an entry say.
     #[tactic(auto, using(crate::proofs::Kept::kept_unwinding))]
-    pub(crate) fn unwinding_by(&self, e: &Entry) -> Unwinding
+    fn unwinding_by(&self, e: &Entry) -> Unwinding
         ensures { result ≡ of_body e.now.body (table_of self.now.image e.now) }
     {
         if is_entry(self.entry, e) {
@@ -352,7 +365,7 @@ impl<'s, 'i, 'a> FlowGraph<'s, 'i, 'a> {
     }
 
     /// The same of a list of items.
-    pub(crate) fn add_listed_pads(
+    fn add_listed_pads(
         &self,
         edges: &mut Vec<Edge>,
         site: u32,
@@ -366,6 +379,24 @@ impl<'s, 'i, 'a> FlowGraph<'s, 'i, 'a> {
             resumed = self.add_pad(edges, site, unwinding, resumed, *item)?;
         }
         Ok(())
+    }
+
+    /// The same of a list of items, by what the codes of an entry say.
+    #[tactic(auto, using(crate::proofs::Kept::kept_unwinding))]
+    pub(crate) fn add_pads_under(
+        &self,
+        edges: &mut Vec<Edge>,
+        site: u32,
+        e: &Entry,
+        items: &[Result<Desc, DescFault>],
+    ) -> Result<(), AllocError>
+        ensures { OnOk result (edges.new.items ≡ edges.old.items ++ pad_edges self.now site (of_body e.now.body (table_of self.now.image e.now)) false items.now) }
+    {
+        if is_entry(self.entry, e) {
+            self.add_listed_pads(edges, site, &self.unwinding, items)
+        } else {
+            self.add_listed_pads(edges, site, &of_entry(self.index, e), items)
+        }
     }
 
     /// The same of an entry's descriptors.

@@ -34,6 +34,24 @@ pub struct Stretch {
     edges: Vec<Edge>,
 }
 
+/// Room for what is asked of one place after the other: a list for its edges, and the stretch of its site. What they hold doesn't matter:
+/// who looks at many functions lends them one room.
+#[derive(Drop)]
+pub struct EdgeRoom {
+    pub edges: Vec<Edge>,
+    pub stretch: Stretch,
+}
+
+impl EdgeRoom {
+    /// A room that has taken no memory yet.
+    pub fn new(alloc: Global) -> EdgeRoom {
+        EdgeRoom {
+            edges: Vec::new(alloc),
+            stretch: Stretch::new(alloc),
+        }
+    }
+}
+
 /// All addresses.
 pub(crate) const EVERYWHERE: Span = Span {
     low: 0,
@@ -171,14 +189,15 @@ fn distinct(alloc: Global, edges: &[Edge]) -> Result<Vec<Edge>, AllocError>
     Ok(thinned(alloc, &sorted)?)
 }
 
-/// The same; of one edge at most it is that edge.
-fn each_once(alloc: Global, edges: Vec<Edge>) -> Result<Vec<Edge>, AllocError>
-    ensures { IfOk result (λ once. HaveSame once.items edges.items) }
+/// Leaves of the same edges one each.
+fn keep_each_once(alloc: Global, edges: &mut Vec<Edge>) -> Result<(), AllocError>
+    ensures { OnOk result (HaveSame edges.new.items edges.old.items) }
 {
     if edges.len() < 2 {
-        return Ok(edges);
+        return Ok(());
     }
-    distinct(alloc, &edges)
+    *edges = distinct(alloc, edges)?;
+    Ok(())
 }
 
 impl Stretch {
@@ -194,6 +213,18 @@ impl Stretch {
             out: false,
             edges: Vec::new(alloc),
         }
+    }
+
+    /// Makes it one that no entry covers the site of, in the room that it has.
+    pub fn forget(&mut self)
+        ensures stretch { (s : Function) → IsStretch s self.new }
+        ensures tells { (s : Function) (site : ℕ) → entry_at s site ≡ None → Tells s self.new site }
+    {
+        self.span = EVERYWHERE;
+        self.entry = None;
+        self.scoped = false;
+        self.out = false;
+        self.edges.clear();
     }
 
     /// Whether it tells of a site that an entry covers.
@@ -227,50 +258,70 @@ impl Stretch {
 }
 
 impl<'s, 'i, 'a> FlowGraph<'s, 'i, 'a> {
-    /// The stretch of a site by items that act there, and in a span of addresses, as those of its entry do.
-    fn stretch_by(
+    /// Turns a stretch to a site, by items that act there, and in a span of addresses, as those of its entry do.
+    fn turn_by(
         &self,
         alloc: Global,
+        held: &mut Stretch,
         site: u32,
         e: &Entry,
         span: Span,
         items: &[Result<Desc, DescFault>],
-    ) -> Result<Stretch, AllocError>
+    ) -> Result<(), AllocError>
         requires span { IsIn span site }
         requires same { (a : ℕ) → IsIn span a → ActSame self.now items.now (items_of e.now (table_of self.now.image e.now)) a }
-        ensures stretch { IfOk result (IsStretch self.now) }
-        ensures span { IfOk result (λ t. IsIn t.span site) }
-        ensures entry { IfOk result (λ t. t.entry ≡ Some e.now) }
+        ensures stretch { OnOk result (IsStretch self.now held.new) }
+        ensures span { OnOk result (IsIn held.new.span site) }
+        ensures entry { OnOk result (held.new.entry ≡ Some e.now) }
     {
-        let unwinding = self.unwinding_by(e);
-        let mut edges = Vec::new(alloc);
-        self.add_listed_pads(&mut edges, site, &unwinding, items)?;
-        Ok(Stretch {
-            span: span.cut_all(site, items),
-            entry: Some(*e),
-            scoped: any_covered(site, items),
-            out: self.any_out(site, items),
-            edges: each_once(alloc, edges)?,
-        })
+        held.edges.clear();
+        self.add_pads_under(&mut held.edges, site, e, items)?;
+        keep_each_once(alloc, &mut held.edges)?;
+        held.span = span.cut_all(site, items);
+        held.entry = Some(*e);
+        held.scoped = any_covered(site, items);
+        held.out = self.any_out(site, items);
+        Ok(())
     }
 
-    /// The stretch of a site that an entry covers.
-    fn stretch_under(&self, alloc: Global, site: u32, e: &Entry) -> Result<Stretch, AllocError>
-        ensures stretch { IfOk result (IsStretch self.now) }
-        ensures span { IfOk result (λ t. IsIn t.span site) }
-        ensures entry { IfOk result (λ t. t.entry ≡ Some e.now) }
+    /// Turns a stretch to a site that an entry covers which isn't the one that is kept.
+    fn turn_anew(
+        &self,
+        alloc: Global,
+        held: &mut Stretch,
+        site: u32,
+        e: &Entry,
+    ) -> Result<(), AllocError>
+        ensures stretch { OnOk result (IsStretch self.now held.new) }
+        ensures span { OnOk result (IsIn held.new.span site) }
+        ensures entry { OnOk result (held.new.entry ≡ Some e.now) }
+    {
+        let items = read_items(alloc, self.index, e)?;
+        self.turn_by(alloc, held, site, e, EVERYWHERE, &items)
+    }
+
+    /// Turns a stretch to a site that an entry covers.
+    fn turn_under(
+        &self,
+        alloc: Global,
+        held: &mut Stretch,
+        site: u32,
+        e: &Entry,
+    ) -> Result<(), AllocError>
+        ensures stretch { OnOk result (IsStretch self.now held.new) }
+        ensures span { OnOk result (IsIn held.new.span site) }
+        ensures entry { OnOk result (held.new.entry ≡ Some e.now) }
     {
         if !is_entry(self.entry, e) {
-            let items = read_items(alloc, self.index, e)?;
-            return self.stretch_by(alloc, site, e, EVERYWHERE, &items);
+            return self.turn_anew(alloc, held, site, e);
         }
         match self.span {
-            None => self.stretch_by(alloc, site, e, EVERYWHERE, self.items),
+            None => self.turn_by(alloc, held, site, e, EVERYWHERE, self.items),
             Some(span) => {
                 if span.holds(site) {
-                    self.stretch_by(alloc, site, e, span, self.near)
+                    self.turn_by(alloc, held, site, e, span, self.near)
                 } else {
-                    self.stretch_by(alloc, site, e, EVERYWHERE, self.items)
+                    self.turn_by(alloc, held, site, e, EVERYWHERE, self.items)
                 }
             }
         }
@@ -284,15 +335,14 @@ impl<'s, 'i, 'a> FlowGraph<'s, 'i, 'a> {
     {
         match self.entry_at(site) {
             None => {
-                *held = Stretch::new(alloc);
+                held.forget();
                 Ok(())
             }
             Some(e) => {
                 if held.holds(site, &e) {
                     return Ok(());
                 }
-                *held = self.stretch_under(alloc, site, &e)?;
-                Ok(())
+                self.turn_under(alloc, held, site, &e)
             }
         }
     }

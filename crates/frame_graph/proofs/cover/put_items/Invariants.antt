@@ -1,7 +1,7 @@
 use Rattle.std.proofs.Common.{◌≡◌, ◌++◌}
 use Rattle.eh_index.specs.Places.{table_of}
 use Rattle.eh_desc.specs.Grammar.{items_of}
-use Rattle.frame_graph.proofs.cover.read_items.Given as goal
+use Rattle.frame_graph.proofs.cover.put_items.Given as goal
 
 abbrev pub invariant-loop-item : goal.invariant-loop-item
 invariant-loop-item l =
