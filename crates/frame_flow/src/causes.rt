@@ -30,12 +30,12 @@ fn sets_sp(i: &Instr) -> bool
 }
 
 impl<'f, 's, 'i, 'a> Framed<'f, 's, 'i, 'a> {
-    /// Whether a site agrees with the entry that covers it: by its recipe, and where there is none by the room of a call alone.
-    fn unwound(&self, site: u32, call: bool, fact: &Fact) -> Result<(), FrameCause>
-        ensures { result ≡ by_first (unwound self.now.prologue (unwinding_at self.now.flow_graph site) call fact.now) tt }
+    /// Whether a site agrees with what the codes of its entry say: by their recipe, and where there is none by the room of a call alone.
+    fn unwound_by(&self, unwinding: &Unwinding, call: bool, fact: &Fact) -> Result<(), FrameCause>
+        ensures { result ≡ by_first (unwound self.now.prologue unwinding.now call fact.now) tt }
     {
-        match self.flow_graph.unwinding_at(site) {
-            Unwinding::Finds(recipe) => agrees(fact, &self.prologue, &recipe, call),
+        match unwinding {
+            Unwinding::Finds(recipe) => agrees(fact, &self.prologue, recipe, call),
             Unwinding::Refused | Unwinding::BadBytecode | Unwinding::GenericModel => {
                 if call && fact.depth < 4 {
                     Err(FrameCause::CallState { reg: LR })
@@ -43,6 +43,24 @@ impl<'f, 's, 'i, 'a> Framed<'f, 's, 'i, 'a> {
                     Ok(())
                 }
             }
+        }
+    }
+
+    /// The same of a site whose entry isn't kept. It stays a call, so that one that is kept is asked in few steps.
+    #[inline(never)]
+    fn unwound_anew(&self, site: u32, call: bool, fact: &Fact) -> Result<(), FrameCause>
+        ensures { result ≡ by_first (unwound self.now.prologue (unwinding_at self.now.flow_graph site) call fact.now) tt }
+    {
+        self.unwound_by(&self.flow_graph.unwinding_at(site), call, fact)
+    }
+
+    /// Whether a site agrees with the entry that covers it.
+    fn unwound(&self, site: u32, call: bool, fact: &Fact) -> Result<(), FrameCause>
+        ensures { result ≡ by_first (unwound self.now.prologue (unwinding_at self.now.flow_graph site) call fact.now) tt }
+    {
+        match self.flow_graph.kept_unwinding_at(site) {
+            None => self.unwound_anew(site, call, fact),
+            Some(unwinding) => self.unwound_by(unwinding, call, fact),
         }
     }
 
