@@ -17,5 +17,5 @@ pub use cover::Cover;
 pub use edges::Edge;
 pub use flow_graph::FlowGraph;
 pub use places::Standing;
-pub use stretch::{EdgeRoom, Stretch};
+pub use stretch::Stretch;
 pub use unwinding::Unwinding;

@@ -34,24 +34,6 @@ pub struct Stretch {
     edges: Vec<Edge>,
 }
 
-/// Room for what is asked of one place after the other: a list for its edges, and the stretch of its site. What they hold doesn't matter:
-/// who looks at many functions lends them one room.
-#[derive(Drop)]
-pub struct EdgeRoom {
-    pub edges: Vec<Edge>,
-    pub stretch: Stretch,
-}
-
-impl EdgeRoom {
-    /// A room that has taken no memory yet.
-    pub fn new(alloc: Global) -> EdgeRoom {
-        EdgeRoom {
-            edges: Vec::new(alloc),
-            stretch: Stretch::new(alloc),
-        }
-    }
-}
-
 /// All addresses.
 pub(crate) const EVERYWHERE: Span = Span {
     low: 0,
