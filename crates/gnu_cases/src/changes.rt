@@ -1,23 +1,6 @@
 //! What is refused of an entry of which a byte is changed to each value, or which is cut at each place.
-use crate::image::{bytes_of, fault_of};
-use case_rows::{Asked, Unanswered, decimal, first_word};
-use std::alloc::{AllocError, Global};
-
-/// What changed entries are asked.
-#[derive(Clone, Copy)]
-pub struct Changes;
-
-impl Asked for Changes {
-    fn answer(&self, alloc: Global, question: &str) -> Result<String, Unanswered> {
-        let (what, rest) = first_word(question);
-        match what {
-            "each" => each(alloc, rest),
-            "count" => count(alloc, rest),
-            "cut" => cut(alloc, &bytes_of(alloc, rest)?),
-            _ => Err(Unanswered::NotKnown),
-        }
-    }
-}
+use crate::image::fault_of;
+use case_rows::{Text, Unanswered, first_word};
 
 /// The names of answers, in the order in which they are counted.
 static NAMES: [&str; 9] = [
@@ -32,85 +15,92 @@ static NAMES: [&str; 9] = [
     "TooLong",
 ];
 
+/// Adds the name of what is refused of a table.
+fn push_name(names: &mut Vec<&'static str>, text: &Text, table: &[u8]) -> Result<(), Unanswered> {
+    names.push(fault_of(text.alloc(), table)?)?;
+    Ok(())
+}
+
 /// What is refused with each value of the byte at a place.
-fn changed(alloc: Global, rest: &str) -> Result<Vec<&'static str>, Unanswered> {
+fn changed(text: &mut Text, rest: &str) -> Vec<&'static str> {
+    let mut names = Vec::new(text.alloc());
     let (place, words) = first_word(rest);
-    let place = decimal(place)? as usize;
-    let mut table = bytes_of(alloc, words)?;
-    let mut answers = Vec::new(alloc);
+    let place = text.decimal(place) as usize;
+    let mut table = text.bytes(words);
     for value in 0..=255 {
-        match table.get_mut(place) {
-            None => return Err(Unanswered::NoWord),
-            Some(byte) => *byte = value,
+        if let Some(byte) = table.get_mut(place) {
+            *byte = value;
         }
-        answers.push(fault_of(alloc, &table)?)?;
+        let pushed = push_name(&mut names, text, &table);
+        text.taken(pushed);
     }
-    Ok(answers)
+    names
 }
 
-/// Ends a run of equal answers, from one number to another.
-fn push_run(
-    alloc: Global,
-    text: &mut String,
-    from: usize,
-    to: usize,
-    answer: &str,
-) -> Result<(), AllocError> {
-    let run = if from == to {
-        format!(in alloc; " {from:X} {answer},")?
-    } else {
-        format!(in alloc; " {from:X}-{to:X} {answer},")?
-    };
-    text.push_str(run.as_str())
+/// What is refused of the first byte, of the first two, and so on.
+fn cut(text: &mut Text, words: &str) -> Vec<&'static str> {
+    let mut names = Vec::new(text.alloc());
+    let table = text.bytes(words);
+    for i in 0..table.len() {
+        let pushed = push_name(&mut names, text, &table[..i + 1]);
+        text.taken(pushed);
+    }
+    names
 }
 
-/// Answers in runs of equal ones. The first is that of a number.
-fn runs(alloc: Global, first: usize, answers: &[&'static str]) -> Result<String, AllocError> {
-    let mut text = format!(in alloc; "values")?;
-    let mut from = 0;
-    for (i, answer) in answers.iter().enumerate() {
-        let ends = match answers.get(i + 1) {
+/// Adds a run of equal answers, from one number to another.
+fn say_run(text: &mut Text, from: usize, to: usize, name: &str) {
+    write!(text, " {from:X}");
+    if from < to {
+        write!(text, "-{to:X}");
+    }
+    write!(text, " {name},");
+}
+
+/// Adds answers in runs of equal ones. The first is that of a number.
+fn say_runs(text: &mut Text, first: usize, names: &[&'static str]) {
+    let mut from = first;
+    for (i, name) in names.iter().enumerate() {
+        let to = first.saturating_add(i);
+        let ends = match names.get(i + 1) {
             None => true,
-            Some(next) => *next != *answer,
+            Some(next) => *next != *name,
         };
         if ends {
-            push_run(
-                alloc,
-                &mut text,
-                first.saturating_add(from),
-                first.saturating_add(i),
-                answer,
-            )?;
-            from = i + 1;
+            say_run(text, from, to, name);
+            from = to.saturating_add(1);
         }
     }
-    Ok(text)
 }
 
-/// `each PLACE BYTES`: what is refused with each value of the byte at a place.
-fn each(alloc: Global, rest: &str) -> Result<String, Unanswered> {
-    let answers = changed(alloc, rest)?;
-    Ok(runs(alloc, 0, answers.as_slice())?)
-}
-
-/// `count PLACE BYTES`: how many values of the byte at a place have which answer.
-fn count(alloc: Global, rest: &str) -> Result<String, Unanswered> {
-    let answers = changed(alloc, rest)?;
-    let mut text = format!(in alloc; "values")?;
+/// Adds how many have which answer.
+fn say_counts(text: &mut Text, names: &[&'static str]) {
     for name in NAMES.iter() {
-        let count = answers.iter().filter(|answer| **answer == *name).count();
+        let count = names.iter().filter(|other| **other == *name).count();
         if count > 0 {
-            text.push_str(format!(in alloc; " {name} {count},")?.as_str())?;
+            write!(text, " {name} {count},");
         }
     }
-    Ok(text)
 }
 
-/// `cut BYTES`: what is refused of the first byte, of the first two, and so on.
-fn cut(alloc: Global, table: &[u8]) -> Result<String, Unanswered> {
-    let mut answers = Vec::new(alloc);
-    for i in 0..table.len() {
-        answers.push(fault_of(alloc, &table[..i + 1])?)?;
+/// `each PLACE BYTES` and `count PLACE BYTES`: what is refused with each value of the byte at a place, and how many values have which
+/// answer; `cut BYTES`: what is refused of each number of bytes.
+pub fn tell(text: &mut Text, question: &str) {
+    let (what, rest) = first_word(question);
+    text.say("values");
+    match what {
+        "each" => {
+            let names = changed(text, rest);
+            say_runs(text, 0, &names);
+        }
+        "count" => {
+            let names = changed(text, rest);
+            say_counts(text, &names);
+        }
+        "cut" => {
+            let names = cut(text, rest);
+            say_runs(text, 1, &names);
+        }
+        _ => text.refuse(Unanswered::NotKnown),
     }
-    Ok(runs(alloc, 1, answers.as_slice())?)
 }

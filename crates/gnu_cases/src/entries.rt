@@ -1,122 +1,139 @@
 //! What the table of an entry says, and what is refused of it.
-use crate::image::{bytes_of, fault_of, file_of};
-use case_images::opened;
-use case_rows::{Asked, Unanswered, decimal, first_word};
+use crate::image::{OfIndex, entry_of, fault_of, file_of, tell_of};
+use case_rows::{Text, Unanswered, first_word};
 use eh_index::Index;
-use gnu_tables::{Action, ActionFault, Caught, Generic, HeadFault, Lsda, Record, RecordFault};
-use std::alloc::{AllocError, Global};
+use gnu_tables::{Action, ActionFault, Caught, HeadFault, Lsda, Record, RecordFault};
 
-/// What entries are asked.
-#[derive(Clone, Copy)]
-pub struct Entries;
+/// A table without a type table, with a record that has a chain: what stands in front of its chain.
+static FRONT_OF_CHAIN: [u8; 15] = [
+    0x40, 0xF0, 0xFF, 0x7F, 0xB0, 0xB0, 0xB0, 0, 0xFF, 0xFF, 1, 4, 0, 4, 0xA,
+];
 
-impl Asked for Entries {
-    fn answer(&self, alloc: Global, question: &str) -> Result<String, Unanswered> {
-        let (what, rest) = first_word(question);
-        match what {
-            "fault" => refused(alloc, &bytes_of(alloc, rest)?),
-            "entry" => entry_text(alloc, &bytes_of(alloc, rest)?),
-            "chain" => chained(alloc, rest),
-            "words" => after_words(alloc, rest),
-            _ => Err(Unanswered::NotKnown),
-        }
-    }
-}
+/// What stands in a table in front of the number of its further words.
+static FRONT_OF_WORDS: [u8; 7] = [0x40, 0xF0, 0xFF, 0x7F, 0xB0, 0xB0, 0xB0];
 
-/// `fault BYTES`: what is refused of an entry.
-fn refused(alloc: Global, table: &[u8]) -> Result<String, Unanswered> {
-    let name = fault_of(alloc, table)?;
-    Ok(format!(in alloc; "{name}")?)
-}
+/// The records of an entry.
+struct Records;
 
-/// `chain N BYTES`: what is refused of an entry with a chain of so many cleanups, one after the other, the last with this way to the
-/// next one.
-fn chained(alloc: Global, rest: &str) -> Result<String, Unanswered> {
-    let (count, displacement) = first_word(rest);
-    let count = decimal(count)?;
-    let mut table = bytes_of(alloc, "40 F0 FF 7F B0 B0 B0 0 FF FF 1 4 0 4 A 1")?;
-    for _i in 1..count {
-        table.extend_from_slice(&[0, 1])?;
-    }
-    table.push(0)?;
-    table.extend_from_slice(bytes_of(alloc, displacement)?.as_slice())?;
-    refused(alloc, &table)
-}
-
-/// `words N BYTES`: what is refused of an entry with so many words of code after its second word, at most 255, and these bytes after them.
-fn after_words(alloc: Global, rest: &str) -> Result<String, Unanswered> {
-    let (count, area) = first_word(rest);
-    let count = decimal(count)? % 256;
-    let mut table = bytes_of(alloc, "40 F0 FF 7F B0 B0 B0")?;
-    table.push(count as u8)?;
+/// Adds bytes so many times.
+fn push_times(table: &mut Vec<u8>, count: u32, part: &[u8]) -> Result<(), Unanswered> {
     for _i in 0..count {
-        table.extend_from_slice(&[0xB0; 4])?;
+        table.extend_from_slice(part)?;
     }
-    table.extend_from_slice(bytes_of(alloc, area)?.as_slice())?;
-    refused(alloc, &table)
+    Ok(())
 }
 
-fn caught_text(alloc: Global, takes: Caught) -> Result<String, AllocError> {
-    match takes {
-        Caught::All => format!(in alloc; "all"),
-        Caught::OfType(a) => format!(in alloc; "{a:X}"),
+/// Adds a chain of so many cleanups, of which each is come to by a 1, and the way of the last to the next one.
+fn push_chain(table: &mut Vec<u8>, count: u32, way: &[u8]) -> Result<(), Unanswered> {
+    table.extend_from_slice(&FRONT_OF_CHAIN)?;
+    push_times(table, count, &[1, 0])?;
+    table.extend_from_slice(way)?;
+    Ok(())
+}
+
+/// Adds so many words of code after the second word, at most 255, and an area after them.
+fn push_words(table: &mut Vec<u8>, count: u32, area: &[u8]) -> Result<(), Unanswered> {
+    table.extend_from_slice(&FRONT_OF_WORDS)?;
+    table.push((count % 256) as u8)?;
+    push_times(table, count % 256, &[0xB0; 4])?;
+    table.extend_from_slice(area)?;
+    Ok(())
+}
+
+/// The table that a question describes: `chain N BYTES`, one with a chain of so many cleanups and then these bytes; `words N BYTES`, one
+/// with so many words of code after its second word.
+fn table_of(text: &mut Text, what: &str, rest: &str) -> Vec<u8> {
+    let (count, end) = first_word(rest);
+    let count = text.decimal(count);
+    let end = text.bytes(end);
+    let mut table = Vec::new(text.alloc());
+    let pushed = if what == "chain" {
+        push_chain(&mut table, count, &end)
+    } else {
+        push_words(&mut table, count, &end)
+    };
+    text.taken(pushed);
+    table
+}
+
+/// `fault BYTES`, `chain N BYTES` and `words N BYTES`: what is refused of an entry; `entry BYTES`: its records, each with its actions.
+pub fn tell(text: &mut Text, question: &str) {
+    let (what, rest) = first_word(question);
+    match what {
+        "fault" => {
+            let table = text.bytes(rest);
+            say_fault(text, &table);
+        }
+        "chain" | "words" => {
+            let table = table_of(text, what, rest);
+            say_fault(text, &table);
+        }
+        "entry" => {
+            let table = text.bytes(rest);
+            let file = file_of(text.alloc(), &table);
+            tell_of(text, file, &Records);
+        }
+        _ => text.refuse(Unanswered::NotKnown),
     }
 }
 
-fn catch_text(alloc: Global, filter: u64, takes: Caught) -> Result<String, AllocError> {
-    let takes = caught_text(alloc, takes)?;
-    format!(in alloc; " catch {filter} of {takes},")
+/// Adds what is refused of an entry.
+fn say_fault(text: &mut Text, table: &[u8]) {
+    let name = fault_of(text.alloc(), table);
+    if let Some(name) = text.taken(name) {
+        text.say(name);
+    }
 }
 
-fn action_text(alloc: Global, item: Result<Action, ActionFault>) -> Result<String, AllocError> {
+/// Adds an action.
+fn say_action(text: &mut Text, item: Result<Action, ActionFault>) {
     match item {
-        Ok(Action::Cleanup) => format!(in alloc; " cleanup,"),
-        Ok(Action::Catch { filter, takes }) => catch_text(alloc, filter, takes),
-        Ok(Action::NoTypes) => format!(in alloc; " no types,"),
-        Ok(Action::Specification) => format!(in alloc; " specification,"),
-        Err(ActionFault::Short) => format!(in alloc; " too short,"),
-        Err(ActionFault::Chain) => format!(in alloc; " too many,"),
+        Ok(Action::Cleanup) => text.say(" cleanup,"),
+        Ok(Action::Catch { filter, takes }) => say_catch(text, filter, takes),
+        Ok(Action::NoTypes) => text.say(" no types,"),
+        Ok(Action::Specification) => text.say(" specification,"),
+        Err(ActionFault::Short) => text.say(" too short,"),
+        Err(ActionFault::Chain) => text.say(" too many,"),
     }
 }
 
-fn record_text(alloc: Global, area: &Lsda, site: &Record) -> Result<String, AllocError> {
+fn say_catch(text: &mut Text, filter: u64, takes: Caught) {
+    match takes {
+        Caught::All => write!(text, " catch {filter} of all,"),
+        Caught::OfType(a) => write!(text, " catch {filter} of {a:X},"),
+    }
+}
+
+/// Adds a record with its actions.
+fn say_record(text: &mut Text, area: &Lsda, site: &Record) {
     let (start, size, pad) = (site.start, site.size, site.pad);
-    let mut text = format!(in alloc; " {start:X}+{size:X} to {pad:X}:")?;
+    write!(text, " {start:X}+{size:X} to {pad:X}:");
     for item in area.actions(site.action) {
-        text.push_str(action_text(alloc, item)?.as_str())?;
+        say_action(text, item);
     }
-    Ok(text)
 }
 
-fn records_text(alloc: Global, area: &Lsda) -> Result<String, AllocError> {
-    let mut text = format!(in alloc; "records")?;
+/// Adds all records.
+fn say_records(text: &mut Text, area: &Lsda) {
+    text.say("records");
     for item in area.records() {
-        let record = match item {
-            Ok(site) => record_text(alloc, area, &site)?,
-            Err(RecordFault::Short) => format!(in alloc; " too short")?,
-        };
-        text.push_str(record.as_str())?;
-        text.push(';')?;
+        match item {
+            Ok(site) => say_record(text, area, &site),
+            Err(RecordFault::Short) => text.say(" too short"),
+        }
+        text.say(";");
     }
-    Ok(text)
 }
 
-/// `entry BYTES`: the records of an entry, each with its actions.
-fn entry_text(alloc: Global, table: &[u8]) -> Result<String, Unanswered> {
-    let file = file_of(alloc, table)?;
-    let image = opened(alloc, &file)?;
-    let Ok(index) = Index::read(&image) else {
-        return Err(Unanswered::Because("no index"));
-    };
-    if index.is_empty() {
-        return Err(Unanswered::Because("no row"));
-    }
-    let Some(entry) = Generic::of(&index, 0) else {
-        return Err(Unanswered::Because("not generic"));
-    };
-    match entry.lsda() {
-        Ok(area) => Ok(records_text(alloc, &area)?),
-        Err(HeadFault::Short) => Ok(format!(in alloc; "head too short")?),
-        Err(HeadFault::Format) => Ok(format!(in alloc; "head of another format")?),
+impl OfIndex for Records {
+    fn tell(&self, text: &mut Text, index: &Index) {
+        let Some(entry) = entry_of(index) else {
+            return text.refuse(Unanswered::Because("not generic"));
+        };
+        match entry.lsda() {
+            Ok(area) => say_records(text, &area),
+            Err(HeadFault::Short) => text.say("head too short"),
+            Err(HeadFault::Format) => text.say("head of another format"),
+        }
     }
 }

@@ -1,7 +1,8 @@
 //! Images of one function with a table, by the table's bytes, and what is refused of its entry.
-use case_images::{Draft, opened};
-use case_rows::{Unanswered, numbers};
+use case_images::{Draft, opened, opened_in};
+use case_rows::{Text, Unanswered};
 use eh_index::Index;
+use elf_image::image::Image;
 use elf_write::parts::SymbolKind;
 use gnu_tables::{EntryFault, Generic, personality_symbol};
 use std::alloc::Global;
@@ -9,44 +10,68 @@ use std::alloc::Global;
 /// The table's address.
 const TABLE: u32 = 0x9000;
 
-/// The most bytes of a table.
-const MOST_BYTES: usize = 0x1000;
-
 /// The rows of the index at 8100: the function at 8000 with its table, and nothing that unwinds from 801C on.
 static ROWS: [u8; 16] = [
     0x00, 0xFF, 0xFF, 0x7F, 0xFC, 0x0E, 0x00, 0x00, 0x14, 0xFF, 0xFF, 0x7F, 0x01, 0x00, 0x00, 0x00,
 ];
 
-/// Bytes by their hexadecimal words.
-pub fn bytes_of(alloc: Global, words: &str) -> Result<Vec<u8>, Unanswered> {
-    let mut bytes = Vec::new(alloc);
-    for number in numbers(alloc, words)? {
-        bytes.push((number % 256) as u8)?;
-    }
-    Ok(bytes)
+/// What is asked of the index of an image.
+pub trait OfIndex {
+    /// Tells the answer.
+    fn tell(&self, text: &mut Text, index: &Index);
 }
 
-/// The file of an image with a function at 8000 and its table at 9000, in a segment of the table's own. The personality routine of C++
-/// stands at 8040. Memory from 8000 to 8200 is read-only, and that from A000 to A100 writable.
-pub fn file_of(alloc: Global, table: &[u8]) -> Result<Vec<u8>, Unanswered> {
-    if table.len() > MOST_BYTES {
-        return Err(Unanswered::Because("too many bytes"));
-    }
-    let mut draft = Draft::new(alloc);
+/// Puts the parts of an image with a table.
+fn put_parts(draft: &mut Draft, table: &[u8]) -> Result<(), Unanswered> {
     draft.set_entry(0x8000);
     draft.set_index(0x8100, 16);
     draft.put_symbol("_start", 0x8000, 0x1C, SymbolKind::Function)?;
     draft.put_symbol("__gxx_personality_v0", 0x8040, 4, SymbolKind::Function)?;
     draft.begin_segment(0x8000, 0x200, false)?;
     draft.put_bytes(0x8100, &ROWS)?;
-    draft.begin_segment(TABLE, table.len() as u32, false)?;
+    draft.begin_segment(TABLE, (table.len() % 0x1_0000_0000) as u32, false)?;
     draft.put_bytes(TABLE, table)?;
-    draft.begin_segment(0xA000, 0x100, true)?;
-    draft.into_file()
+    draft.begin_segment(0xA000, 0x100, true)
 }
 
-/// The name of what is refused.
-pub fn name_of(fault: Option<EntryFault>) -> &'static str {
+/// The file of an image with a function at 8000 and its table at 9000, in a segment of the table's own. The personality routine of C++
+/// stands at 8040. Memory from 8000 to 8200 is read-only, and that from A000 to A100 writable.
+pub fn file_of(alloc: Global, table: &[u8]) -> Result<Vec<u8>, Unanswered> {
+    let mut draft = Draft::new(alloc);
+    match put_parts(&mut draft, table) {
+        Ok(()) => draft.into_file(),
+        Err(why) => Err(why),
+    }
+}
+
+/// Tells of the index of a file's image.
+fn tell_of_file<T: OfIndex>(text: &mut Text, file: &[u8], asked: &T) {
+    if let Some(image) = opened_in(text, file) {
+        match Index::read(&image) {
+            Ok(index) => asked.tell(text, &index),
+            Err(_fault) => text.refuse(Unanswered::Because("no index")),
+        }
+    }
+}
+
+/// Tells of the index of the image of a file that was made, or why there is none.
+pub fn tell_of<T: OfIndex>(text: &mut Text, made: Result<Vec<u8>, Unanswered>, asked: &T) {
+    if let Some(file) = text.taken(made) {
+        tell_of_file(text, &file, asked);
+    }
+}
+
+/// The entry of the first row, where it is generic.
+pub fn entry_of<'a>(index: &Index<'_, 'a>) -> Option<Generic<'a>> {
+    if index.is_empty() {
+        None
+    } else {
+        Generic::of(index, 0)
+    }
+}
+
+/// The name of what is refused of an entry.
+fn name_of(fault: Option<EntryFault>) -> &'static str {
     match fault {
         None => "none",
         Some(EntryFault::Personality) => "Personality",
@@ -59,18 +84,20 @@ pub fn name_of(fault: Option<EntryFault>) -> &'static str {
     }
 }
 
+/// What is refused of the first entry of an image.
+fn fault_in(image: &Image) -> &'static str {
+    let Ok(index) = Index::read(image) else {
+        return "no index";
+    };
+    match entry_of(&index) {
+        None => "not generic",
+        Some(entry) => name_of(entry.fault(image, personality_symbol(image))),
+    }
+}
+
 /// What is refused of the entry with a table's bytes.
 pub fn fault_of(alloc: Global, table: &[u8]) -> Result<&'static str, Unanswered> {
     let file = file_of(alloc, table)?;
     let image = opened(alloc, &file)?;
-    let Ok(index) = Index::read(&image) else {
-        return Err(Unanswered::Because("no index"));
-    };
-    if index.is_empty() {
-        return Err(Unanswered::Because("no row"));
-    }
-    match Generic::of(&index, 0) {
-        None => Ok("not generic"),
-        Some(entry) => Ok(name_of(entry.fault(&image, personality_symbol(&image)))),
-    }
+    Ok(fault_in(&image))
 }

@@ -1,122 +1,133 @@
 //! The tables of the compact model that stand for entries.
-use crate::image::{bytes_of, file_of, name_of};
-use case_images::opened;
-use case_rows::{Asked, Unanswered, first_word};
-use descriptor_bytes::{OwnDescriptor, OwnKind};
+use crate::image::{OfIndex, entry_of, file_of, tell_of};
+use case_rows::{Text, Unanswered, first_word};
+use descriptor_bytes::OwnKind;
 use eh_desc::CatchType;
 use eh_index::Index;
 use gnu_descriptors::{Scoped, scopes_of};
-use gnu_images::{Tables, rewritten};
-use gnu_tables::Generic;
-use std::alloc::{AllocError, Global};
-use unwind_codes::EntryBody;
+use gnu_images::{RefusedEntry, Tables, rewritten};
+use std::alloc::Global;
+use unwind_codes::{Entry, EntryBody};
 
 /// Where the new tables stand.
 const BASE: u32 = 0x1_0000;
 
-/// What rewritten entries are asked.
-#[derive(Clone, Copy)]
-pub struct Rewritten;
+/// What is asked of a rewritten entry.
+#[derive(Drop)]
+struct Asked<'q> {
+    what: &'q str,
+}
 
-impl Asked for Rewritten {
-    fn answer(&self, alloc: Global, question: &str) -> Result<String, Unanswered> {
-        let (what, rest) = first_word(question);
-        let file = file_of(alloc, &bytes_of(alloc, rest)?)?;
-        let image = opened(alloc, &file)?;
-        let Ok(index) = Index::read(&image) else {
-            return Err(Unanswered::Because("no index"));
-        };
-        match what {
-            "scopes" => scopes_text(alloc, &index),
-            "bytes" => Ok(bytes_text(alloc, &rewritten(alloc, &index, BASE)?)?),
-            "rows" => Ok(rows_text(alloc, &rewritten(alloc, &index, BASE)?)?),
-            "filters" => Ok(filters_text(alloc, &rewritten(alloc, &index, BASE)?)?),
-            _ => Err(Unanswered::NotKnown),
+/// `scopes BYTES`: the descriptors of an entry, each with the offset and the size of its scope; `bytes BYTES`: the bytes of its new table,
+/// which stands at 10000; `rows BYTES`: the rows of the index, and why entries aren't rewritten; `filters BYTES`: the addresses of the new
+/// catches with their filters.
+pub fn tell(text: &mut Text, question: &str) {
+    let (what, rest) = first_word(question);
+    let table = text.bytes(rest);
+    let file = file_of(text.alloc(), &table);
+    text.say(what);
+    tell_of(text, file, &Asked { what });
+}
+
+impl<'q> OfIndex for Asked<'q> {
+    fn tell(&self, text: &mut Text, index: &Index) {
+        if self.what == "scopes" {
+            let scopes = scopes_in(text.alloc(), index);
+            say_scopes(text, scopes);
+        } else {
+            let tables = made(text.alloc(), index);
+            if let Some(tables) = text.taken(tables) {
+                say_tables(text, self.what, &tables);
+            }
         }
     }
 }
 
-fn catch_text(
-    alloc: Global,
-    pad: u32,
-    takes: CatchType,
-    filter: Option<u32>,
-) -> Result<String, AllocError> {
-    let filter = filter.unwrap_or(0);
-    match takes {
-        CatchType::All => format!(in alloc; "catch {filter} of all at {pad:X}"),
-        CatchType::AllFails => format!(in alloc; "all fails"),
-        CatchType::One(a) => format!(in alloc; "catch {filter} of {a:X} at {pad:X}"),
-    }
+/// The new tables for the entries of an index.
+fn made(alloc: Global, index: &Index) -> Result<Tables, Unanswered> {
+    Ok(rewritten(alloc, index, BASE)?)
 }
 
-fn kind_text(alloc: Global, s: &Scoped) -> Result<String, AllocError> {
-    match s.descriptor.kind {
-        OwnKind::Specification => format!(in alloc; "nothing passes"),
-        OwnKind::Catch { pad, takes } => catch_text(alloc, pad, takes, s.filter),
-        OwnKind::Cleanup { pad } => format!(in alloc; "cleanup at {pad:X}"),
-    }
-}
-
-fn scope_text(alloc: Global, s: &Scoped) -> Result<String, AllocError> {
-    let OwnDescriptor { offset, size, .. } = s.descriptor;
-    let kind = kind_text(alloc, s)?;
-    format!(in alloc; " {offset:X}+{size:X} {kind},")
-}
-
-/// `scopes BYTES`: the descriptors of an entry, each with the offset and the size of its scope.
-fn scopes_text(alloc: Global, index: &Index) -> Result<String, Unanswered> {
-    if index.is_empty() {
-        return Err(Unanswered::Because("no row"));
-    }
-    let Some(entry) = Generic::of(index, 0) else {
+/// The descriptors of the first entry.
+fn scopes_in(alloc: Global, index: &Index) -> Result<Vec<Scoped>, Unanswered> {
+    let Some(entry) = entry_of(index) else {
         return Err(Unanswered::Because("not generic"));
     };
     let Ok(area) = entry.lsda() else {
         return Err(Unanswered::Because("no area"));
     };
-    let mut text = format!(in alloc; "scopes")?;
-    for s in &scopes_of(alloc, &entry, &area)? {
-        text.push_str(scope_text(alloc, s)?.as_str())?;
-    }
-    Ok(text)
+    Ok(scopes_of(alloc, &entry, &area)?)
 }
 
-/// `bytes BYTES`: the bytes of an entry's new table, which stands at 10000.
-fn bytes_text(alloc: Global, tables: &Tables) -> Result<String, AllocError> {
-    let mut text = format!(in alloc; "bytes")?;
-    for b in &tables.bytes {
-        text.push_str(format!(in alloc; " {b:X}")?.as_str())?;
-    }
-    Ok(text)
-}
-
-fn row_text(alloc: Global, start: u32, body: EntryBody) -> Result<String, AllocError> {
-    match body {
-        EntryBody::CantUnwind => format!(in alloc; " {start:X} can't unwind,"),
-        EntryBody::Inline(word) => format!(in alloc; " {start:X} inline {word:X},"),
-        EntryBody::Table(a) => format!(in alloc; " {start:X} table {a:X},"),
+fn say_scopes(text: &mut Text, scopes: Result<Vec<Scoped>, Unanswered>) {
+    if let Some(scopes) = text.taken(scopes) {
+        for scope in &scopes {
+            say_scope(text, scope);
+        }
     }
 }
 
-/// `rows BYTES`: the rows of the index, and why entries aren't rewritten.
-fn rows_text(alloc: Global, tables: &Tables) -> Result<String, AllocError> {
-    let mut text = format!(in alloc; "rows")?;
+fn say_scope(text: &mut Text, s: &Scoped) {
+    let (offset, size) = (s.descriptor.offset, s.descriptor.size);
+    write!(text, " {offset:X}+{size:X} ");
+    match s.descriptor.kind {
+        OwnKind::Specification => text.say("nothing passes"),
+        OwnKind::Catch { pad, takes } => say_catch(text, pad, takes, s.filter.unwrap_or(0)),
+        OwnKind::Cleanup { pad } => write!(text, "cleanup at {pad:X}"),
+    }
+    text.say(",");
+}
+
+fn say_catch(text: &mut Text, pad: u32, takes: CatchType, filter: u32) {
+    match takes {
+        CatchType::All => write!(text, "catch {filter} of all at {pad:X}"),
+        CatchType::AllFails => text.say("all fails"),
+        CatchType::One(a) => write!(text, "catch {filter} of {a:X} at {pad:X}"),
+    }
+}
+
+fn say_tables(text: &mut Text, what: &str, tables: &Tables) {
+    match what {
+        "bytes" => say_bytes(text, &tables.bytes),
+        "rows" => say_rows(text, tables),
+        "filters" => say_filters(text, &tables.filters),
+        _ => text.refuse(Unanswered::NotKnown),
+    }
+}
+
+fn say_bytes(text: &mut Text, bytes: &[u8]) {
+    for byte in bytes {
+        write!(text, " {byte:X}");
+    }
+}
+
+fn say_row(text: &mut Text, row: &Entry) {
+    let start = row.start;
+    match row.body {
+        EntryBody::CantUnwind => write!(text, " {start:X} can't unwind,"),
+        EntryBody::Inline(word) => write!(text, " {start:X} inline {word:X},"),
+        EntryBody::Table(a) => write!(text, " {start:X} table {a:X},"),
+    }
+}
+
+fn say_rows(text: &mut Text, tables: &Tables) {
     for row in &tables.rows {
-        text.push_str(row_text(alloc, row.start, row.body)?.as_str())?;
+        say_row(text, row);
     }
-    for refused in &tables.refused {
-        let (start, name) = (refused.start, name_of(Some(refused.fault)));
-        text.push_str(format!(in alloc; " {name} {start:X},")?.as_str())?;
-    }
-    Ok(text)
+    say_refused(text, &tables.refused);
 }
 
-/// `filters BYTES`: the addresses of the new catches with their filters.
-fn filters_text(alloc: Global, tables: &Tables) -> Result<String, AllocError> {
-    let mut text = format!(in alloc; "filters")?;
-    for (desc, filter) in &tables.filters {
-        text.push_str(format!(in alloc; " {desc:X} {filter},")?.as_str())?;
+/// Adds the entries that aren't rewritten.
+pub fn say_refused(text: &mut Text, entries: &[RefusedEntry]) {
+    for entry in entries {
+        let (start, fault) = (entry.start, entry.fault);
+        write!(text, " {fault:?} {start:X},");
     }
-    Ok(text)
+}
+
+/// Adds the addresses of catches with their filters.
+pub fn say_filters(text: &mut Text, filters: &[(u32, u32)]) {
+    for (desc, filter) in filters {
+        write!(text, " {desc:X} {filter},");
+    }
 }
