@@ -1,71 +1,64 @@
-//! Answers in words: numbers are hexadecimal, and a call that says nothing has none.
+//! Answers in words: numbers are hexadecimal, and a call that says nothing has none. Between those of two calls stands `; `.
+use case_rows::Text;
 use eh_cxa::{CleanupWords, CxaFault};
-use std::alloc::{AllocError, Global};
 
-/// Adds an answer after those of the calls before it.
-pub fn push(all: &mut String, answer: &str) -> Result<(), AllocError> {
-    if !all.is_empty() && !answer.is_empty() {
-        all.push_str("; ")?;
-    }
-    all.push_str(answer)
+/// Adds a text, after the answers of the calls before it.
+pub fn say(text: &mut Text, answer: &str) {
+    text.say_between("; ");
+    text.say(answer);
 }
 
-pub fn nothing(alloc: Global) -> String {
-    String::new(alloc)
-}
-
-pub fn word(alloc: Global, word: u32) -> Result<String, AllocError> {
-    format!(in alloc; "{word:X}")
+pub fn word(text: &mut Text, word: u32) {
+    text.say_between("; ");
+    text.say_hex(word);
 }
 
 /// Words with blanks between them.
-pub fn words(alloc: Global, words: &[u32]) -> Result<String, AllocError> {
-    let mut text = String::new(alloc);
-    for word in words {
-        if !text.is_empty() {
-            text.push(' ')?;
-        }
-        text.push_str(format!(in alloc; "{word:X}")?.as_str())?;
+pub fn words(text: &mut Text, words: &[u32]) {
+    let [first, more @ ..] = words else {
+        return;
+    };
+    word(text, *first);
+    for word in more {
+        text.say(" ");
+        text.say_hex(*word);
     }
-    Ok(text)
 }
 
 /// Why a call is refused.
-pub fn fault(alloc: Global, fault: CxaFault) -> Result<String, AllocError> {
-    format!(in alloc; "{fault:?}")
+pub fn fault(text: &mut Text, fault: CxaFault) {
+    text.say_between("; ");
+    text.show(&fault);
 }
 
 /// Whether a call is done.
-pub fn done(alloc: Global, done: Result<(), CxaFault>) -> Result<String, AllocError> {
+pub fn done(text: &mut Text, done: Result<(), CxaFault>) {
     match done {
-        Ok(()) => format!(in alloc; "done"),
-        Err(why) => fault(alloc, why),
+        Ok(()) => say(text, "done"),
+        Err(why) => fault(text, why),
     }
 }
 
 /// An address, or why there is none.
-pub fn address(alloc: Global, given: Result<u32, CxaFault>) -> Result<String, AllocError> {
+pub fn address(text: &mut Text, given: Result<u32, CxaFault>) {
     match given {
-        Ok(a) => word(alloc, a),
-        Err(why) => fault(alloc, why),
+        Ok(a) => word(text, a),
+        Err(why) => fault(text, why),
     }
 }
 
 /// An object that is handed out and its destructor, or why there is none.
-pub fn handed(alloc: Global, given: Result<(u32, u32), CxaFault>) -> Result<String, AllocError> {
+pub fn handed(text: &mut Text, given: Result<(u32, u32), CxaFault>) {
     match given {
-        Ok((object, destructor)) => words(alloc, &[object, destructor]),
-        Err(why) => fault(alloc, why),
+        Ok((object, destructor)) => words(text, &[object, destructor]),
+        Err(why) => fault(text, why),
     }
 }
 
 /// The control block of a cleanup that ended, with the next descriptor, sp and site; or why there is none.
-pub fn ended(
-    alloc: Global,
-    given: Result<(u32, CleanupWords), CxaFault>,
-) -> Result<String, AllocError> {
+pub fn ended(text: &mut Text, given: Result<(u32, CleanupWords), CxaFault>) {
     match given {
-        Ok((block, cleanup)) => words(alloc, &[block, cleanup.next, cleanup.sp, cleanup.site]),
-        Err(why) => fault(alloc, why),
+        Ok((block, cleanup)) => words(text, &[block, cleanup.next, cleanup.sp, cleanup.site]),
+        Err(why) => fault(text, why),
     }
 }

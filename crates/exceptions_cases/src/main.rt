@@ -9,9 +9,8 @@ mod sequences;
 mod traces;
 mod words;
 
-use case_rows::{Asked, Unanswered, first_word, numbers, run_file};
+use case_rows::{Telling, Text, first_word, numbers, run_telling};
 use sequences::Sequences;
-use std::alloc::Global;
 use std::io::Error;
 use traces::Traces;
 use words::Pool;
@@ -19,29 +18,34 @@ use words::Pool;
 /// Calls over a pool, with `; ` between them.
 struct InPool;
 
-/// The answer to one call.
-fn called(alloc: Global, pool: &mut Pool, call: &str) -> Result<String, Unanswered> {
+/// Tells the answer to one call.
+fn tell_call(text: &mut Text, pool: &mut Pool, call: &str) {
     let (what, rest) = first_word(call);
-    let given = numbers(alloc, rest)?;
-    calls::answer(alloc, pool, what, given.as_slice())
+    if let Some(given) = text.taken(numbers(text.alloc(), rest)) {
+        calls::tell(text, pool, what, given.as_slice());
+    }
 }
 
-impl Asked for InPool {
-    fn answer(&self, alloc: Global, question: &str) -> Result<String, Unanswered> {
-        let mut pool = Pool::empty(alloc)?;
-        let mut all = String::new(alloc);
-        for call in question.split("; ") {
-            let answer = called(alloc, &mut pool, call)?;
-            answers::push(&mut all, answer.as_str())?;
+/// Tells the answers to calls over a pool.
+fn tell_calls(text: &mut Text, pool: &mut Pool, calls: &str) {
+    for call in calls.split("; ") {
+        tell_call(text, pool, call);
+    }
+}
+
+impl Telling for InPool {
+    fn tell(&self, text: &mut Text, question: &str) {
+        match Pool::empty(text.alloc()) {
+            Ok(mut pool) => tell_calls(text, &mut pool, question),
+            Err(_) => text.want_memory(),
         }
-        Ok(all)
     }
 }
 
 fn main(host: HostRuntime) -> Result<(), Error> {
     for name in ["calls.txt", "words.txt", "odd.txt"] {
-        run_file(&host, name, &InPool)?;
+        run_telling(&host, name, &InPool)?;
     }
-    run_file(&host, "sequences.txt", &Sequences)?;
-    run_file(&host, "traces.txt", &Traces)
+    run_telling(&host, "sequences.txt", &Sequences)?;
+    run_telling(&host, "traces.txt", &Traces)
 }

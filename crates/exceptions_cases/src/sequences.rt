@@ -4,7 +4,7 @@ ghost use Rattle.std.specs.Prelude.{◌<◌};
 
 use crate::model::{Held, Model, Phase, Running, block, object};
 use crate::words::{Pool, chain};
-use case_rows::{Asked, Unanswered, decimal};
+use case_rows::{Telling, Text, decimal};
 use eh_cxa::layout::{
     BARRIER_OBJECT, CLEANUP_NEXT, CLEANUP_SITE, CLEANUP_SP, COUNT, DESTRUCTOR, NEXT_CAUGHT,
     NEXT_CLEANUP, STATE, TYPE,
@@ -298,12 +298,20 @@ fn first_other(alloc: Global, count: u32) -> Result<Option<u32>, AllocError> {
 /// Sequences of calls by chance.
 pub struct Sequences;
 
-impl Asked for Sequences {
+/// Tells of so many sequences.
+fn tell_first_other(text: &mut Text, count: u32) {
+    match first_other(text.alloc(), count) {
+        Ok(None) => text.say("as the model"),
+        Ok(Some(number)) => write!(text, "sequence {number} differs"),
+        Err(_) => text.want_memory(),
+    }
+}
+
+impl Telling for Sequences {
     /// `N`: so many sequences do what the model does, or the first one that doesn't.
-    fn answer(&self, alloc: Global, question: &str) -> Result<String, Unanswered> {
-        match first_other(alloc, decimal(question)?)? {
-            None => Ok(format!(in alloc; "as the model")?),
-            Some(number) => Ok(format!(in alloc; "sequence {number} differs")?),
+    fn tell(&self, text: &mut Text, question: &str) {
+        if let Some(count) = text.taken(decimal(question)) {
+            tell_first_other(text, count);
         }
     }
 }

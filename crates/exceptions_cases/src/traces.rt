@@ -1,10 +1,10 @@
 //! The text of traces, as docs/exceptions.md has it: events, and their lines with `|` in place of line feeds. Numbers are hexadecimal.
 ghost use Rattle.std.specs.Prelude.{◌==◌, if◌then◌else◌, []};
 
-use case_rows::{Asked, Unanswered, decimal, first_word, numbers, want_of_memory};
+use case_rows::{Telling, Text, Unanswered, decimal, first_word, numbers};
 use eh_trace::{Event, EventKind, Events, TypeNames, trace_lines};
 use eh_word::Name;
-use elf_image::read_image;
+use elf_image::{Image, read_image};
 use elf_write::parts::{
     ImageParts, OwnBytes, OwnSegment, OwnSegments, OwnSymbol, OwnSymbols, SymbolKind,
 };
@@ -95,106 +95,165 @@ fn kind_of(word: &str) -> Result<EventKind, Unanswered> {
     }
 }
 
-/// The event `KIND A B C COUNT`: its three words, and how many bytes of the object are kept of it.
-fn event_of(alloc: Global, text: &str) -> Result<Event, Unanswered> {
-    let (word, rest) = first_word(text);
-    let kind = kind_of(word)?;
-    match numbers(alloc, rest)?.as_slice() {
-        [a, b, c, count] => Ok(Event {
-            kind,
-            a: *a,
-            b: *b,
-            c: *c,
-            bytes: SEVEN,
-            count: *count,
-        }),
-        _ => Err(Unanswered::NoWord),
-    }
+/// The event of a kind and of its three words and how many bytes of the object are kept of it.
+fn event_with(text: &mut Text, kind: EventKind, given: &[u32]) -> Option<Event> {
+    let [a, b, c, count] = given else {
+        text.refuse(Unanswered::NoWord);
+        return None;
+    };
+    Some(Event {
+        kind,
+        a: *a,
+        b: *b,
+        c: *c,
+        bytes: SEVEN,
+        count: *count,
+    })
 }
 
-/// Adds the events of an item, one or `N * EVENT`.
-fn push(alloc: Global, events: &mut Events, item: &str) -> Result<(), Unanswered> {
-    let (times, text) = item.split_once(" * ").unwrap_or(("1", item));
-    let times = decimal(times)?;
-    let event = event_of(alloc, text)?;
+/// The event `KIND A B C COUNT`.
+fn event_of(text: &mut Text, words: &str) -> Option<Event> {
+    let (word, rest) = first_word(words);
+    let kind = text.taken(kind_of(word))?;
+    let given = text.taken(numbers(text.alloc(), rest))?;
+    event_with(text, kind, given.as_slice())
+}
+
+/// Adds an event so many times.
+fn push_times(events: &mut Events, event: Event, times: u32) {
     if event.count <= 16 {
         for _ in 0..times {
             events.push(event);
         }
     }
-    Ok(())
 }
 
-/// The events of items with `, ` between them.
-fn events_of(alloc: Global, items: &str) -> Result<Events, Unanswered> {
-    let Ok(mut events) = Events::reserve(alloc) else {
-        return Err(want_of_memory());
-    };
-    for item in items.split(", ") {
-        push(alloc, &mut events, item)?;
+/// Adds the events of an item, one or `N * EVENT`.
+fn push(text: &mut Text, events: &mut Events, item: &str) {
+    let (times, words) = item.split_once(" * ").unwrap_or(("1", item));
+    if let Some(times) = text.taken(decimal(times)) {
+        if let Some(event) = event_of(text, words) {
+            push_times(events, event, times);
+        }
     }
-    Ok(events)
+}
+
+/// Adds the events of items with `, ` between them.
+fn push_all(text: &mut Text, events: &mut Events, items: &str) {
+    for item in items.split(", ") {
+        push(text, events, item);
+    }
+}
+
+/// The lines of these events, by the file of an image.
+fn lines_by(text: &mut Text, file: &[u8], events: &Events) -> Option<Vec<u8>> {
+    match read_image(text.alloc(), file) {
+        Ok(image) => lines_of(text, &image, events),
+        Err(_fault) => {
+            text.refuse(Unanswered::Because("no image"));
+            None
+        }
+    }
+}
+
+/// .. by an image.
+fn lines_of(text: &mut Text, image: &Image, events: &Events) -> Option<Vec<u8>> {
+    match trace_lines(text.alloc(), image, &NAMES, events) {
+        Ok(lines) => Some(lines),
+        Err(_) => {
+            text.want_memory();
+            None
+        }
+    }
 }
 
 /// The lines of these events.
-fn lines(alloc: Global, events: &Events) -> Result<Vec<u8>, Unanswered> {
-    let Some(file) = file(alloc)? else {
-        return Err(Unanswered::Because("no image"));
-    };
-    match read_image(alloc, &file) {
-        Ok(image) => trace_lines(alloc, &image, &NAMES, events).map_err(|_why| want_of_memory()),
-        Err(_fault) => Err(Unanswered::Because("no image")),
+fn lines(text: &mut Text, events: &Events) -> Option<Vec<u8>> {
+    match file(text.alloc()) {
+        Ok(Some(file)) => lines_by(text, file.as_slice(), events),
+        Ok(None) => {
+            text.refuse(Unanswered::Because("no image"));
+            None
+        }
+        Err(_) => {
+            text.want_memory();
+            None
+        }
+    }
+}
+
+/// Adds lines with `|` in place of line feeds.
+fn say_lines(text: &mut Text, lines: &[u8]) {
+    for byte in lines {
+        let character = if *byte == b'\n' {
+            '|'
+        } else {
+            char::from(*byte)
+        };
+        write!(text, "{character}");
     }
 }
 
 /// `lines EVENTS`: the lines of events.
-fn lines_text(alloc: Global, events: &Events) -> Result<String, Unanswered> {
-    let mut text = String::new(alloc);
-    for byte in &lines(alloc, events)? {
-        text.push(if *byte == b'\n' {
-            '|'
-        } else {
-            char::from(*byte)
-        })?;
+fn tell_lines(text: &mut Text, events: &Events) {
+    if let Some(lines) = lines(text, events) {
+        say_lines(text, lines.as_slice());
     }
-    Ok(text)
+}
+
+/// Adds how many events there were of a kind, after a blank.
+fn say_total(text: &mut Text, events: &Events, kind: EventKind) {
+    let total = events.total(kind);
+    write!(text, " {total}");
 }
 
 /// `count EVENTS`: how many are kept, how many throws, rethrows, cleanups, catches and violated specifications there were, how many bytes their
 /// lines have, and how many events the last line says were left out.
-fn count_text(alloc: Global, events: &Events) -> Result<String, Unanswered> {
-    let lines = lines(alloc, events)?;
-    let (kept, size) = (events.kept().len(), lines.len());
-    let (throws, rethrows) = (
-        events.total(EventKind::Throw),
-        events.total(EventKind::Rethrow),
-    );
-    let (cleanups, catches) = (
-        events.total(EventKind::Cleanup),
-        events.total(EventKind::Catch),
-    );
-    let others = events.total(EventKind::Unexpected);
-    let last = if lines.as_slice().ends_with(b"and 3 more events\n") {
-        ", 3 more"
-    } else {
-        ""
+fn tell_count(text: &mut Text, events: &Events) {
+    let Some(lines) = lines(text, events) else {
+        return;
     };
-    Ok(format!(in alloc;
-        "{kept} kept, {throws} {rethrows} {cleanups} {catches} {others}, {size} bytes{last}"
-    )?)
+    text.say_count(events.kept().len());
+    text.say(" kept,");
+    say_total(text, events, EventKind::Throw);
+    say_total(text, events, EventKind::Rethrow);
+    say_total(text, events, EventKind::Cleanup);
+    say_total(text, events, EventKind::Catch);
+    say_total(text, events, EventKind::Unexpected);
+    text.say(", ");
+    text.say_count(lines.len());
+    text.say(" bytes");
+    if lines.as_slice().ends_with(b"and 3 more events\n") {
+        text.say(", 3 more");
+    }
 }
 
 /// Events and their lines.
 pub struct Traces;
 
-impl Asked for Traces {
-    fn answer(&self, alloc: Global, question: &str) -> Result<String, Unanswered> {
-        let (what, items) = first_word(question);
-        let events = events_of(alloc, items)?;
-        match what {
-            "lines" => lines_text(alloc, &events),
-            "count" => count_text(alloc, &events),
-            _ => Err(Unanswered::NotKnown),
+/// Tells what is asked of events.
+fn tell_events(text: &mut Text, what: &str, events: &Events) {
+    match what {
+        "lines" => tell_lines(text, events),
+        "count" => tell_count(text, events),
+        _ => text.refuse(Unanswered::NotKnown),
+    }
+}
+
+/// Tells what is asked of the events of items.
+fn tell_items(text: &mut Text, what: &str, items: &str) {
+    match Events::reserve(text.alloc()) {
+        Ok(mut events) => {
+            push_all(text, &mut events, items);
+            tell_events(text, what, &events);
         }
+        Err(_) => text.want_memory(),
+    }
+}
+
+impl Telling for Traces {
+    fn tell(&self, text: &mut Text, question: &str) {
+        let (what, items) = first_word(question);
+        tell_items(text, what, items);
     }
 }

@@ -1,7 +1,7 @@
 //! A pool, its words by slot and number and by address, and what the guest may do with them.
 use crate::answers;
 use bus_memories::flat::FlatBus;
-use case_rows::Unanswered;
+use case_rows::{Text, Unanswered};
 use eh_bus::bus::Bus;
 use eh_bus::fault::BusFault;
 use eh_bus::map::{POOL_END, POOL_START};
@@ -60,101 +60,126 @@ pub fn chain(alloc: Global, pool: &Pool, head: u32, link: u32) -> Result<Vec<u32
 }
 
 /// `word SLOT K`: word K of a slot.
-pub fn word(alloc: Global, pool: &Pool, given: &[u32]) -> Result<String, Unanswered> {
-    let [slot, k] = given else {
-        return Err(Unanswered::NoWord);
-    };
-    Ok(answers::word(alloc, pool.word(*slot, *k))?)
+pub fn word(text: &mut Text, pool: &Pool, given: &[u32]) {
+    match given {
+        [slot, k] => answers::word(text, pool.word(*slot, *k)),
+        _ => text.refuse(Unanswered::NoWord),
+    }
 }
 
 /// `put SLOT K VALUE`: word K of a slot is written.
-pub fn put(alloc: Global, pool: &mut Pool, given: &[u32]) -> Result<String, Unanswered> {
-    let [slot, k, value] = given else {
-        return Err(Unanswered::NoWord);
-    };
-    pool.put(*slot, *k, *value);
-    Ok(answers::nothing(alloc))
+pub fn put(text: &mut Text, pool: &mut Pool, given: &[u32]) {
+    match given {
+        [slot, k, value] => pool.put(*slot, *k, *value),
+        _ => text.refuse(Unanswered::NoWord),
+    }
 }
 
 /// `slot STATE COUNT LINK`: the state, the count and both links of the first slot are written.
-pub fn slot(alloc: Global, pool: &mut Pool, given: &[u32]) -> Result<String, Unanswered> {
+pub fn slot(text: &mut Text, pool: &mut Pool, given: &[u32]) {
     let [state, count, link] = given else {
-        return Err(Unanswered::NoWord);
+        return text.refuse(Unanswered::NoWord);
     };
     pool.put(0, STATE, *state);
     pool.put(0, COUNT, *count);
     pool.put(0, NEXT_CAUGHT, *link);
     pool.put(0, NEXT_CLEANUP, *link);
-    Ok(answers::nothing(alloc))
 }
 
 /// The word at an address of the pool.
-fn at(bus: &FlatBus, a: u32) -> Result<u32, Unanswered> {
+fn at(bus: &FlatBus, a: u32) -> Option<u32> {
     if a % 4 == 0 && a >= POOL_START && a < POOL_END {
-        Ok(bus.host_load32(a))
+        Some(bus.host_load32(a))
     } else {
-        Err(Unanswered::NotKnown)
+        None
+    }
+}
+
+/// Adds the word at an address of the pool, after what stands between it and the one before.
+fn say_at(text: &mut Text, pool: &Pool, between: &str, a: u32) {
+    match at(&pool.bus, a) {
+        Some(word) => {
+            text.say_between(between);
+            text.say_hex(word);
+        }
+        None => text.refuse(Unanswered::NotKnown),
     }
 }
 
 /// `at ADDRESSES..`: the words there.
-pub fn all_at(alloc: Global, pool: &Pool, given: &[u32]) -> Result<String, Unanswered> {
-    let mut words = Vec::new(alloc);
+pub fn all_at(text: &mut Text, pool: &Pool, given: &[u32]) {
+    let mut between = "; ";
     for a in given {
-        words.push(at(&pool.bus, *a)?)?;
+        say_at(text, pool, between, *a);
+        between = " ";
     }
-    Ok(answers::words(alloc, words.as_slice())?)
 }
 
-/// Why the guest may not do something.
-fn fault(alloc: Global, fault: BusFault) -> Result<String, AllocError> {
+/// Why the guest may not do something, and at which address.
+fn name_of(fault: BusFault) -> (&'static str, u32) {
     match fault {
-        BusFault::Unmapped(a) => format!(in alloc; "Unmapped {a:X}"),
-        BusFault::Unaligned(a) => format!(in alloc; "Unaligned {a:X}"),
-        BusFault::ReadOnly(a) => format!(in alloc; "ReadOnly {a:X}"),
-        BusFault::SavedSlot(a) => format!(in alloc; "SavedSlot {a:X}"),
-        BusFault::Protected(a) => format!(in alloc; "Protected {a:X}"),
-        BusFault::NotExecutable(a) => format!(in alloc; "NotExecutable {a:X}"),
+        BusFault::Unmapped(a) => ("Unmapped", a),
+        BusFault::Unaligned(a) => ("Unaligned", a),
+        BusFault::ReadOnly(a) => ("ReadOnly", a),
+        BusFault::SavedSlot(a) => ("SavedSlot", a),
+        BusFault::Protected(a) => ("Protected", a),
+        BusFault::NotExecutable(a) => ("NotExecutable", a),
+    }
+}
+
+fn fault(text: &mut Text, fault: BusFault) {
+    let (name, a) = name_of(fault);
+    answers::say(text, name);
+    text.say(" ");
+    text.say_hex(a);
+}
+
+/// What the guest loads at an address.
+fn load_at(text: &mut Text, pool: &Pool, a: u32) {
+    match pool.bus.load32(a) {
+        Ok(word) => answers::word(text, word),
+        Err(why) => fault(text, why),
     }
 }
 
 /// `load A`: what the guest loads there.
-pub fn load(alloc: Global, pool: &Pool, given: &[u32]) -> Result<String, Unanswered> {
-    let [a] = given else {
-        return Err(Unanswered::NoWord);
-    };
-    match pool.bus.load32(*a) {
-        Ok(word) => Ok(answers::word(alloc, word)?),
-        Err(why) => Ok(fault(alloc, why)?),
+pub fn load(text: &mut Text, pool: &Pool, given: &[u32]) {
+    match given {
+        [a] => load_at(text, pool, *a),
+        _ => text.refuse(Unanswered::NoWord),
+    }
+}
+
+/// Whether the guest may store a word at an address.
+fn store_at(text: &mut Text, pool: &mut Pool, a: u32, value: u32) {
+    match pool.bus.store32(a, value) {
+        Ok(()) => answers::say(text, "done"),
+        Err(why) => fault(text, why),
     }
 }
 
 /// `store A VALUE`: whether the guest may store it there.
-pub fn store(alloc: Global, pool: &mut Pool, given: &[u32]) -> Result<String, Unanswered> {
-    let [a, value] = given else {
-        return Err(Unanswered::NoWord);
-    };
-    match pool.bus.store32(*a, *value) {
-        Ok(()) => Ok(answers::done(alloc, Ok(()))?),
-        Err(why) => Ok(fault(alloc, why)?),
+pub fn store(text: &mut Text, pool: &mut Pool, given: &[u32]) {
+    match given {
+        [a, value] => store_at(text, pool, *a, *value),
+        _ => text.refuse(Unanswered::NoWord),
     }
 }
 
 /// `heads CAUGHT CLEANUP`: the heads of the caught stack and of the cleanups in progress are these, and nothing is uncaught.
-pub fn heads(alloc: Global, pool: &mut Pool, given: &[u32]) -> Result<String, Unanswered> {
+pub fn heads(text: &mut Text, pool: &mut Pool, given: &[u32]) {
     let [caught, cleanup] = given else {
-        return Err(Unanswered::NoWord);
+        return text.refuse(Unanswered::NoWord);
     };
     pool.globals = Globals {
         caught: *caught,
         cleanup: *cleanup,
         uncaught: 0,
     };
-    Ok(answers::nothing(alloc))
 }
 
 /// `globals`: the heads of the caught stack and of the cleanups in progress, and how many are uncaught.
-pub fn globals(alloc: Global, pool: &Pool) -> Result<String, Unanswered> {
+pub fn globals(text: &mut Text, pool: &Pool) {
     let globals = pool.globals;
-    Ok(answers::words(alloc, &[globals.caught, globals.cleanup, globals.uncaught])?)
+    answers::words(text, &[globals.caught, globals.cleanup, globals.uncaught]);
 }
