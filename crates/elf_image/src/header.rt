@@ -1,5 +1,5 @@
 //! What is refused before any segment is looked at (docs/elf.md).
-ghost use Rattle.std.specs.Prelude.{◌≡◌, ◌+◌, ◌*◌, ◌≤◌, length, None};
+ghost use Rattle.std.specs.Prelude.{◌≡◌, ◌+◌, ◌*◌, ◌≤◌, ◌==◌, ◌&&◌, length, slice_index, None};
 ghost use Rattle.elf_image.specs.Header.{header_refusal, table_refusal};
 
 use crate::fault::ImageFault;
@@ -7,6 +7,22 @@ use crate::format::{
     EABI_VERSION, EM_ARM, ET_EXEC, FILE_HEADER_SIZE, PROGRAM_HEADER_SIZE, SECTION_HEADER_SIZE,
     file_header, missing,
 };
+
+/// Whether the bytes begin with the mark of an ELF file.
+fn is_elf(bytes: &[u8]) -> bool
+    requires { 52 ≤ length bytes.now }
+    ensures { result ≡ (slice_index bytes.now 0 == 0x7f && slice_index bytes.now 1 == 0x45 && slice_index bytes.now 2 == 0x4c && slice_index bytes.now 3 == 0x46) }
+{
+    bytes[0] == 0x7f && bytes[1] == 0x45 && bytes[2] == 0x4c && bytes[3] == 0x46
+}
+
+/// Whether the file has words of 32 bits, lowest byte first, in the one version of the format.
+fn is_little_32(bytes: &[u8]) -> bool
+    requires { 52 ≤ length bytes.now }
+    ensures { result ≡ (slice_index bytes.now 4 == 1 && slice_index bytes.now 5 == 1 && slice_index bytes.now 6 == 1) }
+{
+    bytes[4] == 1 && bytes[5] == 1 && bytes[6] == 1
+}
 
 /// What is refused of the file header.
 #[tactic(auto, unfolding(crate::specs::Header::header_refusal))]
@@ -17,10 +33,10 @@ pub(crate) fn header_refusal(bytes: &[u8]) -> Option<ImageFault>
     if bytes.len() < FILE_HEADER_SIZE as usize {
         return Some(ImageFault::Truncated(u64::from(FILE_HEADER_SIZE)));
     }
-    if !(bytes[0] == 0x7f && bytes[1] == 0x45 && bytes[2] == 0x4c && bytes[3] == 0x46) {
+    if !is_elf(bytes) {
         return Some(ImageFault::NotElf);
     }
-    if !(bytes[4] == 1 && bytes[5] == 1 && bytes[6] == 1) {
+    if !is_little_32(bytes) {
         return Some(ImageFault::Class);
     }
     let header = file_header(bytes);
