@@ -8,14 +8,14 @@ use std::alloc::AllocError;
 use thumb_isa::encode_fault::EncodeFault;
 
 /// Why statements have no object, and at which line; for want of memory the line is 0.
-#[derive(Clone, Copy, PartialEq, Eq, Debug)]
+#[derive(Clone, Copy)]
 pub struct AsmFault {
     pub line: u32,
     pub what: AsmWhat,
 }
 
 /// What is refused. The lowest line is answered, and at one line the first of this order.
-#[derive(Clone, Copy, PartialEq, Eq, Debug)]
+#[derive(Clone, Copy, Debug)]
 pub enum AsmWhat {
     /// A label whose name an earlier label has.
     DuplicateLabel,

@@ -29,7 +29,7 @@ use std::marker::Model;
 use std::mem;
 
 /// How many bytes each section has so far. Sums stop at 2^64 - 1, far above what a section may have.
-#[derive(Clone, Copy, PartialEq, Eq, Debug)]
+#[derive(Clone, Copy)]
 pub struct Sizes {
     pub text: u64,
     pub rodata: u64,
@@ -173,7 +173,7 @@ pub fn is_instruction(kind: &StmtKind) -> bool
 }
 
 /// Where the next statement stands.
-#[derive(Clone, Copy, PartialEq, Eq, Debug)]
+#[derive(Clone, Copy)]
 pub struct Cursor {
     pub section: Section,
     /// The section that `.handlerdata` left.

@@ -9,7 +9,7 @@ use relocatable_object::name::copied;
 use std::alloc::{AllocError, Global};
 
 /// What a word stands for, with its numbers modulo 2^32. Words are equal where they are equal as values of this type.
-#[derive(PartialEq, Eq, Hash, Debug, Drop)]
+#[derive(PartialEq, Eq, Hash, Drop)]
 pub enum Word {
     Num(u32),
     Of(Name, u32),

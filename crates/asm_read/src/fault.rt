@@ -6,7 +6,7 @@ use eh_word::NameMemory;
 use std::alloc::AllocError;
 
 /// Where and why a source is refused. Lines and columns count from 1, columns in bytes; for want of memory both are 0.
-#[derive(Clone, Copy, PartialEq, Eq, Debug)]
+#[derive(Clone, Copy)]
 pub struct SourceFault {
     pub line: u32,
     pub column: u32,
@@ -14,7 +14,7 @@ pub struct SourceFault {
 }
 
 /// What is refused. The first place of the text is answered, and at one place the first of this order.
-#[derive(Clone, Copy, PartialEq, Eq, Debug)]
+#[derive(Clone, Copy, Debug)]
 pub enum SourceWhat {
     /// A byte above 126, or below 32 other than tab, carriage return and line feed; at the byte.
     NotAscii,

@@ -10,7 +10,7 @@ pub const MOST_PAD: u32 = 65_536;
 pub const MOST_FRAME_OFFSET: u32 = 1020;
 
 /// A directive on the frame of the function that it stands in. Register lists have bit n set for register n.
-#[derive(Clone, Copy, PartialEq, Eq, Debug)]
+#[derive(Clone, Copy, Debug)]
 pub enum UnwindDirective {
     /// `.fnstart`: the function begins.
     FnStart,
@@ -32,7 +32,7 @@ pub enum UnwindDirective {
 
 /// Why a directive or the end of a function is refused, in the order of the numbers of the refusals; the lowest that
 /// holds is answered.
-#[derive(Clone, Copy, PartialEq, Eq, Debug)]
+#[derive(Clone, Copy, Debug)]
 pub enum UnwindFault {
     /// Before `.fnstart`, after `.fnend`, or a function that isn't ended.
     OutsideFunction,

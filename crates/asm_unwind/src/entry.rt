@@ -20,7 +20,7 @@ pub const LONG_ROOM: usize = 1022;
 pub type TableWords = Seq<u32>;
 
 /// What the index says of a function (IHI 0038).
-#[derive(Debug, Drop)]
+#[derive(Drop)]
 pub enum EntryWords {
     /// Nothing unwinds through it.
     CantUnwind,

@@ -19,7 +19,7 @@ pub const SCOPE_SIZE: u32 = 8;
 pub const WORD_SIZE: u32 = 4;
 
 /// What a descriptor that is written says.
-#[derive(Clone, Copy, PartialEq, Eq, Debug)]
+#[derive(Clone, Copy)]
 pub enum OwnKind {
     /// A specification of no types and without a landing pad: nothing passes it.
     Specification,
@@ -30,7 +30,7 @@ pub enum OwnKind {
 }
 
 /// A descriptor to write.
-#[derive(Clone, Copy, PartialEq, Eq, Debug)]
+#[derive(Clone, Copy)]
 pub struct OwnDescriptor {
     /// How many bytes after its function's start its scope begins.
     pub offset: u32,

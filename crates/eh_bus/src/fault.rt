@@ -5,7 +5,7 @@ ghost use Rattle.eh_bus.specs.declared.fault.BusMemory.TheVariants.{OutOfMemory}
 use std::alloc::AllocError;
 
 /// Why an access is refused. All but `SavedSlot` carry the address of the access, in bytes.
-#[derive(Clone, Copy, PartialEq, Eq, Debug)]
+#[derive(Clone, Copy, PartialEq, Eq)]
 pub enum BusFault {
     /// Not all bytes of the access lie in one segment.
     Unmapped(u32),
@@ -22,7 +22,7 @@ pub enum BusFault {
 }
 
 /// There was no memory for a bus.
-#[derive(Clone, Copy, PartialEq, Eq, Debug)]
+#[derive(Clone, Copy, Debug)]
 pub enum BusMemory {
     OutOfMemory,
 }

@@ -16,7 +16,7 @@ use unwind_codes::words::{COMPACT_TOP, MOST_PERSONALITY};
 
 /// Why an entry has no codes that can be read. The lowest that holds is answered, but for words past the first, which are looked
 /// for last.
-#[derive(Clone, Copy, PartialEq, Eq, Debug)]
+#[derive(Clone, Copy)]
 pub enum CodesFault {
     /// The entry's words run past the bytes.
     Short,

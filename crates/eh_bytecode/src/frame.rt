@@ -16,13 +16,13 @@ use unwind_codes::Code;
 use unwind_codes::code::LONG_LEAST;
 
 /// The registers r0 to r15 of a frame.
-#[derive(Clone, Copy, PartialEq, Eq, Debug)]
+#[derive(Clone, Copy)]
 pub struct Vrs {
     pub r: [u32; 16],
 }
 
 /// How an unwinding ends.
-#[derive(Clone, Copy, PartialEq, Eq, Debug)]
+#[derive(Clone, Copy)]
 pub enum UnwindEnd {
     /// The codes finish, or end: the registers are those of the caller.
     Finished,

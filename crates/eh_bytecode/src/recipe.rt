@@ -14,7 +14,7 @@ use unwind_codes::Code;
 use unwind_codes::code::LONG_LEAST;
 
 /// Where a register of the caller comes from.
-#[derive(Clone, Copy, PartialEq, Eq, Debug)]
+#[derive(Clone, Copy)]
 pub enum Src {
     /// It is the register's own value; for pc that of the link register.
     Same,
@@ -25,7 +25,7 @@ pub enum Src {
 }
 
 /// The caller's registers by those of a frame. The new stack pointer is the value of the register `base` plus `vsp` bytes.
-#[derive(Clone, Copy, PartialEq, Eq, Debug)]
+#[derive(Clone, Copy)]
 pub struct Recipe {
     /// The register that the virtual stack pointer is taken from, else 13.
     pub base: u8,
@@ -36,7 +36,7 @@ pub struct Recipe {
 }
 
 /// Why codes have no recipe; the first code that shows one decides.
-#[derive(Clone, Copy, PartialEq, Eq, Debug)]
+#[derive(Clone, Copy)]
 pub enum RecipeFault {
     /// Bytes that begin no code.
     BadCode,

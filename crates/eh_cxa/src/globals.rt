@@ -6,7 +6,7 @@ ghost use Rattle.eh_cxa.specs.Stands.{Stands};
 ghost use Rattle.eh_cxa.specs.declared.layout.TheConstants.{SLOTS, CLOSED_WORDS};
 
 /// The heads of both chains, and how many exceptions are uncaught.
-#[derive(Clone, Copy, PartialEq, Eq, Debug)]
+#[derive(Clone, Copy, PartialEq, Eq)]
 pub struct Globals {
     /// The control block on top of the caught stack, 0 for none.
     pub caught: u32,
@@ -52,7 +52,7 @@ pub enum CxaFault {
 }
 
 /// The barrier of a throw: the frame and the descriptor at which the search ended.
-#[derive(Clone, Copy, PartialEq, Eq, Debug)]
+#[derive(Clone, Copy)]
 pub struct BarrierWords {
     /// The sp of the barrier's frame.
     pub sp: u32,
@@ -65,7 +65,7 @@ pub struct BarrierWords {
 }
 
 /// What a cleanup in progress was entered with.
-#[derive(Clone, Copy, PartialEq, Eq, Debug)]
+#[derive(Clone, Copy, PartialEq, Eq)]
 pub struct CleanupWords {
     /// The address of the descriptor that is looked at next.
     pub next: u32,

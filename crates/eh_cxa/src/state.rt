@@ -17,7 +17,7 @@ pub const CAUGHT: u32 = 4;
 pub const ENDED: u32 = 5;
 
 /// The state of an exception.
-#[derive(Clone, Copy, PartialEq, Eq, Debug)]
+#[derive(Clone, Copy)]
 pub enum State {
     /// Allocated, and not thrown.
     Fresh,

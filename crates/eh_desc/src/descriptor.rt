@@ -21,7 +21,7 @@ pub const ALL_FAILS: u32 = 0xFFFF_FFFE;
 pub const MOST_TYPES: u32 = 1024;
 
 /// What a catch takes.
-#[derive(Clone, Copy, PartialEq, Eq, Debug)]
+#[derive(Clone, Copy)]
 pub enum CatchType {
     /// Everything.
     All,
@@ -32,7 +32,7 @@ pub enum CatchType {
 }
 
 /// What a descriptor says. Addresses are in bytes; a pad's bit 0 is clear.
-#[derive(Clone, Copy, PartialEq, Eq, Debug)]
+#[derive(Clone, Copy)]
 pub enum DescKind {
     /// A cleanup at a landing pad.
     Cleanup {
@@ -53,7 +53,7 @@ pub enum DescKind {
 }
 
 /// A descriptor.
-#[derive(Clone, Copy, PartialEq, Eq, Debug)]
+#[derive(Clone, Copy)]
 pub struct Desc {
     /// Its own address, in bytes.
     pub at: u32,
@@ -77,7 +77,7 @@ impl Desc {
 }
 
 /// Why the descriptors can't be read on.
-#[derive(Clone, Copy, PartialEq, Eq, Debug)]
+#[derive(Clone, Copy)]
 pub enum DescFault {
     /// A descriptor runs past the bytes.
     Short,

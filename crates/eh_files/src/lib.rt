@@ -33,7 +33,7 @@ pub enum FileAnswer {
 }
 
 /// Why a file gave no answer.
-#[derive(Clone, Copy, Debug, PartialEq, Eq)]
+#[derive(Clone, Copy)]
 pub enum FileFault {
     /// A read failed. The count of faults has risen.
     Failed,

@@ -5,7 +5,7 @@ ghost use Rattle.eh_index.specs.FaultNames.{fault_name};
 use thiserror::Error;
 
 /// Why an index isn't read. Rows are counted from 0.
-#[derive(Clone, Copy, PartialEq, Eq, Debug, Error)]
+#[derive(Clone, Copy, Debug, Error)]
 pub enum IndexFault {
     /// Its bytes are no whole number of rows.
     #[error("no whole number of rows")]

@@ -8,7 +8,7 @@ pub const MULTIPLIER: u32 = 1_103_515_245;
 pub const INCREMENT: u32 = 12_345;
 
 /// A function of a generated program.
-#[derive(Clone, Copy, PartialEq, Eq, Debug)]
+#[derive(Clone, Copy)]
 pub enum Name {
     /// `main`.
     Main,
@@ -19,7 +19,7 @@ pub enum Name {
 }
 
 /// What a function does with an exception that passes through its call.
-#[derive(Clone, Copy, PartialEq, Eq, Debug)]
+#[derive(Clone, Copy)]
 pub enum Kind {
     /// Nothing.
     Plain,
@@ -32,7 +32,7 @@ pub enum Kind {
 }
 
 /// A function that calls another one.
-#[derive(Clone, Copy, PartialEq, Eq, Debug)]
+#[derive(Clone, Copy)]
 pub struct Caller {
     pub name: Name,
     pub callee: Name,

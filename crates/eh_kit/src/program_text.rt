@@ -11,7 +11,7 @@ use std::alloc::{AllocError, Global};
 pub const MAX_FUNCTIONS: u32 = 4_000;
 
 /// There was no memory for a text.
-#[derive(Clone, Copy, PartialEq, Eq, Debug)]
+#[derive(Clone, Copy)]
 pub enum KitMemory {
     OutOfMemory,
 }

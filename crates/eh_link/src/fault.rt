@@ -7,7 +7,7 @@ use std::alloc::AllocError;
 use thiserror::Error;
 
 /// Why objects have no image.
-#[derive(PartialEq, Eq, Debug, Drop, Error)]
+#[derive(Debug, Drop, Error)]
 pub enum LinkFault {
     /// The name has global labels in two objects.
     #[error("a global name in two objects")]

@@ -15,7 +15,7 @@ use thumb_isa::instr::Instr;
 use unwind_codes::row::{PREL31_LIMIT, prel31_to};
 
 /// What a relocation does to the bytes of a section.
-#[derive(Clone, Copy, PartialEq, Eq, Debug)]
+#[derive(Clone, Copy)]
 pub enum Change {
     /// The bytes stay.
     Keep,

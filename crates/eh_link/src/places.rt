@@ -19,7 +19,7 @@ pub const MOST_MEMORY: u32 = 1_048_576;
 pub const REACH: u32 = 0x40_0000;
 
 /// The address, in bytes, at which an object's part of each section begins or ends.
-#[derive(Clone, Copy, PartialEq, Eq, Debug)]
+#[derive(Clone, Copy)]
 pub struct Addresses {
     /// Of the code.
     pub text: u32,
@@ -34,7 +34,7 @@ pub struct Addresses {
 }
 
 /// Where the sections of an image end, and where its index and its data begin: addresses in bytes.
-#[derive(Clone, Copy, PartialEq, Eq, Debug)]
+#[derive(Clone, Copy)]
 pub struct Layout {
     /// After the last byte of code.
     pub text_end: u32,

@@ -6,7 +6,7 @@ use eh_bus::fault::BusMemory;
 use eh_trace::TraceMemory;
 
 /// There was no memory for a run.
-#[derive(Clone, Copy, PartialEq, Eq, Debug)]
+#[derive(Clone, Copy)]
 pub enum MachineMemory {
     OutOfMemory,
 }

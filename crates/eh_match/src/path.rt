@@ -7,7 +7,7 @@ use eh_bus::bus::Bus;
 use eh_types::Base;
 
 /// What a walk knows of a path of base steps.
-#[derive(Clone, Copy, Debug)]
+#[derive(Clone, Copy)]
 pub struct Path {
     /// The type that the path leads to.
     pub ty: u32,

@@ -21,7 +21,7 @@ pub const CONST_BIT: u32 = 0;
 pub const VOLATILE_BIT: u32 = 1;
 
 /// What a catch of a wanted type makes of a thrown object.
-#[derive(Clone, Copy, Debug, PartialEq, Eq)]
+#[derive(Clone, Copy, PartialEq, Eq)]
 pub enum Match {
     /// It doesn't catch it.
     Failed,
@@ -34,7 +34,7 @@ pub enum Match {
 }
 
 /// What a pointer's type says: the qualifiers of what it points to, and its type.
-#[derive(Clone, Copy, Debug)]
+#[derive(Clone, Copy)]
 struct Pointing {
     flags: u32,
     pointee: u32,

@@ -7,7 +7,7 @@ use crate::path::Path;
 use eh_types::TypeGraph;
 
 /// What the paths so far say of a wanted type.
-#[derive(Clone, Copy, Debug)]
+#[derive(Clone, Copy)]
 pub enum Seen {
     /// No path leads to it.
     Nothing,

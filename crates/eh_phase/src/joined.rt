@@ -13,7 +13,7 @@ use eh_bus::bus::Bus;
 use eh_bytecode::Vrs;
 
 /// What comes first of a throw.
-#[derive(Clone, Copy, PartialEq, Eq, Debug)]
+#[derive(Clone, Copy)]
 pub enum First {
     /// What phase 2 enters first from the barrier that the search found: a cleanup of the throw, or the barrier.
     Enters { barrier: Barrier, entered: Entered },

@@ -13,7 +13,7 @@ use eh_match::Match;
 use thumb_core::ends::Cause;
 
 /// Where a throw stops.
-#[derive(Clone, Copy, PartialEq, Eq, Debug)]
+#[derive(Clone, Copy)]
 pub struct Barrier {
     /// The stack pointer of the frame.
     pub sp: u32,
@@ -26,7 +26,7 @@ pub struct Barrier {
 }
 
 /// What a search finds.
-#[derive(Clone, Copy, PartialEq, Eq, Debug)]
+#[derive(Clone, Copy)]
 pub enum Found {
     Barrier(Barrier),
     /// Nothing stops the throw, or a frame on the way can't be left.

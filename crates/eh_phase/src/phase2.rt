@@ -15,7 +15,7 @@ use eh_desc::{Desc, DescFault, DescKind, Descs};
 use thumb_core::ends::Cause;
 
 /// A barrier as phase 2 knows it.
-#[derive(Clone, Copy, PartialEq, Eq, Debug)]
+#[derive(Clone, Copy)]
 pub struct Goal {
     /// The stack pointer of its frame.
     pub sp: u32,
@@ -24,7 +24,7 @@ pub struct Goal {
 }
 
 /// What a phase 2 enters. Registers are those of the frame that is entered; a pad's bit 0 is clear.
-#[derive(Clone, Copy, PartialEq, Eq, Debug)]
+#[derive(Clone, Copy)]
 pub enum Entered {
     /// A cleanup, with the address of the descriptor after its own, where phase 2 goes on at its frame's site.
     Cleanup {

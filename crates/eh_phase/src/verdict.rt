@@ -12,14 +12,14 @@ use eh_match::{Match, type_match};
 use thumb_core::ends::Cause;
 
 /// A thrown object: its address, and that of its type.
-#[derive(Clone, Copy, PartialEq, Eq, Debug)]
+#[derive(Clone, Copy)]
 pub struct Thrown {
     pub object: u32,
     pub ty: u32,
 }
 
 /// What a frame says of a thrown object.
-#[derive(Clone, Copy, PartialEq, Eq, Debug)]
+#[derive(Clone, Copy)]
 pub enum Verdict {
     /// The descriptor at an address stops it, by this match.
     Barrier { desc: u32, hit: Match },

@@ -23,7 +23,7 @@ pub enum EventKind {
 pub const MAX_BYTES: usize = 16;
 
 /// An event. Addresses are in bytes.
-#[derive(Clone, Copy, PartialEq, Eq, Debug)]
+#[derive(Clone, Copy, PartialEq, Eq)]
 pub struct Event {
     pub kind: EventKind,
     /// Of a throw and a rethrow the object, else the pad.
@@ -39,7 +39,7 @@ pub struct Event {
 }
 
 /// There was no memory for a trace.
-#[derive(Clone, Copy, PartialEq, Eq, Debug)]
+#[derive(Clone, Copy)]
 pub enum TraceMemory {
     OutOfMemory,
 }

@@ -6,7 +6,7 @@ use std::alloc::AllocError;
 use thiserror::Error;
 
 /// Why types aren't read, each with the address of a type that shows it. Of one type the first that holds is named.
-#[derive(Clone, Copy, PartialEq, Eq, Debug, Error)]
+#[derive(Clone, Copy, Debug, Error)]
 pub enum TypeFault {
     /// One of its words isn't all in the file's bytes of one segment, or its name up to a zero byte isn't.
     #[error("the type at {0:#010x} can't be read")]

@@ -1,7 +1,7 @@
 //! What a type is, and what a base of a class is (docs/types.md).
 
 /// What a type is, told by its vtable.
-#[derive(Clone, Copy, PartialEq, Eq, Debug)]
+#[derive(Clone, Copy)]
 pub enum TypeKind {
     /// None of the others.
     Other,
@@ -18,7 +18,7 @@ pub enum TypeKind {
 }
 
 /// A base of a class.
-#[derive(Clone, Copy, PartialEq, Eq, Debug)]
+#[derive(Clone, Copy)]
 pub struct Base {
     /// The address of its type.
     pub ty: u32,

@@ -27,7 +27,7 @@ pub const FIRST: u64 = 8;
 pub const SECOND: u64 = 12;
 
 /// The words that point to the five vtables, as far as an image defines them.
-#[derive(Clone, Copy, Debug)]
+#[derive(Clone, Copy)]
 pub(crate) struct Vtables {
     pub fundamental: Option<u32>,
     pub class: Option<u32>,

@@ -15,7 +15,7 @@ use eh_phase::walk::Cursor;
 use thumb_core::regs::Regs;
 
 /// Why nothing was thrown.
-#[derive(Clone, Copy, PartialEq, Eq, Debug)]
+#[derive(Clone, Copy, Debug)]
 pub enum ForceFault {
     /// The state stands at no call and at no gate.
     NotSite,
@@ -34,7 +34,7 @@ pub enum ForceFault {
 }
 
 /// Where a forced unwinding stops.
-#[derive(Clone, Copy, PartialEq, Eq, Debug)]
+#[derive(Clone, Copy)]
 pub struct Stop {
     /// The stack pointer of its frame.
     pub sp: u32,

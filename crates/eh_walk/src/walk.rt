@@ -13,7 +13,7 @@ use std::alloc::{AllocFailed, Global};
 use thumb_core::regs::Regs;
 
 /// What a walk shows of a frame.
-#[derive(Clone, Copy, PartialEq, Eq, Debug)]
+#[derive(Clone, Copy)]
 pub struct WalkFrame {
     /// The address at which the frame stands in its function.
     pub site: u32,
@@ -24,7 +24,7 @@ pub struct WalkFrame {
 }
 
 /// Why a walk gives no further frame.
-#[derive(Clone, Copy, PartialEq, Eq, Debug)]
+#[derive(Clone, Copy, Debug)]
 pub enum WalkEnd {
     /// Nobody called the outermost of its frames.
     Root,
@@ -44,7 +44,7 @@ pub struct Backtrace {
 }
 
 /// Why there is no walk.
-#[derive(Clone, Copy, PartialEq, Eq, Debug)]
+#[derive(Clone, Copy)]
 pub enum WalkMemory {
     OutOfMemory,
 }

@@ -2,7 +2,7 @@
 use std::alloc::AllocError;
 
 /// Why no ULEB128 number stands at a place.
-#[derive(Clone, Copy, PartialEq, Eq, Debug)]
+#[derive(Clone, Copy, Debug)]
 pub enum WordFault {
     /// The bytes end before a byte with bit 7 clear, and before five bytes.
     Ends,
@@ -11,7 +11,7 @@ pub enum WordFault {
 }
 
 /// Want of memory for a name.
-#[derive(Clone, Copy, PartialEq, Eq, Debug)]
+#[derive(Clone, Copy, Debug)]
 pub enum NameMemory {
     /// No memory is left for the bytes.
     OutOfMemory,

@@ -10,7 +10,7 @@ pub type OwnSegments = Seq<OwnSegment>;
 pub type OwnSymbols = Seq<OwnSymbol>;
 
 /// A segment to write: `size` bytes of memory from the address `start` on, the first of them given.
-#[derive(Debug, Drop)]
+#[derive(Drop)]
 pub struct OwnSegment {
     pub start: u32,
     pub bytes: OwnBytes,
@@ -31,7 +31,7 @@ pub enum SymbolKind {
 }
 
 /// A symbol to write. Of a mapping symbol name and size are not looked at.
-#[derive(Debug, Drop)]
+#[derive(Drop)]
 pub struct OwnSymbol {
     pub name: Name,
     pub value: u32,
@@ -40,7 +40,7 @@ pub struct OwnSymbol {
 }
 
 /// What an image is written from.
-#[derive(Debug, Drop)]
+#[derive(Drop)]
 pub struct ImageParts {
     /// The address of the first instruction, a function's start.
     pub entry: u32,

@@ -16,7 +16,7 @@ use std::marker::Model;
 use thumb_isa::profile::Profile;
 
 /// Where a function isn't well, and why.
-#[derive(Clone, Copy, PartialEq, Eq, Debug)]
+#[derive(Clone, Copy)]
 pub struct Unwell {
     /// An address of the function, in bytes, where the cause stands.
     pub at: u32,
@@ -45,7 +45,7 @@ impl<'a> Model for Audited<'a> {
 }
 
 /// There was no memory to judge a function.
-#[derive(Clone, Copy, PartialEq, Eq, Debug)]
+#[derive(Clone, Copy)]
 pub enum AuditMemory {
     OutOfMemory,
 }

@@ -36,7 +36,7 @@ impl<'a> Model for Audit<'a> {
 }
 
 /// Why an image isn't audited.
-#[derive(Clone, Copy, PartialEq, Eq, Debug, Error)]
+#[derive(Clone, Copy, Debug, Error)]
 pub enum AuditFault {
     /// Its exception index isn't read.
     #[error("its exception index isn't read")]

@@ -7,7 +7,7 @@ use std::alloc::AllocError;
 use thiserror::Error;
 
 /// A function that isn't accepted, and why.
-#[derive(PartialEq, Eq, Debug, Drop)]
+#[derive(Debug, Drop)]
 pub struct Rejected {
     /// Its name.
     pub function: Name,
@@ -19,7 +19,7 @@ pub struct Rejected {
 }
 
 /// Why an image isn't accepted.
-#[derive(PartialEq, Eq, Debug, Drop, Error)]
+#[derive(Debug, Drop, Error)]
 pub enum CheckFault {
     /// Its exception index isn't read.
     #[error("its exception index isn't read")]

@@ -11,7 +11,7 @@ use std::alloc::AllocError;
 use thumb_isa::instr::Instr;
 
 /// A PUSH of a prologue.
-#[derive(Clone, Copy, PartialEq, Eq, Debug)]
+#[derive(Clone, Copy)]
 pub struct Pushed {
     /// Its address, in bytes.
     pub at: u32,

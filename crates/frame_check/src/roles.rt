@@ -9,7 +9,7 @@ use std::marker::Model;
 pub const PAGE_ROLES: usize = 2048;
 
 /// What a run asks of an address.
-#[derive(Clone, Copy, PartialEq, Eq, Debug)]
+#[derive(Clone, Copy)]
 pub struct Role {
     /// Whether an instruction stands there that some path from its function's entry reaches.
     pub is_instr: bool,

@@ -4,7 +4,7 @@ ghost use Rattle.frame_facts.specs.CauseNames.{cause_name};
 
 /// Why a function's frame isn't accepted, in the order in which the causes are numbered. A cause stands at an address that a path from
 /// the function's entry reaches in a state that meets its condition.
-#[derive(Clone, Copy, PartialEq, Eq, Debug)]
+#[derive(Clone, Copy, Debug)]
 pub enum FrameCause {
     /// No instruction stands there, or its second halfword isn't the function's.
     Undecodable,

@@ -8,7 +8,7 @@ ghost use Rattle.frame_facts.specs.Facts.{source, with_source, entered, bounded_
 pub const DEEPEST: u32 = 65_536;
 
 /// What a register holds.
-#[derive(Clone, Copy, PartialEq, Eq, Debug)]
+#[derive(Clone, Copy, PartialEq, Eq)]
 pub enum Source {
     /// The value that this register had at the function's entry.
     Entry(u8),
@@ -19,7 +19,7 @@ pub enum Source {
 }
 
 /// What is known at a place of a function.
-#[derive(Clone, Copy, PartialEq, Eq, Debug)]
+#[derive(Clone, Copy)]
 pub struct Fact {
     /// How many bytes sp lies below the CFA, or at least lies there where `below` is true.
     pub depth: u32,

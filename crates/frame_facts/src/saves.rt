@@ -6,7 +6,7 @@ ghost use Rattle.frame_facts.specs.Saves.{lies_at, saves_within, word, stack_wor
 use crate::facts::{Fact, Source, bounded_depth};
 
 /// A word of the stack that the prologue saves a register in.
-#[derive(Clone, Copy, PartialEq, Eq, Debug)]
+#[derive(Clone, Copy)]
 pub struct Save {
     /// The register whose value at the entry the word holds: r4 to r11 or lr.
     pub reg: u8,
@@ -18,7 +18,7 @@ pub struct Save {
 pub const MOST_SAVES: u32 = 16;
 
 /// A function's prologue.
-#[derive(Clone, Copy, PartialEq, Eq, Debug)]
+#[derive(Clone, Copy)]
 pub struct Prologue {
     /// The address after its last instruction; that of the entry where it has none.
     pub end: u32,

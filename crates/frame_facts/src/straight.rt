@@ -12,7 +12,7 @@ use thumb_isa::instr::Instr;
 use thumb_isa::{idles, plain, works};
 
 /// The run so far: the fact after it, and the prologue that it is.
-#[derive(Clone, Copy, PartialEq, Eq, Debug)]
+#[derive(Clone, Copy)]
 pub struct Straight {
     /// What holds after the run.
     pub fact: Fact,

@@ -14,7 +14,7 @@ use frame_graph::{Edge, Stretch};
 use std::alloc::Global;
 
 /// Why a function has no valid facts, or why none were found.
-#[derive(Clone, Copy, PartialEq, Eq, Debug)]
+#[derive(Clone, Copy)]
 pub enum FrameFault {
     /// A cause stands at a place, which is told by how many halfwords it lies after the entry.
     Stands(u32, FrameCause),

@@ -12,7 +12,7 @@ use thumb_isa::instr::Instr;
 use thumb_isa::plain;
 
 /// Where a place leads to.
-#[derive(Clone, Copy, PartialEq, Eq, PartialOrd, Ord, Debug)]
+#[derive(Clone, Copy, PartialEq, Eq, PartialOrd, Ord)]
 pub struct Edge {
     /// The place, by how many halfwords it lies after the entry.
     pub to: u32,

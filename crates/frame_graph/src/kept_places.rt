@@ -15,7 +15,7 @@ use thumb_isa::profile::Profile;
 pub const MOST_KEPT: u32 = 4_096;
 
 /// What is kept of a place.
-#[derive(Clone, Copy, Debug)]
+#[derive(Clone, Copy)]
 pub struct KeptPlace {
     /// Whether it is code of the function.
     pub code: bool,

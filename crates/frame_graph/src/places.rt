@@ -14,7 +14,7 @@ use thumb_isa::profile::Profile;
 pub const UDF: u16 = 0b1101_1110;
 
 /// What stands at a place of a function.
-#[derive(Clone, Copy, Debug)]
+#[derive(Clone, Copy)]
 pub enum Standing {
     /// An instruction, and its size in bytes, 2 or 4.
     Instruction(Instr, u32),

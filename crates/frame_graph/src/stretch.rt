@@ -17,7 +17,7 @@ use eh_index::Entry;
 use std::alloc::{AllocError, Global};
 
 /// Addresses from one to another, both of them counted.
-#[derive(Clone, Copy, PartialEq, Eq, Debug)]
+#[derive(Clone, Copy)]
 pub struct Span {
     pub low: u32,
     pub last: u32,

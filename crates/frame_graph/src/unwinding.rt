@@ -10,7 +10,7 @@ use eh_index::{Entry, EntryBody, Index};
 use thumb_core::calls::CALL_CHANGES;
 
 /// What an entry says of how a frame is unwound.
-#[derive(Clone, Copy, PartialEq, Eq, Debug)]
+#[derive(Clone, Copy)]
 pub enum Unwinding {
     /// Its codes give the caller's registers by this recipe.
     Finds(Recipe),

@@ -15,7 +15,7 @@ use frame_graph::{Edge, FlowGraph, Stretch};
 use std::alloc::{AllocError, Global};
 
 /// Why it isn't told which places are reached.
-#[derive(Clone, Copy, PartialEq, Eq, Debug)]
+#[derive(Clone, Copy)]
 pub enum ReachFault {
     /// They are more than `MOST_REACHED`.
     TooLong,

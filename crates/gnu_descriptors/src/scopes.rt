@@ -12,7 +12,7 @@ use gnu_tables::{Action, ActionFault, Caught, Generic, Lsda, Record, RecordFault
 use std::alloc::{AllocError, Global};
 
 /// A descriptor that stands for a part of a generic entry.
-#[derive(Clone, Copy, PartialEq, Eq, Debug)]
+#[derive(Clone, Copy)]
 pub struct Scoped {
     pub descriptor: OwnDescriptor,
     /// Of a catch its filter, which the handler is given; else None.

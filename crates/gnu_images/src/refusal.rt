@@ -17,7 +17,7 @@ use unwind_codes::row::even;
 pub const SITES_LIMIT: u64 = 1_048_576;
 
 /// Why the tables of an image aren't rewritten.
-#[derive(Clone, Copy, PartialEq, Eq, Debug)]
+#[derive(Clone, Copy)]
 pub enum GnuFault {
     /// An entry is refused.
     Entry(RefusedEntry),

@@ -20,7 +20,7 @@ use std::marker::Model;
 use unwind_codes::row::{Entry, EntryBody};
 
 /// A generic entry that isn't rewritten.
-#[derive(Clone, Copy, PartialEq, Eq, Debug)]
+#[derive(Clone, Copy)]
 pub struct RefusedEntry {
     /// The address of its function's first instruction.
     pub start: u32,

@@ -20,7 +20,7 @@ use frame_check::Accepted;
 use gnu_images::filter_of;
 
 /// Where an event landed that hands something over.
-#[derive(Clone, Copy, PartialEq, Eq, Debug)]
+#[derive(Clone, Copy)]
 pub enum Landing {
     /// At a catch.
     Catch,
@@ -29,7 +29,7 @@ pub enum Landing {
 }
 
 /// How many catches and cleanups were entered.
-#[derive(Clone, Copy, PartialEq, Eq, Debug)]
+#[derive(Clone, Copy)]
 pub struct Totals {
     pub catches: u64,
     pub cleanups: u64,

@@ -15,7 +15,7 @@ use std::marker::Model;
 pub const MOST_ACTIONS: u32 = 64;
 
 /// What a catch takes.
-#[derive(Clone, Copy, PartialEq, Eq, Debug)]
+#[derive(Clone, Copy)]
 pub enum Caught {
     /// Everything.
     All,
@@ -24,7 +24,7 @@ pub enum Caught {
 }
 
 /// What an action record says, by its filter.
-#[derive(Clone, Copy, PartialEq, Eq, Debug)]
+#[derive(Clone, Copy)]
 pub enum Action {
     /// Filter 0: a cleanup.
     Cleanup,
@@ -37,7 +37,7 @@ pub enum Action {
 }
 
 /// Why a chain can't be read on.
-#[derive(Clone, Copy, PartialEq, Eq, Debug)]
+#[derive(Clone, Copy)]
 pub enum ActionFault {
     /// A record or a type word lies outside the bytes, or a number has more than five bytes.
     Short,
@@ -46,7 +46,7 @@ pub enum ActionFault {
 }
 
 /// Where the next record of a chain stands.
-#[derive(Clone, Copy, PartialEq, Eq, Debug)]
+#[derive(Clone, Copy)]
 pub enum Next {
     /// There is none.
     Last,

@@ -17,7 +17,7 @@ pub const TOO_MANY_WORDS: u8 = 255;
 
 /// What is refused of a generic entry. Of all faults that its bytes show the first in this order is answered. A head that can't be
 /// read is the last that is looked at.
-#[derive(Clone, Copy, PartialEq, Eq, Debug)]
+#[derive(Clone, Copy, Debug)]
 pub enum EntryFault {
     /// It doesn't name the personality routine of C++.
     Personality,

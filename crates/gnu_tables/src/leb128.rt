@@ -10,7 +10,7 @@ use eh_word::words::ULEB128_MORE;
 pub const SLEB128_BYTES: usize = 5;
 
 /// A number by its sign.
-#[derive(Clone, Copy, PartialEq, Eq, Debug)]
+#[derive(Clone, Copy)]
 pub enum Signed {
     /// So much.
     Plus(u64),

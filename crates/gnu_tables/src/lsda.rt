@@ -17,7 +17,7 @@ pub const RELATIVE: u8 = 0x10;
 pub const ULEB128: u8 = 0x01;
 
 /// Why the head of an area can't be read. The first that shows from the front is answered.
-#[derive(Clone, Copy, PartialEq, Eq, Debug)]
+#[derive(Clone, Copy)]
 pub enum HeadFault {
     /// It runs past the bytes, or a ULEB128 number is refused.
     Short,

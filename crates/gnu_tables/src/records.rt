@@ -8,7 +8,7 @@ use crate::lsda::Lsda;
 use std::marker::Model;
 
 /// What a call-site record says of a part of a function. Numbers are in bytes.
-#[derive(Clone, Copy, PartialEq, Eq, Debug)]
+#[derive(Clone, Copy)]
 pub struct Record {
     /// How far after the function's start the part begins.
     pub start: u32,
@@ -21,7 +21,7 @@ pub struct Record {
 }
 
 /// Why the records can't be read on.
-#[derive(Clone, Copy, PartialEq, Eq, Debug)]
+#[derive(Clone, Copy)]
 pub enum RecordFault {
     /// A record runs past the table's end or past the bytes, or a number of it is refused.
     Short,

@@ -7,7 +7,7 @@ use eh_files::FileFault;
 use std::alloc::AllocFailed;
 
 /// Why the program stops early.
-#[derive(Clone, Copy, Debug, PartialEq, Eq)]
+#[derive(Clone, Copy)]
 pub enum Stop {
     /// A read of a file or of the input failed.
     Read,

@@ -4,7 +4,7 @@ use eh_list::Seq;
 use eh_word::Name;
 
 /// A label of the source. Offsets and sizes are in bytes, offsets from the start of the section.
-#[derive(Debug, Drop)]
+#[derive(Drop)]
 pub struct ObjSymbol {
     pub name: Name,
     pub section: Section,
@@ -16,14 +16,14 @@ pub struct ObjSymbol {
 }
 
 /// A change between code and words in the text, at an offset in bytes. The first bytes of a text make a mark.
-#[derive(Clone, Copy, PartialEq, Eq, Debug)]
+#[derive(Clone, Copy, Debug)]
 pub struct Mark {
     pub offset: u32,
     pub code: bool,
 }
 
 /// What the index says of a function (IHI 0038).
-#[derive(Clone, Copy, PartialEq, Eq, Debug)]
+#[derive(Clone, Copy)]
 pub enum RowEntry {
     /// Nothing unwinds through it.
     CantUnwind,
@@ -34,7 +34,7 @@ pub enum RowEntry {
 }
 
 /// A function between `.fnstart` and `.fnend`: its offset in the text, in bytes, and its entry.
-#[derive(Clone, Copy, PartialEq, Eq, Debug)]
+#[derive(Clone, Copy)]
 pub struct IndexRow {
     pub offset: u32,
     pub entry: RowEntry,
@@ -42,7 +42,7 @@ pub struct IndexRow {
 
 /// A field that the linker fills: its place, its kind by the numbers of the Arm ELF standard (IHI 0044), the name
 /// whose address it takes, and what is added to that.
-#[derive(Debug, Drop)]
+#[derive(Drop)]
 pub struct Reloc {
     pub section: Section,
     pub offset: u32,
@@ -68,7 +68,7 @@ pub type Relocs = Seq<Reloc>;
 
 /// What a source stands for. `symbols` has every label in the order of the text, the local ones too; `rows` the functions
 /// in the order of the text; `relocs` every field that the linker fills, by section in the order of `Section`, there by offset.
-#[derive(Debug, Drop)]
+#[derive(Drop)]
 pub struct Object {
     pub text: Octets,
     pub rodata: Octets,

@@ -16,7 +16,7 @@ pub enum Section {
 }
 
 /// A place: an offset in bytes from the start of a section.
-#[derive(Clone, Copy, PartialEq, Eq, Debug)]
+#[derive(Clone, Copy)]
 pub struct Place {
     pub section: Section,
     pub offset: u64,

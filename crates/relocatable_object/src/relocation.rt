@@ -20,7 +20,7 @@ pub const R_ARM_THM_JUMP11: u32 = 102;
 pub const R_ARM_THM_JUMP8: u32 = 103;
 
 /// What the field of a relocation holds.
-#[derive(Clone, Copy, PartialEq, Eq, Debug)]
+#[derive(Clone, Copy)]
 pub enum FieldKind {
     /// R_ARM_ABS32 and R_ARM_TARGET1.
     Absolute,

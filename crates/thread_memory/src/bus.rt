@@ -24,7 +24,7 @@ use stack_guards::guards::Guards;
 use std::alloc::{AllocError, Global};
 
 /// There was no memory for the guards.
-#[derive(Clone, Copy, PartialEq, Eq, Debug)]
+#[derive(Clone, Copy)]
 pub enum ThreadMemory {
     OutOfMemory,
 }

@@ -15,7 +15,7 @@ use eh_cxa::state::{ENDED, FREE};
 pub const OUT_OF_USE: u32 = ENDED + 1;
 
 /// What a slot holds: its state, and the thread that made it other than free, if one did.
-#[derive(Clone, Copy, PartialEq, Eq, Debug)]
+#[derive(Clone, Copy)]
 pub struct Holding {
     pub owner: Option<usize>,
     pub state: u32,
@@ -63,7 +63,7 @@ const UNUSED: Holding = Holding {
 };
 
 /// What each slot holds, by its number.
-#[derive(Clone, Copy, PartialEq, Eq, Debug)]
+#[derive(Clone, Copy)]
 pub struct Owners {
     pub slots: [Holding; SLOTS as usize],
     /// From this slot on each is free, and nobody's.

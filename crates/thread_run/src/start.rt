@@ -20,7 +20,7 @@ use std::alloc::Global;
 use thread_memory::{Owners, THREADS, ThreadBus, ThreadMemory};
 
 /// There was no memory for a run of threads.
-#[derive(Clone, Copy, PartialEq, Eq, Debug)]
+#[derive(Clone, Copy)]
 pub enum RunMemory {
     OutOfMemory,
 }

@@ -7,7 +7,7 @@ use eh_gates::Core;
 use thread_memory::THREADS;
 
 /// A thread that was started: its core, and the number that it ended with, if it did.
-#[derive(Clone, Copy, PartialEq, Eq, Debug)]
+#[derive(Clone, Copy)]
 pub struct Thread {
     pub core: Core,
     pub ended: Option<u32>,

@@ -17,7 +17,7 @@ pub const FIRST_DIGIT: u8 = b'0';
 pub const LAST_DIGIT: u8 = FIRST_DIGIT + (HOMES as u8 - 1);
 
 /// Why a text is no schedule.
-#[derive(Clone, Copy, PartialEq, Eq, Debug)]
+#[derive(Clone, Copy)]
 pub enum ScheduleFault {
     /// The first byte that is neither a digit of a thread nor a line feed, by its offset; the text's length where it has no digit.
     BadSchedule(usize),

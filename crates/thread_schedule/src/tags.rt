@@ -17,7 +17,7 @@ pub const ZERO: u8 = b'0';
 pub const TAGS: u8 = 10;
 
 /// There was no memory for the lines.
-#[derive(Clone, Copy, PartialEq, Eq, Debug)]
+#[derive(Clone, Copy)]
 pub enum TagMemory {
     OutOfMemory,
 }

@@ -40,7 +40,7 @@ pub const BIC: u8 = 14;
 pub const MVN: u8 = 15;
 
 /// What an operation gives: the value, whether it is written to the register, and C and V.
-#[derive(Clone, Copy, PartialEq, Eq, Debug)]
+#[derive(Clone, Copy)]
 pub struct Answer {
     pub value: u32,
     pub written: bool,

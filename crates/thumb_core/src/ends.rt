@@ -134,7 +134,7 @@ impl TrapKind {
 }
 
 /// How a run ends.
-#[derive(Clone, Copy, PartialEq, Eq, Debug)]
+#[derive(Clone, Copy, PartialEq, Eq)]
 pub enum End {
     /// The program's exit number.
     Exit(u32),

@@ -16,7 +16,7 @@ pub const PC: u8 = 15;
 
 /// The registers and the flags. Bit 0 of `pc` is clear wherever this crate writes it, and so are bits 1 and 0 of
 /// `r[13]`, the stack pointer.
-#[derive(Clone, Copy, PartialEq, Eq, Debug)]
+#[derive(Clone, Copy, PartialEq, Eq)]
 pub struct Regs {
     /// r0 to r12, sp and lr.
     pub r: [u32; 15],
@@ -34,7 +34,7 @@ pub fn are_words(r: &[u32])
 {}
 
 /// Why an instruction is not done.
-#[derive(Clone, Copy, PartialEq, Eq, Debug)]
+#[derive(Clone, Copy)]
 pub enum CoreTrap {
     /// The halfwords stand for no instruction; the first of them.
     Undefined(u32),
@@ -49,7 +49,7 @@ pub enum CoreTrap {
 }
 
 /// What an instruction did.
-#[derive(Clone, Copy, PartialEq, Eq, Debug)]
+#[derive(Clone, Copy)]
 pub enum Stepped {
     Done,
     /// A call: `target` has bit 0 clear and is the new pc; `ret` has it set and is the new lr.

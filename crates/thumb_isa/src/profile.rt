@@ -1,6 +1,6 @@
 //! Which rows of the instruction table a program may use; docs/instruction-set.md, "Profiles".
 /// A profile: the set of instructions that a program is decoded by.
-#[derive(Clone, Copy, Debug)]
+#[derive(Clone, Copy)]
 pub enum Profile {
     /// ARMv6-M (DDI 0419).
     One,

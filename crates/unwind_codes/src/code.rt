@@ -27,7 +27,7 @@ pub const RAISE_LONG: u8 = 0xB2;
 pub const LONG_LEAST: u32 = 0x204;
 
 /// An unwinding instruction. Sizes are in words, less the one that the code adds by itself.
-#[derive(Clone, Copy, PartialEq, Eq, Debug)]
+#[derive(Clone, Copy)]
 pub enum Code {
     /// `00xxxxxx`: the virtual stack pointer rises by 4x + 4.
     Raise(u8),

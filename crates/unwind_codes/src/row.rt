@@ -17,7 +17,7 @@ pub const ROW_SIZE: u32 = 8;
 pub const PREL31_LIMIT: u32 = 0x8000_0000;
 
 /// What a row of the index says of its function.
-#[derive(Clone, Copy, PartialEq, Eq, Debug)]
+#[derive(Clone, Copy, PartialEq, Eq)]
 pub enum EntryBody {
     /// Nothing unwinds through it.
     CantUnwind,
@@ -28,7 +28,7 @@ pub enum EntryBody {
 }
 
 /// A row of the index.
-#[derive(Clone, Copy, PartialEq, Eq, Debug)]
+#[derive(Clone, Copy, PartialEq, Eq)]
 pub struct Entry {
     /// The address of the function's first instruction, in bytes.
     pub start: u32,
