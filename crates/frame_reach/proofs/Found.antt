@@ -1,11 +1,11 @@
 -- What a search finds: the places of the function that are reached, once all edges are followed.
-use Rattle.std.proofs.Common.{ℕ, ◌≡◌, ◌<◌, ◌≤◌, ◌+◌, ◌*◌, ◌^◌, ◌⊎◌, inl, inr, Bool, true, false, List, [], length, get_or, take, Option, Some, None, sym, ◌∙◌, ap, subst, refl, ⊎_elim, arith, zero, suc, replicate}
+use Rattle.std.proofs.Common.{ℕ, ◌≡◌, ◌<◌, ◌≤◌, ◌+◌, ◌-◌, ◌*◌, ◌^◌, ◌⊎◌, inl, inr, Bool, true, false, cond, List, [], ◌++◌, length, get_or, take, Option, Some, None, Result, Ok, Err, sym, ◌∙◌, ap, subst, refl, ⊎_elim, arith, zero, suc, replicate}
 use Rattle.std.proofs.lemmas.Grind.{get_or_default_zero}
 use Rattle.std.proofs.lemmas.List.Elements.{Contains-append_left, Contains-append_right, Contains-append_cases, Contains-push_cases, Contains-get_or}
 use Rattle.std.proofs.lemmas.Bool.{cases_eq, true≢false}
 use Rattle.std.specs.Option.{option_map_or}
 use Rattle.std.proofs.lemmas.List.{take_more, take_all, length-replicate}
-use Rattle.std.specs.Prelude.{nat_eq, slice_index}
+use Rattle.std.specs.Prelude.{nat_eq, slice_index, OnOk, is_ok}
 use Rattle.std.specs.List.{Contains, IsDistinct}
 use Rattle.frame_graph.specs.declared.edges.Edge.{Edge}
 use Rattle.frame_graph.specs.FlowGraph.{FlowGraph}
@@ -146,6 +146,25 @@ blanks_sound s n a b c ps e x y z w =
     (subst (λ (u : List Bool). AreSound s (record { reached = blank; target = u; pad = c; places = ps })) (sym y)
     (subst (λ (u : List Bool). AreSound s (record { reached = blank; target = blank; pad = u; places = ps })) (sym z)
     (subst (λ (u : List ℕ). AreSound s (record { reached = blank; target = blank; pad = blank; places = u })) (sym w) (blank_sound s n e))))
+
+-- the lists of other marks: there are none in them yet
+pub none_are_places : (reached target pad : List Bool) (ps : List ℕ) → reached ≡ [] → ps ≡ [] → AreThePlaces (marks_of (record { reached = reached; target = target; pad = pad; places = ps })) ps
+none_are_places reached target pad ps e f = record {
+  once = subst (λ (l : List ℕ). IsDistinct nat_eq l) (sym f) none_twice;
+  all = λ p. (λ c. absurd (none_listed p (subst (λ (l : List ℕ). Contains l p) f c)), λ h. absurd (true≢false (sym h ∙ ap (λ (l : List Bool). is_set l p) e)));
+}
+
+none_taken : (n : ℕ) (none : List Bool) → none ≡ [] → take n none ≡ []
+none_taken zero none e = refl
+none_taken (suc n) none e = ap (take (suc n)) e
+
+-- .. and they are made as long as the function
+pub unmarked_anew : {E : Type 0} (before marks : List Bool) (n m : ℕ) (r : Result (Unit {0}) E) → before ≡ [] → m ≡ 0 → marks ≡ cond (is_ok r) (take n before ++ replicate (n - m) false) before
+    → OnOk r (marks ≡ replicate n false)
+unmarked_anew before marks n m (Ok u) e z is =
+    let rest : n - m ≡ n = omega (arith, z) in
+    is ∙ (ap (λ (l : List Bool). l ++ replicate (n - m) false) (none_taken n before e) ∙ ap (λ (k : ℕ). replicate k false) rest)
+unmarked_anew before marks n m (Err fault) e z is = tt
 
 -- ---- the edges of one place
 

@@ -8,4 +8,4 @@ pub mod prologue;
 pub mod search;
 
 pub use marks::{MOST_REACHED, Reached};
-pub use search::{ReachFault, reach};
+pub use search::{ReachFault, ReachRoom, reach, reach_in};

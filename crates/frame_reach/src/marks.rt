@@ -4,6 +4,7 @@ ghost use Rattle.frame_reach.specs.Marks.{AreMarks, AreThePlaces, IsSplit};
 ghost use Rattle.frame_reach.specs.Held.{is_set, marks_of, splits_at};
 
 use frame_graph::FlowGraph;
+use std::alloc::Global;
 use std::marker::Model;
 
 /// The most places of a function that may be reached.
@@ -49,6 +50,16 @@ fn splits_at(flow_graph: &FlowGraph, place: u32) -> bool
 }
 
 impl Reached {
+    /// Marks of no place, in lists that have no memory yet.
+    pub(crate) fn none(alloc: Global) -> Reached {
+        Reached {
+            reached: Vec::new(alloc),
+            targets: Vec::new(alloc),
+            pads: Vec::new(alloc),
+            places: Vec::new(alloc),
+        }
+    }
+
     /// Whether a place is reached.
     pub fn is_reached(&self, place: u32) -> bool
         ensures { result ≡ (marks_of self.now).reached place }

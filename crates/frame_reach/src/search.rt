@@ -34,6 +34,39 @@ impl From<AllocError> for ReachFault {
     }
 }
 
+/// Room that a search fills. What it holds before doesn't matter: it is lent, from one function to the next.
+#[derive(Drop)]
+pub struct ReachRoom {
+    /// The marks of another function, whose lists are taken over.
+    before: Option<Reached>,
+    stretch: Stretch,
+    edges: Vec<Edge>,
+}
+
+impl ReachRoom {
+    /// It has no memory yet.
+    pub fn new(alloc: Global) -> ReachRoom {
+        ReachRoom {
+            before: None,
+            stretch: Stretch::new(alloc),
+            edges: Vec::new(alloc),
+        }
+    }
+
+    /// Keeps marks that are asked for nothing more, so that the next search has their lists.
+    pub fn keep(&mut self, marks: Reached) {
+        self.before = Some(marks);
+    }
+
+    /// Marks whose lists the next search takes over.
+    fn lists(&mut self, alloc: Global) -> Reached {
+        match self.before.take() {
+            None => Reached::none(alloc),
+            Some(before) => before,
+        }
+    }
+}
+
 /// The search so far: marks of all places, and the places that are reached, each once.
 #[derive(Drop)]
 struct Found {
@@ -151,30 +184,40 @@ fn visit(
     Ok(())
 }
 
-/// No place is marked.
-fn unmarked(alloc: Global, count: usize) -> Result<Vec<bool>, AllocError>
-    ensures { IfOk result (λ marks. marks.items ≡ replicate count false) }
+/// Makes a list of so many marks, none of them set, of another one.
+fn unmark(marks: &mut Vec<bool>, count: usize) -> Result<(), AllocError>
+    ensures { OnOk result (marks.new.items ≡ replicate count false) }
 {
-    vec![in alloc; false; count]
+    marks.clear();
+    marks.resize(count, false)
 }
 
-/// The entry alone is found.
-fn begin(alloc: Global, flow_graph: &FlowGraph) -> Result<Found, ReachFault>
+/// The entry alone is found. The lists are taken over from other marks.
+fn begin(flow_graph: &FlowGraph, before: Reached) -> Result<Found, ReachFault>
     ensures { Starts flow_graph.now result }
 {
     let count = places(flow_graph) as usize;
     let mut found = Found {
-        reached: unmarked(alloc, count)?,
-        targets: unmarked(alloc, count)?,
-        pads: unmarked(alloc, count)?,
-        places: Vec::new(alloc),
+        reached: before.reached,
+        targets: before.targets,
+        pads: before.pads,
+        places: before.places,
     };
+    unmark(&mut found.reached, count)?;
+    unmark(&mut found.targets, count)?;
+    unmark(&mut found.pads, count)?;
+    found.places.clear();
     put(flow_graph, &mut found, 0)?;
     Ok(found)
 }
 
 /// Follows the edges of all places on the list, which grows meanwhile.
-fn follow(alloc: Global, flow_graph: &FlowGraph, found: &mut Found) -> Result<(), ReachFault>
+fn follow(
+    alloc: Global,
+    room: &mut ReachRoom,
+    flow_graph: &FlowGraph,
+    found: &mut Found,
+) -> Result<(), ReachFault>
     requires { Begins flow_graph.now found.old }
     ensures { Follows flow_graph.now found.new result }
 {
@@ -182,12 +225,11 @@ fn follow(alloc: Global, flow_graph: &FlowGraph, found: &mut Found) -> Result<()
     let _start = flow_graph.start();
     let _end = flow_graph.end();
     let mut next = 0;
-    let mut stretch = Stretch::new(alloc);
-    let mut edges = Vec::new(alloc);
+    room.stretch.forget();
     while next < found.places.len() {
         let place = found.places[next];
-        flow_graph.turn_stretch(alloc, &mut stretch, place)?;
-        visit(flow_graph, found, &mut edges, &stretch, place)?;
+        flow_graph.turn_stretch(alloc, &mut room.stretch, place)?;
+        visit(flow_graph, found, &mut room.edges, &room.stretch, place)?;
         next += 1;
     }
     Ok(())
@@ -200,8 +242,22 @@ pub fn reach(alloc: Global, flow_graph: &FlowGraph) -> Result<Reached, ReachFaul
     ensures few { OnOk result (IsTooLong flow_graph.now → ⊥) }
     ensures too_long { result ≡ Err ReachFault.TooLong → IsTooLong flow_graph.now }
 {
-    let mut found = begin(alloc, flow_graph)?;
-    follow(alloc, flow_graph, &mut found)?;
+    let mut room = ReachRoom::new(alloc);
+    reach_in(alloc, &mut room, flow_graph)
+}
+
+/// The same in room that is lent.
+pub fn reach_in(
+    alloc: Global,
+    room: &mut ReachRoom,
+    flow_graph: &FlowGraph,
+) -> Result<Reached, ReachFault>
+    ensures marks { IfOk result (λ reached. AreMarks flow_graph.now (marks_of reached)) }
+    ensures few { OnOk result (IsTooLong flow_graph.now → ⊥) }
+    ensures too_long { result ≡ Err ReachFault.TooLong → IsTooLong flow_graph.now }
+{
+    let mut found = begin(flow_graph, room.lists(alloc))?;
+    follow(alloc, room, flow_graph, &mut found)?;
     Ok(Reached {
         reached: found.reached,
         targets: found.targets,

@@ -9,7 +9,7 @@ abbrev pub invariant-loop-next : goal.invariant-loop-next
 invariant-loop-next l = record {
   sound : IsSound l.flow_graph l.found;
   entry : IsPut l.found 0;
-  stretch : IsStretch l.flow_graph l.stretch;
+  stretch : IsStretch l.flow_graph l.room.stretch;
   within : l.next ≤ length l.found.places.items;
   visited : (k : ℕ) → k < l.next → IsVisited l.flow_graph l.found (slice_index l.found.places.items k);
 }
