@@ -1,5 +1,6 @@
 //! Where a frame of variable size is made. docs/acceptance.md, "Lowering places".
-ghost use Rattle.std.specs.Prelude.{◌≡◌, ◌&&◌, ℕ, false, slice_index_or};
+ghost use Rattle.std.specs.Prelude.{◌≡◌, ◌&&◌, ℕ, false, is_some, slice_index_or, option_and_then};
+ghost use Rattle.frame_graph.specs.Places.{standing_at};
 ghost use Rattle.frame_graph.specs.Edges.{instruction_of};
 ghost use Rattle.frame_graph.specs.Lowering.{subtracts_into, sets_sp_from, same_register, lowers_by, is_lowering};
 
@@ -51,6 +52,16 @@ fn lowers_by(first: Standing, second: Standing) -> bool
     same_register(subtracts_into(i), sets_sp_from(j))
 }
 
+/// Whether a MOV into sp stands at a place.
+fn sets_sp(standing: Standing) -> bool
+    ensures { result ≡ is_some (option_and_then sets_sp_from (instruction_of standing)) }
+{
+    matches!(
+        standing,
+        Standing::Instruction(Instr::MovHigh { d: SP, .. }, _)
+    )
+}
+
 /// Whether a place is marked; those past the last mark aren't.
 fn is_marked(marks: &[bool], place: u32) -> bool
     ensures { result ≡ slice_index_or marks.now place false }
@@ -71,9 +82,9 @@ fn are_lowering(
 }
 
 impl<'s, 'i, 'a> FlowGraph<'s, 'i, 'a> {
-    /// Whether a place is a lowering place: a MOV into sp of the register that a SUB of two registers, 2 bytes before it, has written,
-    /// where both are reached. `reached` has a mark a place. Looks at two places.
-    pub fn is_lowering(&self, reached: &[bool], place: u32) -> bool
+    /// Whether a place is a lowering place, by what stands there.
+    fn is_lowering_by(&self, reached: &[bool], place: u32, standing: Standing) -> bool
+        requires { standing ≡ standing_at self.now place }
         ensures { result ≡ is_lowering self.now (λ p. slice_index_or reached.now p false) place }
     {
         if place == 0 {
@@ -84,7 +95,16 @@ impl<'s, 'i, 'a> FlowGraph<'s, 'i, 'a> {
             is_marked(reached, before),
             is_marked(reached, place),
             self.standing_at(before),
-            self.standing_at(place),
+            standing,
         )
+    }
+
+    /// Whether a place is a lowering place: a MOV into sp of the register that a SUB of two registers, 2 bytes before it, has written,
+    /// where both are reached. `reached` has a mark a place. Only at a MOV into sp is the place before it looked at.
+    pub fn is_lowering(&self, reached: &[bool], place: u32) -> bool
+        ensures { result ≡ is_lowering self.now (λ p. slice_index_or reached.now p false) place }
+    {
+        let standing = self.standing_at(place);
+        sets_sp(standing) && self.is_lowering_by(reached, place, standing)
     }
 }

@@ -1,8 +1,8 @@
-use Rattle.std.proofs.Common.{arith, false, slice_index_or}
-use Rattle.frame_graph.proofs.Lowered.{lowered_at}
+use Rattle.std.proofs.Common.{ℕ, false, slice_index_or, sym, ◌∙◌}
+use Rattle.frame_graph.proofs.NoLowering.{no_copy}
 use Rattle.frame_graph.proofs.flow_graph.FlowGraph.is_lowering.Goals as goal
 
-pub returns : goal.returns
-returns c =
-    lowered_at c.args.self.now (λ p. slice_index_or c.args.reached.now p false) c.args.place c.is_marked.result c.is_marked-2.result c.are_lowering.result c.standing_at.result c.standing_at-2.result
-    (omega arith) c.is_marked.ensures c.is_marked-2.ensures c.standing_at.ensures c.standing_at-2.ensures c.are_lowering.ensures
+pub returns-else-sets_sp : goal.returns-else-sets_sp
+returns-else-sets_sp c =
+    c.if-sets_sp.false
+    ∙ no_copy c.args.self.now (λ (p : ℕ). slice_index_or c.args.reached.now p false) c.args.place c.standing_at-standing.result c.standing_at-standing.ensures (sym c.sets_sp.ensures ∙ c.if-sets_sp.false)
