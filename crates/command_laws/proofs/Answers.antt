@@ -4,7 +4,7 @@ use Rattle.std.proofs.lemmas.Bool.{ne_eqb}
 use Rattle.ehabi_top.specs.Answered.{IsAnswer}
 use Rattle.program_answers.specs.Statuses.{is_conclusive}
 use Rattle.ehabi_commands.specs.Report.{Reports, IfTold}
-use Rattle.ehabi_commands.specs.Words.{Command, FlatFile, BuildSources, CheckFile, CheckSources, RunFile, RunSources, RunGnu, RunThreads, GenerateProgram, command_of}
+use Rattle.ehabi_commands.specs.command_input.Words.{Command, FlatFile, BuildSources, CheckFile, CheckSources, RunFile, RunSources, RunGnu, RunThreads, GenerateProgram, command_of}
 use Rattle.program_answers.specs.Files.{FileState}
 use Rattle.ehabi_commands.specs.Yields.{Streams, DoesWhole}
 use Rattle.command_laws.specs.Answers.{IsReported, IsConclusive, ReadsNothing, AnswersAreReports}

@@ -8,9 +8,9 @@ use Rattle.asm_read.specs.declared.fault.SourceFault.{SourceFault}
 use Rattle.eh_link.specs.Linked.{linked}
 use Rattle.elf_write.specs.declared.parts.ImageParts.{ImageParts}
 use Rattle.relocatable_object.specs.declared.object.Object.{Object}
-use Rattle.ehabi_commands.specs.Building.{named_stmts, statements_of, assembled, linked_parts, written_bytes, built}
-use Rattle.ehabi_commands.specs.RefusalText.{source_line, asm_line, link_line}
-use Rattle.ehabi_commands.specs.Sources.{NamedText, NamedStmts, and_then, and_rest, all_answers}
+use Rattle.ehabi_commands.specs.command_input.Building.{named_stmts, statements_of, assembled, linked_parts, written_bytes, built}
+use Rattle.ehabi_commands.specs.command_input.RefusalText.{source_line, asm_line, link_line}
+use Rattle.ehabi_commands.specs.command_input.Sources.{NamedText, NamedStmts, and_then, and_rest, all_answers}
 use Rattle.report_lines.specs.Text.{image_fault_line}
 use Rattle.command_laws.specs.Builds.{with_stubs, AreRead, AreAssembled, Assembled, BuildsAreInOrder}
 

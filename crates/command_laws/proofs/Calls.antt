@@ -10,15 +10,15 @@ use Rattle.eh_files.specs.declared.FileAnswer.TheVariants.{Found, Missing, TooLo
 use Rattle.elf_image.specs.Image.{Image, image_of}
 use Rattle.elf_image.specs.declared.fault.ImageFault.{ImageFault}
 use Rattle.frame_check.specs.Accepts.{IsAccepted}
-use Rattle.ehabi_commands.specs.Accepting.{IsRefusedBy, IsUnaccepted}
-use Rattle.ehabi_commands.specs.AsksFor.{files_named, and_after, up_to_unavailable}
-use Rattle.ehabi_commands.specs.Building.{found_text, files_of}
+use Rattle.ehabi_commands.specs.command_input.Accepting.{IsRefusedBy, IsUnaccepted}
+use Rattle.ehabi_commands.specs.command_input.AsksFor.{files_named, and_after, up_to_unavailable}
+use Rattle.ehabi_commands.specs.command_input.Building.{found_text, files_of}
 use Rattle.ehabi_commands.specs.FlatReport.{IsTooLarge}
-use Rattle.ehabi_commands.specs.Loading.{Report}
+use Rattle.ehabi_commands.specs.command_input.Loading.{Report}
 use Rattle.ehabi_commands.specs.Report.{Reports, IfTold, LacksFile, Refuses}
-use Rattle.ehabi_commands.specs.Sources.{NamedText, and_rest, all_answers}
+use Rattle.ehabi_commands.specs.command_input.Sources.{NamedText, and_rest, all_answers}
 use Rattle.ehabi_commands.specs.Unfit.{RefusedHeld}
-use Rattle.ehabi_commands.specs.Words.{Command, FlatFile, BuildSources, CheckFile, CheckSources, RunFile, RunSources, RunGnu, RunThreads, GenerateProgram, command_of}
+use Rattle.ehabi_commands.specs.command_input.Words.{Command, FlatFile, BuildSources, CheckFile, CheckSources, RunFile, RunSources, RunGnu, RunThreads, GenerateProgram, command_of}
 use Rattle.ehabi_commands.specs.Yields.{DoesPart, RefusedOf}
 use Rattle.program_answers.specs.Files.{IsUnavailable}
 use Rattle.command_laws.specs.Answers.{IsConclusive}

@@ -5,7 +5,7 @@ use Rattle.std.proofs.Common.{◌≡◌, ◌↔◌, ℕ, ◌+◌, ◌-◌, ◌*�
 use Rattle.std.proofs.Math.Nat.{pow-zero, pow-succ'}
 use Rattle.std.proofs.lemmas.Bool.{leb-true, le-leb, and_parts, and_from}
 use Rattle.std.proofs.lemmas.Option.{same_Some, none-some}
-use Rattle.ehabi_commands.specs.Words.{digits_from, number_of, if_between, budget_of, program_number, program_functions}
+use Rattle.ehabi_commands.specs.command_input.Words.{digits_from, number_of, if_between, budget_of, program_number, program_functions}
 use Rattle.command_laws.specs.Words.{Writes, IsNumber, IsBudget}
 
 -- ---- digits

@@ -9,10 +9,10 @@ use Rattle.std.proofs.lemmas.Bool.Decides.{Decides-eqb}
 use Rattle.std.proofs.lemmas.List.{get_or_push, length-append}
 use Rattle.std.proofs.lemmas.Option.{same_Some, none-some}
 use Rattle.std.proofs.lemmas.Slice.Eq.{bytes_eq-Decides, ends_is}
-use Rattle.ehabi_commands.specs.Words.{Command, FlatFile, BuildSources, CheckFile, CheckSources, RunFile, RunSources, RunGnu, RunThreads, GenerateProgram, budget_of, flat_command, is_source, are_sources, build_command, image_name, check_command, files_command, with_budget, run_command, frame_number, with_frame, force_command, is_schedule, are_program, thread_files, with_elements, threads_command, gnu_command, program_number, program_functions, program_of, gen_command, command_of}
-use Rattle.ehabi_commands.specs.declared.words.Request.{Request}
-use Rattle.ehabi_commands.specs.declared.words.Task.{Task}
-use Rattle.ehabi_commands.specs.declared.words.Task.TheVariants.{Run, Walk, Force}
+use Rattle.ehabi_commands.specs.command_input.Words.{Command, FlatFile, BuildSources, CheckFile, CheckSources, RunFile, RunSources, RunGnu, RunThreads, GenerateProgram, budget_of, flat_command, is_source, are_sources, build_command, image_name, check_command, files_command, with_budget, run_command, frame_number, with_frame, force_command, is_schedule, are_program, thread_files, with_elements, threads_command, gnu_command, program_number, program_functions, program_of, gen_command, command_of}
+use Rattle.ehabi_commands.specs.command_input.declared.words.Request.{Request}
+use Rattle.ehabi_commands.specs.command_input.declared.words.Task.{Task}
+use Rattle.ehabi_commands.specs.command_input.declared.words.Task.TheVariants.{Run, Walk, Force}
 use Rattle.command_laws.specs.Words.{IsNumber, IsBudget, IsSource, AllAreSources, AreSources, IsImage, AreProgram, IsSchedule, AreRunWords, AreWordsOf, WordsAreCommands}
 use Rattle.command_laws.proofs.Numbers.{number, budget, program, functions}
 

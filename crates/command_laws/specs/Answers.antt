@@ -2,9 +2,9 @@
 use Rattle.std.specs.Prelude.{◌≡◌, ◌≢◌, ℕ, List, Option, Some, None}
 use Rattle.std.specs.Io.KnownBytes.{Appends}
 use Rattle.ehabi_top.specs.Answered.{IsAnswer}
-use Rattle.ehabi_commands.specs.Loading.{Report}
+use Rattle.ehabi_commands.specs.command_input.Loading.{Report}
 use Rattle.ehabi_commands.specs.Report.{Reports}
-use Rattle.ehabi_commands.specs.Words.{Command, FlatFile, BuildSources, CheckFile, CheckSources, RunFile, RunSources, RunGnu, RunThreads, GenerateProgram, command_of}
+use Rattle.ehabi_commands.specs.command_input.Words.{Command, FlatFile, BuildSources, CheckFile, CheckSources, RunFile, RunSources, RunGnu, RunThreads, GenerateProgram, command_of}
 use Rattle.program_answers.specs.Files.{FileState}
 use Rattle.ehabi_commands.specs.Yields.{Streams}
 

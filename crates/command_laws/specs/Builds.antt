@@ -12,9 +12,9 @@ use Rattle.elf_image.specs.declared.fault.ImageFault.{ImageFault}
 use Rattle.elf_write.specs.Layout.{written_of}
 use Rattle.elf_write.specs.declared.parts.ImageParts.{ImageParts}
 use Rattle.relocatable_object.specs.declared.object.Object.{Object}
-use Rattle.ehabi_commands.specs.Building.{built}
-use Rattle.ehabi_commands.specs.RefusalText.{source_line, asm_line, link_line}
-use Rattle.ehabi_commands.specs.Sources.{NamedText, NamedStmts}
+use Rattle.ehabi_commands.specs.command_input.Building.{built}
+use Rattle.ehabi_commands.specs.command_input.RefusalText.{source_line, asm_line, link_line}
+use Rattle.ehabi_commands.specs.command_input.Sources.{NamedText, NamedStmts}
 use Rattle.report_lines.specs.Text.{image_fault_line}
 
 -- the sources of a program, and after them the stubs

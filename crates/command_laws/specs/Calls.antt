@@ -7,11 +7,11 @@ use Rattle.eh_files.specs.declared.FileAnswer.TheVariants.{Found, Missing, TooLo
 use Rattle.elf_image.specs.Image.{Image, image_of}
 use Rattle.frame_check.specs.Accepts.{IsAccepted}
 use Rattle.ehabi_top.specs.Answered.{IsAnswer}
-use Rattle.ehabi_commands.specs.Loading.{Report}
+use Rattle.ehabi_commands.specs.command_input.Loading.{Report}
 use Rattle.ehabi_commands.specs.Report.{Reports}
-use Rattle.ehabi_commands.specs.Words.{Command, FlatFile, BuildSources, CheckFile, CheckSources, RunFile, RunSources, RunGnu, RunThreads, GenerateProgram, command_of}
+use Rattle.ehabi_commands.specs.command_input.Words.{Command, FlatFile, BuildSources, CheckFile, CheckSources, RunFile, RunSources, RunGnu, RunThreads, GenerateProgram, command_of}
 use Rattle.ehabi_commands.specs.Yields.{Streams}
-use Rattle.ehabi_commands.specs.declared.words.Task.TheVariants.{Run, Walk}
+use Rattle.ehabi_commands.specs.command_input.declared.words.Task.TheVariants.{Run, Walk}
 use Rattle.program_answers.specs.Files.{FileState}
 use Rattle.command_laws.specs.Answers.{IsReported, IsConclusive}
 

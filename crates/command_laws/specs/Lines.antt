@@ -16,7 +16,7 @@ use Rattle.frame_facts.specs.declared.cause.FrameCause.TheVariants as cause
 use Rattle.eh_trace.specs.Text.{offset_text}
 use Rattle.eh_word.specs.Address.{address_text}
 use Rattle.report_lines.specs.CheckText.{index_line, cause_line, type_line, register_name}
-use Rattle.ehabi_commands.specs.RefusalText.{source_line, asm_line, link_line, schedule_line}
+use Rattle.ehabi_commands.specs.command_input.RefusalText.{source_line, asm_line, link_line, schedule_line}
 use Rattle.report_lines.specs.Text.{image_fault_line}
 
 -- ---- sources

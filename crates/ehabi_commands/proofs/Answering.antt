@@ -6,7 +6,7 @@ use Rattle.program_answers.specs.declared.stop.Stop.TheVariants.{Write, Memory}
 use Rattle.eh_walk.specs.guest_gates.Ends.{is_fault}
 use Rattle.thumb_core.specs.declared.ends.End.{End}
 use Rattle.thumb_core.specs.declared.ends.End.TheVariants.{Exit, Terminate, Trap, Budget, ReadFault, WriteFault}
-use Rattle.ehabi_commands.specs.Loading.{closing_of, status_of, stop_of_fault}
+use Rattle.command_input.specs.Loading.{closing_of, status_of, stop_of_fault}
 use Rattle.report_lines.specs.Text.{end_line}
 use Rattle.program_answers.specs.Writes.{Answers, Stopped}
 use Rattle.ehabi_commands.specs.Writes.{AnswersRun}

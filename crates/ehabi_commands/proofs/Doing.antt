@@ -1,25 +1,23 @@
 -- What a call for a command has done, from its parts. The commands that run bytes differ in where these come from alone.
 use Rattle.std.proofs.Common.{◌≡◌, ◌∙◌, ℕ, List, Option, Some, None, IfSome, Result, Ok, Err, refl, inr, arith}
-use Rattle.std.specs.Prelude.{IfOk, IfErr, IsOk, MatchResult, false, ◌↔◌}
+use Rattle.std.specs.Prelude.{IfOk, IsOk, ◌↔◌}
 use Rattle.std.proofs.lemmas.Bool.{false≢true}
-use Rattle.ehabi_commands.specs.Building.{refusal_of, wants_memory}
-use Rattle.ehabi_commands.specs.declared.refusal.FilesFault.{FilesFault}
 use Rattle.program_answers.specs.declared.status.TheConstants.{USAGE, FILE_UNAVAILABLE}
 use Rattle.program_answers.specs.declared.stop.Stop.{Stop}
 use Rattle.program_answers.specs.declared.stop.Stop.TheVariants.{Read, Write, Memory}
-use Rattle.ehabi_commands.specs.AsksFor.{AsksFor, CallLacks, files_named}
-use Rattle.ehabi_commands.specs.Finding.{Finds, FoundReports}
+use Rattle.command_input.specs.AsksFor.{AsksFor, CallLacks, files_named}
+use Rattle.command_input.specs.Finding.{FoundReports}
 use Rattle.ehabi_commands.specs.GenerateReport.{GenerateReports, IsUnfitProgram}
-use Rattle.ehabi_commands.specs.Loading.{Report}
+use Rattle.command_input.specs.Loading.{Report}
 use Rattle.program_answers.specs.Statuses.{SaysWhy, SaysWhyBy, IsReported, IsOfCommand}
 use Rattle.ehabi_commands.specs.Report.{Reports, IfTold, Why, Does}
-use Rattle.ehabi_commands.specs.Sources.{Refusal}
+use Rattle.command_input.specs.Sources.{Refusal}
 use Rattle.ehabi_commands.specs.Text.{usage}
-use Rattle.ehabi_commands.specs.Words.{Command, GenerateProgram}
+use Rattle.command_input.specs.Words.{Command, GenerateProgram}
 use Rattle.program_answers.specs.Writes.{Answers}
 use Rattle.program_answers.specs.Files.{FileState}
 use Rattle.ehabi_commands.specs.Yields.{Streams, streams, DoesWhole, DoesPart, YieldsBy, Yields}
-use Rattle.ehabi_commands.proofs.FilesAsked.{asks_more, asks_none}
+use Rattle.command_input.proofs.FilesAsked.{asks_more, asks_none}
 use Rattle.program_answers.proofs.Statuses.{usage_reported}
 use Rattle.ehabi_commands.proofs.Yielding.{whole_answer, part_answer, whole_as, part_as}
 use Rattle.program_answers.proofs.Answering.{of_status, only_write}
@@ -248,17 +246,3 @@ usage_does files input before now i f g result a = record {
     why : (held : Option Held) → IfSome held (λ h. Why None h input USAGE)
     why None = tt
     why (Some h) = record { missing = ((λ e. absurd (omega arith)), (λ l. absurd l)); refused = ((λ e. absurd (omega arith)), (λ l. absurd l)) }
-
--- ---- what the files are found to hold
-
-pub finds_ok : {T A : Type 0} (value_of : T → A) (ask : Held → Result A Refusal) (files files' : FileState) (answer : Result T FilesFault)
-    → IfSome files.held (λ held. MatchResult answer (λ found. ask held ≡ Ok (value_of found)) (λ fault. ask held ≡ Err (refusal_of fault))) → IfErr answer (λ fault. wants_memory fault ≡ false) → files'.faults ≡ files.faults
-    → Finds value_of ask files files' (Ok answer)
-finds_ok value_of ask files files' answer told fit kept = record {
-  told = told;
-  fit = fit;
-  read = λ e. absurd (cc);
-  write = λ e. cc;
-  memory = λ e. absurd (cc);
-  kept = kept;
-}

@@ -25,7 +25,7 @@ use Rattle.eh_walk.specs.declared.stopping.ForceFault.{ForceFault}
 use Rattle.eh_walk.specs.declared.stopping.ForceFault.TheVariants.{NotSite, NoFrame, InsideCleanup, NoStop, BadTables, BadType, PoolFull}
 use Rattle.ehabi_commands.specs.BothRuns.{bytes_events, recorded_events}
 use Rattle.ehabi_commands.specs.ForceReport.{unforced, from_forced, preceded, by_site_end, force_report, bytes_forced, activations_forced, bytes_from_site, accepted_force, recorded_force_report, ForcesAccepted, IsRefusal, IsRefusedForcing, IsUnforced, ForceSame, ForcesSame}
-use Rattle.ehabi_commands.specs.Loading.{Report, closing_of, closed_report}
+use Rattle.command_input.specs.Loading.{Report, closing_of, closed_report}
 use Rattle.program_answers.specs.Statuses.{SaysWhy, SaysWhyBy, IsOfCommand}
 use Rattle.ehabi_commands.specs.RunReport.{run_report, trace}
 use Rattle.report_lines.specs.Text.{end_line}
@@ -36,7 +36,7 @@ use Rattle.ehabi_commands.specs.Yields.{streams, DoesWhole, DoesPart, Only, Yiel
 use Rattle.program_answers.specs.declared.status.TheConstants.{REFUSED}
 use Rattle.program_answers.specs.declared.stop.Stop.{Stop}
 use Rattle.program_answers.specs.declared.stop.Stop.TheVariants.{Memory}
-use Rattle.ehabi_commands.specs.declared.words.TheConstants.{MOST_INSTRUCTIONS}
+use Rattle.command_input.specs.declared.words.TheConstants.{MOST_INSTRUCTIONS}
 use Rattle.ehabi_commands.proofs.Statuses.{IsOfRun, end_of_run, says_end}
 use Rattle.program_answers.proofs.Statuses.{says_unfit, refused_reported}
 use Rattle.ehabi_commands.proofs.Yielding.{Begun, at_false, yields_answer, yields_stopped}

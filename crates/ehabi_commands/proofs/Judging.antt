@@ -4,16 +4,16 @@ use Rattle.std.proofs.Common.{◌≡◌, ◌⊎◌, ℕ, List, Option, Result, O
 use Rattle.elf_image.specs.Image.{Image}
 use Rattle.elf_image.specs.declared.fault.ImageFault.{ImageFault}
 use Rattle.frame_check.specs.Accepts.{Accepted, IsAccepted, IsSound}
-use Rattle.ehabi_commands.specs.Accepting.{IsFound, IsRefused, IsRefusedBy, IsUnaccepted, BytesReportsBy, bytes_fault_line}
-use Rattle.ehabi_commands.specs.Loading.{Report}
+use Rattle.command_input.specs.Accepting.{IsFound, IsRefused, IsRefusedBy, IsUnaccepted, BytesReportsBy, bytes_fault_line}
+use Rattle.command_input.specs.Loading.{Report}
 use Rattle.program_answers.specs.Statuses.{SaysWhyBy}
 use Rattle.ehabi_commands.specs.TaskReport.{TaskPins, TaskRefuses}
 use Rattle.program_answers.specs.Writes.{Answers, Stopped}
 use Rattle.ehabi_commands.specs.Yields.{Streams, streams, YieldsBy, Yields, RefusedWhere}
-use Rattle.ehabi_commands.specs.declared.words.Task.{Task}
-use Rattle.ehabi_commands.specs.declared.words.Task.TheVariants.{Run, Walk, Force}
-use Rattle.ehabi_commands.specs.declared.accept.BytesFault.{BytesFault}
-use Rattle.ehabi_commands.specs.declared.accept.BytesFault.TheVariants.{NoImage, NotAccepted}
+use Rattle.command_input.specs.declared.words.Task.{Task}
+use Rattle.command_input.specs.declared.words.Task.TheVariants.{Run, Walk, Force}
+use Rattle.command_input.specs.declared.accept.BytesFault.{BytesFault}
+use Rattle.command_input.specs.declared.accept.BytesFault.TheVariants.{NoImage, NotAccepted}
 use Rattle.program_answers.specs.declared.status.TheConstants.{REFUSED}
 use Rattle.program_answers.specs.declared.stop.Stop.{Stop}
 use Rattle.program_answers.specs.declared.stop.Stop.TheVariants.{Memory}

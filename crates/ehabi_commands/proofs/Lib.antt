@@ -1,9 +1,5 @@
+pub mod command_input
 mod Answering
-mod Registers
-mod AllAnswers
-mod FileLoads
-pub mod FilesAsked
-mod Buildings
 mod Statuses
 mod Yielding
 mod FlatReports
@@ -18,5 +14,3 @@ mod Judging
 mod Doing
 mod Runners
 mod Programs
-mod Asking
-pub mod BytesCases

@@ -13,11 +13,11 @@ use Rattle.frame_check.specs.Accepts.{Accepted}
 use Rattle.eh_walk.specs.guest_gates.Ends.{is_fault}
 use Rattle.thumb_core.specs.declared.ends.End.{End}
 use Rattle.thumb_core.specs.declared.ends.End.TheVariants.{Exit, Terminate, Trap, Budget, ReadFault, WriteFault}
-use Rattle.ehabi_commands.specs.Accepting.{BytesReportsBy, IsUnaccepted}
+use Rattle.command_input.specs.Accepting.{BytesReportsBy, IsUnaccepted}
 use Rattle.ehabi_commands.specs.BothRuns.{bytes_run, recorded_run, bytes_events, recorded_events, HaveSameEvents, RunSame}
-use Rattle.ehabi_commands.specs.Building.{built}
+use Rattle.command_input.specs.Building.{built}
 use Rattle.ehabi_commands.specs.GenerateReport.{CountsAccepted, GenerateReports, IsUnfitProgram, counted_report, generated, summary_report, recorded_summary}
-use Rattle.ehabi_commands.specs.Loading.{closing_of, status_of}
+use Rattle.command_input.specs.Loading.{closing_of, status_of}
 use Rattle.report_lines.specs.Text.{end_line}
 use Rattle.ehabi_commands.specs.Text.{summary}
 use Rattle.program_answers.specs.Writes.{Answers, Stopped}
@@ -26,7 +26,7 @@ use Rattle.ehabi_commands.specs.Yields.{Streams, streams, Yields}
 use Rattle.program_answers.specs.declared.status.TheConstants.{REFUSED}
 use Rattle.program_answers.specs.declared.stop.Stop.{Stop}
 use Rattle.program_answers.specs.declared.stop.Stop.TheVariants.{Memory}
-use Rattle.ehabi_commands.specs.declared.words.TheConstants.{MOST_INSTRUCTIONS}
+use Rattle.command_input.specs.declared.words.TheConstants.{MOST_INSTRUCTIONS}
 use Rattle.program_answers.proofs.Statuses.{says_unfit, refused_reported}
 use Rattle.ehabi_commands.proofs.Statuses.{says_end, end_of_run, IsOfRun}
 use Rattle.ehabi_commands.proofs.Yielding.{at_false, yields_answer, yields_stopped, yields_as}

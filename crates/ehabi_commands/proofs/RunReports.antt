@@ -10,8 +10,8 @@ use Rattle.ehabi_commands.specs.BothRuns.{bytes_run, recorded_run, bytes_events,
 use Rattle.ehabi_commands.specs.RunReport.{RunsAccepted, accepted_report, recorded_report, run_report}
 use Rattle.ehabi_commands.specs.TaskReport.{DoesTask, TaskReports, TaskPins, PinsTask}
 use Rattle.ehabi_commands.specs.Yields.{Streams, YieldsBy}
-use Rattle.ehabi_commands.specs.declared.words.Request.{Request}
-use Rattle.ehabi_commands.specs.declared.words.Task.{Task}
+use Rattle.command_input.specs.declared.words.Request.{Request}
+use Rattle.command_input.specs.declared.words.Task.{Task}
 use Rattle.program_answers.specs.declared.stop.Stop.{Stop}
 
 -- the report of a run over bytes is that of the run with recorded activations

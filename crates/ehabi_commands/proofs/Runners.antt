@@ -3,26 +3,27 @@ use Rattle.std.proofs.Common.{◌≡◌, ℕ, List, [], ◌∷◌, Option, Some,
 use Rattle.eh_files.specs.FileList.{answer_of}
 use Rattle.eh_files.specs.declared.FileAnswer.{FileAnswer}
 use Rattle.eh_files.specs.declared.FileAnswer.TheVariants.{Found, Missing, TooLong}
-use Rattle.ehabi_commands.specs.declared.sources.TheConstants.{FILE_LIMIT}
+use Rattle.command_input.specs.declared.sources.TheConstants.{FILE_LIMIT}
 use Rattle.program_answers.specs.declared.status.TheConstants.{FILE_UNAVAILABLE}
-use Rattle.ehabi_commands.specs.declared.words.Request.{Request}
-use Rattle.ehabi_commands.specs.Accepting.{BytesReportsBy, IsUnaccepted}
+use Rattle.command_input.specs.declared.words.Request.{Request}
+use Rattle.command_input.specs.Accepting.{BytesReportsBy, IsUnaccepted}
 use Rattle.ehabi_commands.specs.BuildReport.{IsUnwritten, build_report, plain_report}
-use Rattle.ehabi_commands.specs.Building.{built, files_of, image_bytes, or_refused, made_of_found}
+use Rattle.command_input.specs.Building.{built, files_of, image_bytes, or_refused, made_of_found}
 use Rattle.ehabi_commands.specs.CheckReport.{ChecksAccepted}
-use Rattle.ehabi_commands.specs.Finding.{FoundReports, bytes_of_answer, file_bytes, found_report}
+use Rattle.command_input.specs.Finding.{FoundReports, bytes_of_answer, file_bytes, found_report}
 use Rattle.ehabi_commands.specs.FlatReport.{IsTooLarge, code_report, flat_report}
-use Rattle.ehabi_commands.specs.Loading.{Report}
+use Rattle.command_input.specs.Loading.{Report}
 use Rattle.program_answers.specs.Statuses.{SaysWhyBy}
 use Rattle.program_answers.specs.Files.{IsUnavailable}
 use Rattle.ehabi_commands.specs.TaskReport.{RunBytesReports, RunBytesRefuse}
 use Rattle.ehabi_commands.specs.Yields.{Only, RefusedOf}
-use Rattle.ehabi_commands.specs.Sources.{NamedText, Refusal}
+use Rattle.command_input.specs.Sources.{NamedText, Refusal}
 use Rattle.ehabi_commands.specs.Unfit.{RefusedHeld}
-use Rattle.ehabi_commands.specs.Words.{FlatFile, BuildSources, CheckFile, CheckSources, RunFile, RunSources, RunGnu, RunThreads}
+use Rattle.command_input.specs.Words.{FlatFile, BuildSources, CheckFile, CheckSources, RunFile, RunSources, RunGnu, RunThreads}
 use Rattle.ehabi_commands.specs.ThreadsReport.{Threaded, RefusesThreaded, ThreadsBytesReports, threaded_last, threads_found}
 use Rattle.ehabi_commands.specs.GnuReport.{Rewritten, RefusesRewritten, GnuBytesReports, rewritten_last, gnu_found}
 use Rattle.ehabi_commands.proofs.Doing.{Held, Asks, Reads, LeavesInput}
+use Rattle.command_input.proofs.Finding.{file_is, bytes_is}
 use Rattle.program_answers.proofs.Statuses.{says_unavailable}
 use Rattle.ehabi_commands.proofs.Statuses.{made_fits, made_refused}
 
@@ -31,15 +32,6 @@ use Rattle.ehabi_commands.proofs.Statuses.{made_fits, made_refused}
 abbrev status_in : Result (List ℕ) Refusal → ℕ
 status_in (Ok bytes) = 0
 status_in (Err refusal) = refusal.status
-
-file_is : (name : List ℕ) (held : Held) → file_bytes name held ≡ bytes_of_answer name (answer_of held name FILE_LIMIT)
-unfolding file_bytes
-file_is name held = refl
-
-pub file_told : (name : List ℕ) (answer : FileAnswer) (held : Option Held) → IfSome held (λ h. answer ≡ answer_of h name FILE_LIMIT)
-    → IfSome held (λ h. file_bytes name h ≡ bytes_of_answer name answer)
-file_told name answer None e = tt
-file_told name answer (Some h) e = file_is name h ∙ ap (bytes_of_answer name) (sym e)
 
 module _ (refuses : List ℕ → Option (List ℕ) → ℕ → Type 0) (name : List ℕ) (input : Option (List ℕ)) where
   answer_fits : (answer : FileAnswer) (bytes : List ℕ) (s : ℕ) → bytes_of_answer name answer ≡ Ok bytes → SaysWhyBy s ⊥ (refuses bytes input s) → SaysWhyBy s (IsUnavailable answer) (RefusedHeld refuses answer input s)
@@ -109,21 +101,6 @@ pub check_leaves : (name : List ℕ) → LeavesInput (Some (CheckFile name))
 check_leaves name P files input h = (refl, h)
 
 -- ---- sources
-
-bytes_is : (names : List (List ℕ)) (held : Held) → image_bytes names held ≡ made_of_found built (files_of held names)
-unfolding image_bytes
-bytes_is names held = refl
-
--- a file that is missing or too long
-pub bytes_unavailable : (names : List (List ℕ)) (line : List ℕ) (held : Option Held)
-    → IfSome held (λ h. Err line ≡ files_of h names) → IfSome held (λ h. image_bytes names h ≡ Err (record { status = FILE_UNAVAILABLE; line = line }))
-bytes_unavailable names line None e = tt
-bytes_unavailable names line (Some h) e = bytes_is names h ∙ ap (made_of_found built) (sym e)
-
-pub bytes_built : (names : List (List ℕ)) (sources : List NamedText) (answer : Result (List ℕ) (List ℕ)) (held : Option Held)
-    → IfSome held (λ h. Ok sources ≡ files_of h names) → built sources ≡ answer → IfSome held (λ h. image_bytes names h ≡ or_refused answer)
-bytes_built names sources answer None e b = tt
-bytes_built names sources answer (Some h) e b = bytes_is names h ∙ ap (made_of_found built) (sym e) ∙ ap or_refused b
 
 build_at : (names : List (List ℕ)) (held : Held) (input : List ℕ) → build_report names held input ≡ found_report plain_report (image_bytes names held) input
 unfolding build_report

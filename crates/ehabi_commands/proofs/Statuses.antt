@@ -5,10 +5,10 @@ use Rattle.eh_walk.specs.guest_gates.Ends.{is_fault}
 use Rattle.thumb_core.specs.declared.ends.End.{End}
 use Rattle.thumb_core.specs.declared.ends.End.TheVariants.{Exit, Terminate, Trap, Budget, ReadFault, WriteFault}
 use Rattle.program_answers.specs.declared.status.TheConstants.{DONE, EXIT_NONZERO, REFUSED, FILE_UNAVAILABLE}
-use Rattle.ehabi_commands.specs.Building.{or_refused, made_of_found}
+use Rattle.command_input.specs.Building.{or_refused, made_of_found}
 use Rattle.program_answers.specs.Statuses.{SaysWhy, SaysWhyBy, IsOfCommand, is_conclusive}
-use Rattle.ehabi_commands.specs.Loading.{status_of}
-use Rattle.ehabi_commands.specs.Sources.{NamedText, Refusal}
+use Rattle.command_input.specs.Loading.{status_of}
+use Rattle.command_input.specs.Sources.{NamedText, Refusal}
 use Rattle.ehabi_commands.specs.Unfit.{RefusedMade, RefusedFiles}
 use Rattle.program_answers.proofs.Statuses.{says_unavailable, says_unfit, says_fine, done_reported}
 

@@ -19,7 +19,7 @@ use Rattle.eh_walk.specs.two_machines.Checked.{program_of}
 use Rattle.eh_walk.specs.two_machines.Program.{Program}
 use Rattle.eh_walk.specs.two_machines.Start.{start_of}
 use Rattle.program_answers.specs.declared.stop.Stop.{Stop}
-use Rattle.ehabi_commands.specs.Loading.{Closing, Report, closing_of}
+use Rattle.command_input.specs.Loading.{Closing, Report, closing_of}
 use Rattle.thread_laws.specs.RecordedThreads as recorded
 use Rattle.ehabi_commands.specs.ThreadsReport.{ThreadsAccepted, ThreadsSame, accepted_threads, recorded_threads_report, bytes_threads, scheduled_trace, threads_trace}
 use Rattle.ehabi_commands.specs.Writes.{AnswersRun}

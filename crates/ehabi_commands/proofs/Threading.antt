@@ -3,9 +3,9 @@ use Rattle.std.proofs.Common.{◌≡◌, ◌+◌, ◌-◌, ℕ, List, [], ◌∷
 use Rattle.std.proofs.Math.Seq.{take-append_seam}
 use Rattle.std.proofs.lemmas.List.{get_or_push, length-append}
 use Rattle.thread_schedule.specs.Schedules.{schedule_of}
-use Rattle.ehabi_commands.specs.Building.{built}
-use Rattle.ehabi_commands.specs.RefusalText.{schedule_line}
-use Rattle.ehabi_commands.specs.Sources.{NamedText}
+use Rattle.command_input.specs.Building.{built}
+use Rattle.command_input.specs.RefusalText.{schedule_line}
+use Rattle.command_input.specs.Sources.{NamedText}
 use Rattle.ehabi_commands.specs.ThreadsReport.{digits_of, is_image, last_file, no_file, program_bytes, threaded_last, threaded_of}
 
 -- ---- the bytes of a program's image

@@ -21,7 +21,7 @@ use Rattle.eh_walk.specs.declared.walk.WalkEnd.{WalkEnd}
 use Rattle.eh_walk.specs.declared.walk.WalkEnd.TheVariants.{Root, NoUnwind, Most, NotSite}
 use Rattle.eh_walk.specs.declared.walk.WalkFrame.{WalkFrame}
 use Rattle.ehabi_commands.specs.BothRuns.{bytes_events, recorded_events}
-use Rattle.ehabi_commands.specs.Loading.{closing_of}
+use Rattle.command_input.specs.Loading.{closing_of}
 use Rattle.ehabi_commands.specs.RunReport.{trace}
 use Rattle.ehabi_commands.specs.Text.{trace_head}
 use Rattle.ehabi_commands.specs.WalkReport.{walked, walked_by, walk_closing, walk_report, bytes_walk, bytes_to_site, activations_walk, recorded_to_site, accepted_walk, recorded_walk_report, WalksAccepted, WalkAlike, WalkSame}

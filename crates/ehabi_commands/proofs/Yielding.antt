@@ -17,7 +17,7 @@ use Rattle.eh_walk.specs.two_machines.Machine.{machine_of}
 use Rattle.eh_walk.specs.two_machines.Program.{Program}
 use Rattle.program_answers.specs.declared.stop.Stop.{Stop}
 use Rattle.program_answers.specs.declared.stop.Stop.TheVariants.{Read, Write, Memory}
-use Rattle.ehabi_commands.specs.Loading.{Report, Closing, closed_report, stop_of_fault}
+use Rattle.command_input.specs.Loading.{Report, Closing, closed_report, stop_of_fault}
 use Rattle.program_answers.specs.Statuses.{SaysWhy, SaysWhyBy, IsOfCommand}
 use Rattle.program_answers.specs.Writes.{Answers, Stopped}
 use Rattle.ehabi_commands.specs.Writes.{AnswersRun}

@@ -1,8 +1,8 @@
 -- The report of `build FILE..`.
 use Rattle.std.specs.Prelude.{ℕ, List}
-use Rattle.ehabi_commands.specs.Building.{image_bytes}
-use Rattle.ehabi_commands.specs.Finding.{found_report}
-use Rattle.ehabi_commands.specs.Loading.{Report}
+use Rattle.command_input.specs.Building.{image_bytes}
+use Rattle.command_input.specs.Finding.{found_report}
+use Rattle.command_input.specs.Loading.{Report}
 use Rattle.program_answers.specs.declared.status.TheConstants.{DONE}
 
 -- bytes that are written, and nothing else

@@ -1,11 +1,11 @@
 -- The reports of `check FILE` of one image and of `check FILE..` of sources. No guest runs, and the whole input is left.
 use Rattle.std.specs.Prelude.{ℕ, List, length}
 use Rattle.frame_check.specs.Accepts.{Accepted}
-use Rattle.ehabi_commands.specs.Accepting.{BytesReportsBy}
-use Rattle.ehabi_commands.specs.Building.{image_bytes}
+use Rattle.command_input.specs.Accepting.{BytesReportsBy}
+use Rattle.command_input.specs.Building.{image_bytes}
 use Rattle.report_lines.specs.CheckText.{accepted_line}
-use Rattle.ehabi_commands.specs.Finding.{file_bytes, FoundReports}
-use Rattle.ehabi_commands.specs.Loading.{Report}
+use Rattle.command_input.specs.Finding.{file_bytes, FoundReports}
+use Rattle.command_input.specs.Loading.{Report}
 use Rattle.ehabi_commands.specs.Yields.{Only}
 use Rattle.program_answers.specs.declared.status.TheConstants.{DONE}
 

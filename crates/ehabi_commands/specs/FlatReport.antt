@@ -4,8 +4,8 @@ use Rattle.image_memory.specs.Start.{State, code_start}
 use Rattle.eh_bus.specs.declared.map.TheConstants.{MAX_IMAGE_SIZE}
 use Rattle.elf_image.specs.declared.fault.ImageFault.TheVariants.{TooLarge}
 use Rattle.plain_run.specs.Machine.{flat_ran}
-use Rattle.ehabi_commands.specs.Finding.{file_bytes, found_report}
-use Rattle.ehabi_commands.specs.Loading.{Report, ran_report}
+use Rattle.command_input.specs.Finding.{file_bytes, found_report}
+use Rattle.command_input.specs.Loading.{Report, ran_report}
 use Rattle.report_lines.specs.Text.{image_fault_line}
 use Rattle.program_answers.specs.declared.status.TheConstants.{REFUSED}
 

@@ -21,12 +21,12 @@ use Rattle.eh_walk.specs.Reaching.{Onward}
 use Rattle.eh_walk.specs.declared.stopping.ForceFault.{ForceFault}
 use Rattle.eh_walk.specs.declared.stopping.ForceFault.TheVariants.{NotSite, NoFrame, InsideCleanup, NoStop, BadTables, BadType, PoolFull}
 use Rattle.ehabi_commands.specs.BothRuns.{bytes_events, recorded_events}
-use Rattle.ehabi_commands.specs.Loading.{Report, Closing}
+use Rattle.command_input.specs.Loading.{Report, Closing}
 use Rattle.ehabi_commands.specs.RunReport.{run_report, trace}
 use Rattle.report_lines.specs.Text.{end_line}
 use Rattle.ehabi_commands.specs.WalkReport.{bytes_to_site, recorded_to_site}
 use Rattle.program_answers.specs.declared.status.TheConstants.{REFUSED, BUDGET_SPENT}
-use Rattle.ehabi_commands.specs.declared.words.TheConstants.{MOST_INSTRUCTIONS}
+use Rattle.command_input.specs.declared.words.TheConstants.{MOST_INSTRUCTIONS}
 
 -- the type that is thrown: that of int, or 0 where the image has no symbol of it
 abbrev pub forced_type : Image → ℕ

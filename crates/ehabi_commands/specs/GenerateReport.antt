@@ -6,16 +6,16 @@ use Rattle.eh_kit.specs.ProgramText.{generated_text}
 use Rattle.eh_trace.specs.Trace.{Trace}
 use Rattle.frame_check.specs.Accepts.{Accepted}
 use Rattle.thumb_core.specs.declared.ends.End.{End}
-use Rattle.ehabi_commands.specs.Accepting.{BytesReportsBy, IsUnaccepted}
+use Rattle.command_input.specs.Accepting.{BytesReportsBy, IsUnaccepted}
 use Rattle.ehabi_commands.specs.BothRuns.{bytes_run, recorded_run, bytes_events, recorded_events}
-use Rattle.ehabi_commands.specs.Building.{built, or_refused}
-use Rattle.ehabi_commands.specs.Finding.{FoundReports}
-use Rattle.ehabi_commands.specs.Loading.{Report, status_of}
-use Rattle.ehabi_commands.specs.Sources.{NamedText, Refusal}
+use Rattle.command_input.specs.Building.{built, or_refused}
+use Rattle.command_input.specs.Finding.{FoundReports}
+use Rattle.command_input.specs.Loading.{Report, status_of}
+use Rattle.command_input.specs.Sources.{NamedText, Refusal}
 use Rattle.report_lines.specs.Text.{end_line}
 use Rattle.ehabi_commands.specs.Text.{summary}
 use Rattle.ehabi_commands.specs.Unfit.{IsUnfitImage}
-use Rattle.ehabi_commands.specs.declared.words.TheConstants.{MOST_INSTRUCTIONS}
+use Rattle.command_input.specs.declared.words.TheConstants.{MOST_INSTRUCTIONS}
 
 -- ---- the program
 

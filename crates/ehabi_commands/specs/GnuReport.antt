@@ -22,13 +22,13 @@ use Rattle.report_lines.specs.CheckText.{index_line}
 use Rattle.report_lines.specs.TablesText.{tables_line}
 use Rattle.report_lines.specs.Text.{image_fault_line}
 use Rattle.thumb_core.specs.declared.ends.End.{End}
-use Rattle.ehabi_commands.specs.Accepting.{BytesReportsBy, IsUnaccepted}
+use Rattle.command_input.specs.Accepting.{BytesReportsBy, IsUnaccepted}
 use Rattle.ehabi_commands.specs.BothRuns.{HaveSameEvents, bytes_events, recorded_events}
-use Rattle.ehabi_commands.specs.Building.{files_of, made_of_found, written_bytes}
-use Rattle.ehabi_commands.specs.Finding.{FoundReports}
-use Rattle.ehabi_commands.specs.Loading.{Report}
+use Rattle.command_input.specs.Building.{files_of, made_of_found, written_bytes}
+use Rattle.command_input.specs.Finding.{FoundReports}
+use Rattle.command_input.specs.Loading.{Report}
 use Rattle.ehabi_commands.specs.RunReport.{run_report}
-use Rattle.ehabi_commands.specs.Sources.{NamedText, Refusal}
+use Rattle.command_input.specs.Sources.{NamedText, Refusal}
 use Rattle.ehabi_commands.specs.ThreadsReport.{last_file}
 use Rattle.ehabi_commands.specs.Unfit.{RefusedFiles}
 use Rattle.ehabi_commands.specs.Yields.{RefusedOf}

@@ -4,17 +4,17 @@
 use Rattle.std.specs.Prelude.{ℕ, ◌≡◌, ◌⊎◌, ◌↔◌, List, [], ◌∷◌, Option, Some, None, IfOk, IfSome, IsOk, IsErr, IsErrOf, Result}
 use Rattle.eh_port.specs.Causes.{Rose}
 use Rattle.eh_files.specs.FileList.{answer_of}
-use Rattle.ehabi_commands.specs.declared.sources.TheConstants.{FILE_LIMIT}
+use Rattle.command_input.specs.declared.sources.TheConstants.{FILE_LIMIT}
 use Rattle.program_answers.specs.declared.status.TheConstants.{USAGE, FILE_UNAVAILABLE}
 use Rattle.program_answers.specs.declared.stop.Stop.{Stop}
 use Rattle.program_answers.specs.declared.stop.Stop.TheVariants.{Read, Write, Memory}
-use Rattle.ehabi_commands.specs.AsksFor.{AsksFor, CallLacks, files_named}
-use Rattle.ehabi_commands.specs.Loading.{Report}
+use Rattle.command_input.specs.AsksFor.{AsksFor, CallLacks, files_named}
+use Rattle.command_input.specs.Loading.{Report}
 use Rattle.program_answers.specs.Files.{IsUnavailable, FileState}
 use Rattle.program_answers.specs.Statuses.{IsReported}
-use Rattle.ehabi_commands.specs.Accepting.{IsUnaccepted}
+use Rattle.command_input.specs.Accepting.{IsUnaccepted}
 use Rattle.ehabi_commands.specs.BuildReport.{build_report, IsUnwritten}
-use Rattle.ehabi_commands.specs.Building.{files_of}
+use Rattle.command_input.specs.Building.{files_of}
 use Rattle.ehabi_commands.specs.CheckReport.{CheckReports, CheckSourcesReports}
 use Rattle.ehabi_commands.specs.FlatReport.{flat_report, IsTooLarge}
 use Rattle.ehabi_commands.specs.GnuReport.{GnuReports, RefusedGnu}
@@ -23,7 +23,7 @@ use Rattle.ehabi_commands.specs.TaskReport.{RunReports, RunSourcesReports, RunBy
 use Rattle.ehabi_commands.specs.Text.{usage}
 use Rattle.ehabi_commands.specs.ThreadsReport.{ThreadsReports, RefusedThreads}
 use Rattle.ehabi_commands.specs.Unfit.{RefusedHeld, RefusedSources}
-use Rattle.ehabi_commands.specs.Words.{Command, FlatFile, BuildSources, CheckFile, CheckSources, RunFile, RunSources, RunGnu, RunThreads, GenerateProgram}
+use Rattle.command_input.specs.Words.{Command, FlatFile, BuildSources, CheckFile, CheckSources, RunFile, RunSources, RunGnu, RunThreads, GenerateProgram}
 use Rattle.ehabi_commands.specs.Yields.{Streams, NoFault, DoesWhole, DoesPart, RefusedWhere, RefusedOf}
 
 -- ---- by command

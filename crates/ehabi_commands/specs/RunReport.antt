@@ -8,7 +8,7 @@ use Rattle.eh_walk.specs.event_runs.Runs.{Ran}
 use Rattle.frame_check.specs.Accepts.{Accepted}
 use Rattle.thumb_core.specs.declared.ends.End.{End}
 use Rattle.ehabi_commands.specs.BothRuns.{bytes_run, recorded_run, bytes_events, recorded_events, RefusesStores}
-use Rattle.ehabi_commands.specs.Loading.{Report, ran_report}
+use Rattle.command_input.specs.Loading.{Report, ran_report}
 use Rattle.ehabi_commands.specs.Text.{trace_head}
 
 -- what stands after the guest's bytes: the trace of these events

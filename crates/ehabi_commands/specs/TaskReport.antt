@@ -1,17 +1,17 @@
 -- The reports of `run`, `walk` and `force`, of one image and of sources: what is accepted runs, and the task says what for.
 use Rattle.std.specs.Prelude.{ℕ, List, Option}
 use Rattle.frame_check.specs.Accepts.{Accepted}
-use Rattle.ehabi_commands.specs.Accepting.{BytesReportsBy, IsUnaccepted, RefusedBy}
-use Rattle.ehabi_commands.specs.Building.{image_bytes}
-use Rattle.ehabi_commands.specs.Finding.{file_bytes, FoundReports}
+use Rattle.command_input.specs.Accepting.{BytesReportsBy, IsUnaccepted, RefusedBy}
+use Rattle.command_input.specs.Building.{image_bytes}
+use Rattle.command_input.specs.Finding.{file_bytes, FoundReports}
 use Rattle.ehabi_commands.specs.ForceReport.{ForcesAccepted, IsUnforced}
-use Rattle.ehabi_commands.specs.Loading.{Report}
+use Rattle.command_input.specs.Loading.{Report}
 use Rattle.ehabi_commands.specs.RunReport.{RunsAccepted}
 use Rattle.ehabi_commands.specs.WalkReport.{WalksAccepted}
 use Rattle.ehabi_commands.specs.Yields.{RefusedWhere, RefusedOf, RefusedOn}
-use Rattle.ehabi_commands.specs.declared.words.Request.{Request}
-use Rattle.ehabi_commands.specs.declared.words.Task.{Task}
-use Rattle.ehabi_commands.specs.declared.words.Task.TheVariants.{Run, Walk, Force}
+use Rattle.command_input.specs.declared.words.Request.{Request}
+use Rattle.command_input.specs.declared.words.Task.{Task}
+use Rattle.command_input.specs.declared.words.Task.TheVariants.{Run, Walk, Force}
 
 -- r is the report of an accepted image's run, by what it is for
 abbrev pub TaskReports : Task → ℕ → Accepted → List ℕ → Report → Type 0

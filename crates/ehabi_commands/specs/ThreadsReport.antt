@@ -16,15 +16,15 @@ use Rattle.thread_schedule.specs.Tags.{tagged}
 use Rattle.thumb_core.specs.declared.ends.End.{End}
 use Rattle.eh_walk.specs.two_machines.Checked.{program_of}
 use Rattle.eh_walk.specs.two_machines.Start.{start_of}
-use Rattle.ehabi_commands.specs.Accepting.{BytesReportsBy, IsUnaccepted}
-use Rattle.ehabi_commands.specs.Building.{built, files_of, made_of_found}
-use Rattle.ehabi_commands.specs.Finding.{FoundReports}
-use Rattle.ehabi_commands.specs.Loading.{Report, ran_report}
-use Rattle.ehabi_commands.specs.RefusalText.{schedule_line}
-use Rattle.ehabi_commands.specs.Sources.{NamedText, Refusal, and_then}
+use Rattle.command_input.specs.Accepting.{BytesReportsBy, IsUnaccepted}
+use Rattle.command_input.specs.Building.{built, files_of, made_of_found}
+use Rattle.command_input.specs.Finding.{FoundReports}
+use Rattle.command_input.specs.Loading.{Report, ran_report}
+use Rattle.command_input.specs.RefusalText.{schedule_line}
+use Rattle.command_input.specs.Sources.{NamedText, Refusal, and_then}
 use Rattle.ehabi_commands.specs.Text.{trace_head}
 use Rattle.ehabi_commands.specs.Unfit.{RefusedFiles}
-use Rattle.ehabi_commands.specs.Words.{is_source}
+use Rattle.command_input.specs.Words.{is_source}
 use Rattle.ehabi_commands.specs.Yields.{RefusedOf}
 use Rattle.ehabi_commands.specs.declared.threads.ThreadProgram.{ThreadProgram}
 

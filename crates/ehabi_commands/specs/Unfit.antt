@@ -2,8 +2,8 @@
 use Rattle.std.specs.Prelude.{ℕ, List, Option, Result, Ok, Err}
 use Rattle.eh_files.specs.declared.FileAnswer.{FileAnswer}
 use Rattle.eh_files.specs.declared.FileAnswer.TheVariants.{Found, Missing, TooLong}
-use Rattle.ehabi_commands.specs.Building.{built}
-use Rattle.ehabi_commands.specs.Sources.{NamedText}
+use Rattle.command_input.specs.Building.{built}
+use Rattle.command_input.specs.Sources.{NamedText}
 use Rattle.ehabi_commands.specs.Yields.{RefusedWhere}
 
 -- of the file's bytes, where it is there; else nothing is refused

@@ -21,7 +21,7 @@ use Rattle.eh_walk.specs.declared.walk.WalkEnd.{WalkEnd}
 use Rattle.eh_walk.specs.declared.walk.WalkEnd.TheVariants.{Root, NoUnwind, Most, NotSite}
 use Rattle.eh_walk.specs.declared.walk.WalkFrame.{WalkFrame}
 use Rattle.ehabi_commands.specs.BothRuns.{bytes_events, recorded_events, HaveSameEvents}
-use Rattle.ehabi_commands.specs.Loading.{Report, Closing, closing_of, closed_report}
+use Rattle.command_input.specs.Loading.{Report, Closing, closing_of, closed_report}
 use Rattle.ehabi_commands.specs.RunReport.{trace}
 use Rattle.program_answers.specs.declared.status.TheConstants.{DONE}
 use Rattle.ehabi_commands.specs.declared.walk.TheConstants.{MOST_FRAMES}

@@ -1,7 +1,7 @@
 -- What a call that ends a run has written.
 use Rattle.std.specs.Prelude.{ℕ, ◌⊎◌, List, Option, Result}
 use Rattle.std.specs.Bool.{OnFalse, OnTrue}
-use Rattle.ehabi_commands.specs.Loading.{Closing, stop_of_fault}
+use Rattle.command_input.specs.Loading.{Closing, stop_of_fault}
 use Rattle.program_answers.specs.Writes.{Answers, Stopped}
 use Rattle.program_answers.specs.declared.stop.Stop.{Stop}
 use Rattle.program_answers.specs.declared.stop.Stop.TheVariants.{Memory}

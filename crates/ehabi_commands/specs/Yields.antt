@@ -3,7 +3,7 @@ use Rattle.std.specs.Prelude.{ℕ, ◌≡◌, ◌⊎◌, ◌↔◌, List, Option
 use Rattle.std.specs.Io.KnownBytes.{Appends, Keeps}
 use Rattle.eh_port.specs.Causes.{Rose}
 use Rattle.eh_port.specs.Writing.{AppendsPart}
-use Rattle.ehabi_commands.specs.Loading.{Report}
+use Rattle.command_input.specs.Loading.{Report}
 use Rattle.program_answers.specs.Statuses.{SaysWhyBy, IsOfCommand}
 use Rattle.program_answers.specs.declared.status.TheConstants.{REFUSED}
 use Rattle.program_answers.specs.declared.stop.Stop.{Stop}

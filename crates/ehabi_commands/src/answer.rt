@@ -1,6 +1,6 @@
 //! What the program says at the end of a run.
 ghost use Rattle.std.specs.Prelude.{◌≡◌, ◌<◌, ℕ, All, IfOk, IfErr, IsErrOf, MatchResult, true, false};
-ghost use Rattle.ehabi_commands.specs.Loading.{closing_of, status_of, stop_of_fault};
+ghost use Rattle.command_input.specs.Loading.{closing_of, status_of, stop_of_fault};
 ghost use Rattle.ehabi_commands.specs.Writes.{AnswersRun};
 ghost use Rattle.ehabi_commands.specs.Text.{summary};
 ghost use Rattle.ehabi_commands.specs.RunReport.{trace};

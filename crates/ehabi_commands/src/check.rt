@@ -1,17 +1,17 @@
 //! `check FILE` and `check FILE..`: whether an image, or the one that sources are built to, is accepted (docs/acceptance.md).
 ghost use Rattle.std.specs.Prelude.{ℕ, List, Option, Some};
-ghost use Rattle.ehabi_commands.specs.Accepting.{BytesReportsBy, IsUnaccepted};
+ghost use Rattle.command_input.specs.Accepting.{BytesReportsBy, IsUnaccepted};
 ghost use Rattle.ehabi_commands.specs.CheckReport.{ChecksAccepted};
 ghost use Rattle.ehabi_commands.specs.Report.{Does};
-ghost use Rattle.ehabi_commands.specs.Words.{CheckFile, CheckSources};
+ghost use Rattle.command_input.specs.Words.{CheckFile, CheckSources};
 ghost use Rattle.program_answers.specs.Words.{texts};
 ghost use Rattle.ehabi_commands.specs.Yields.{Yields, streams};
 ghost use Rattle.program_answers.specs.Files.{file_state};
 
-use crate::accept::{accepted_of, answer_refused};
-use crate::build::built_files;
-use crate::refusal::answer_files_fault;
-use crate::sources::read_file;
+use command_input::accept::{accepted_of, answer_refused};
+use command_input::build::built_files;
+use command_input::refusal::answer_files_fault;
+use command_input::sources::read_file;
 use eh_files::Files;
 use eh_port::Sink;
 use program_answers::Stop;

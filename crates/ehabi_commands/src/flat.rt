@@ -2,13 +2,13 @@
 ghost use Rattle.std.specs.Prelude.{Some};
 ghost use Rattle.ehabi_commands.specs.FlatReport.{IsTooLarge, code_report};
 ghost use Rattle.ehabi_commands.specs.Report.{Does};
-ghost use Rattle.ehabi_commands.specs.Words.{FlatFile};
+ghost use Rattle.command_input.specs.Words.{FlatFile};
 ghost use Rattle.ehabi_commands.specs.Yields.{Only, Yields, streams};
 ghost use Rattle.program_answers.specs.Files.{file_state};
 
 use crate::answer::answer_end;
-use crate::refusal::answer_files_fault;
-use crate::sources::read_file;
+use command_input::refusal::answer_files_fault;
+use command_input::sources::read_file;
 use eh_bus::map::MAX_IMAGE_SIZE;
 use eh_files::Files;
 use eh_port::{Sink, Source};

@@ -11,7 +11,7 @@ ghost use Rattle.program_answers.specs.declared.status.TheConstants.{REFUSED};
 
 use crate::answer::answer_run;
 use crate::recorded::forces_same;
-use crate::words::MOST_INSTRUCTIONS;
+use command_input::words::MOST_INSTRUCTIONS;
 use eh_bus::bus::Bus;
 use eh_machine::Machine;
 use eh_port::{Sink, Source};

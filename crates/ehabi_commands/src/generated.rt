@@ -1,20 +1,20 @@
 //! `gen K M`: builds, checks and runs the program of a number, and says how many events came (docs/generated-programs.md).
 ghost use Rattle.std.specs.Prelude.{◌≡◌, ◌<◌, ◌≤◌, [], ◌∷◌, ℕ, List, Option, Some, Ok, Err, MatchResult, true, false};
-ghost use Rattle.ehabi_commands.specs.Accepting.{BytesReportsBy, IsUnaccepted};
-ghost use Rattle.ehabi_commands.specs.Building.{built, fault_line, is_memory};
+ghost use Rattle.command_input.specs.Accepting.{BytesReportsBy, IsUnaccepted};
+ghost use Rattle.command_input.specs.Building.{built, fault_line, is_memory};
 ghost use Rattle.ehabi_commands.specs.GenerateReport.{CountsAccepted, generated};
 ghost use Rattle.ehabi_commands.specs.Report.{Does};
-ghost use Rattle.ehabi_commands.specs.Words.{GenerateProgram};
+ghost use Rattle.command_input.specs.Words.{GenerateProgram};
 ghost use Rattle.program_answers.specs.Files.{FileState};
 ghost use Rattle.ehabi_commands.specs.Yields.{Yields, streams};
 
-use crate::accept::{accepted_of, answer_refused};
 use crate::answer::answer_summary;
-use crate::build::built;
-use crate::named::SourceText;
 use crate::recorded::runs_same;
-use crate::refusal::{BuildFault, answer_build_fault, is_memory};
-use crate::words::MOST_INSTRUCTIONS;
+use command_input::accept::{accepted_of, answer_refused};
+use command_input::build::built;
+use command_input::named::SourceText;
+use command_input::refusal::{BuildFault, answer_build_fault, is_memory};
+use command_input::words::MOST_INSTRUCTIONS;
 use eh_kit::{MAX_FUNCTIONS, generate};
 use eh_machine::Machine;
 use eh_port::{Bytes, Sink, SureSink, SureSource};

@@ -3,11 +3,10 @@
 
 ghost use Rattle.ehabi_commands.specs.Report.{Does};
 ghost use Rattle.program_answers.specs.Words.{texts};
-ghost use Rattle.ehabi_commands.specs.Words.{command_of};
+ghost use Rattle.command_input.specs.Words.{command_of};
 ghost use Rattle.program_answers.specs.Files.{file_state};
 ghost use Rattle.ehabi_commands.specs.Yields.{streams};
 
-mod accept;
 mod answer;
 mod build;
 mod check;
@@ -15,19 +14,15 @@ mod flat;
 mod force;
 mod generated;
 mod gnu;
-pub mod laws;
-mod named;
 mod recorded;
-mod refusal;
 mod run;
-mod sources;
 mod summary;
 mod threads;
 mod walk;
-mod words;
 
 use build::build;
 use check::{check_file, check_sources};
+use command_input::words::{Form, form_of};
 use eh_files::Files;
 use eh_port::{Sink, Source};
 use flat::flat;
@@ -38,14 +33,9 @@ use program_answers::Stop;
 use program_answers::answer::answer_text;
 use program_answers::status::USAGE;
 use run::{run, run_sources};
-pub use sources::FILE_LIMIT;
 use std::alloc::Global;
 use threads::threads;
 pub use walk::MOST_FRAMES;
-pub use words::{
-    Form, MOST_DIGITS, MOST_FRAME_DIGITS, MOST_FUNCTION_DIGITS, MOST_INSTRUCTIONS, MOST_NUMBER,
-    MOST_SOURCES, Request, Task, form_of,
-};
 
 /// Does what the words ask for: what is written is the report of their command, or a first part of it with the cause why it stopped.
 pub fn perform<F: Files, I: Source, O: Sink>(

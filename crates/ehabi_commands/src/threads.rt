@@ -1,26 +1,26 @@
 //! `threads FILE.. SCHED N`: checks an image, or the one that sources are built to, and runs it as threads where it is accepted, by the schedule
 //! that the last of the files holds (docs/threads.md, "The command").
 ghost use Rattle.std.specs.Prelude.{◌≡◌, Some, Ok, Err, IsOk, MatchResult, true, false};
-ghost use Rattle.ehabi_commands.specs.Accepting.{BytesReportsBy, IsUnaccepted};
-ghost use Rattle.ehabi_commands.specs.AsksFor.{AsksFor, FindingLacks};
-ghost use Rattle.ehabi_commands.specs.Building.{is_memory, fault_line};
-ghost use Rattle.ehabi_commands.specs.Finding.{Finds};
+ghost use Rattle.command_input.specs.Accepting.{BytesReportsBy, IsUnaccepted};
+ghost use Rattle.command_input.specs.AsksFor.{AsksFor, FindingLacks};
+ghost use Rattle.command_input.specs.Building.{is_memory, fault_line};
+ghost use Rattle.command_input.specs.Finding.{Finds};
 ghost use Rattle.ehabi_commands.specs.Report.{Does};
-ghost use Rattle.ehabi_commands.specs.Sources.{NamedText};
+ghost use Rattle.command_input.specs.Sources.{NamedText};
 ghost use Rattle.ehabi_commands.specs.ThreadsReport.{ThreadsAccepted, digits_of, found_of, is_image, last_file, program_bytes, threaded_last, threaded_of, threads_found};
-ghost use Rattle.ehabi_commands.specs.Words.{RunThreads};
+ghost use Rattle.command_input.specs.Words.{RunThreads};
 ghost use Rattle.ehabi_commands.specs.Yields.{Yields, streams};
 ghost use Rattle.program_answers.specs.Files.{file_state};
 ghost use Rattle.program_answers.specs.Words.{texts};
 
-use crate::accept::{accepted_of, answer_refused};
 use crate::answer::answer_threads;
-use crate::build::built;
-use crate::named::SourceText;
 use crate::recorded::threads_same;
-use crate::refusal::{BuildFault, FilesFault, answer_files_fault, is_memory};
-use crate::sources::{Loaded, load};
-use crate::words::is_source;
+use command_input::accept::{accepted_of, answer_refused};
+use command_input::build::built;
+use command_input::named::SourceText;
+use command_input::refusal::{BuildFault, FilesFault, answer_files_fault, is_memory};
+use command_input::sources::{Loaded, load};
+use command_input::words::is_source;
 use eh_files::Files;
 use eh_port::{Bytes, Sink, Source};
 use frame_check::Accepted;

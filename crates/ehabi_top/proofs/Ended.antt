@@ -5,12 +5,12 @@ use Rattle.program_answers.specs.declared.stop.Stop.{Stop}
 use Rattle.ehabi_top.specs.Answered.{IsAnswer}
 use Rattle.program_answers.specs.Statuses.{IsReported}
 use Rattle.ehabi_commands.specs.Report.{Does, Why}
-use Rattle.ehabi_commands.specs.Words.{command_of}
+use Rattle.ehabi_commands.specs.command_input.Words.{command_of}
 use Rattle.program_answers.specs.Writes.{stop_status}
 use Rattle.program_answers.specs.Files.{FileState}
 use Rattle.ehabi_commands.specs.Yields.{Streams}
 use Rattle.program_answers.proofs.Stops.{some_more, none_of, inconclusive, bounded, read_is, write_is, memory_is, want}
-use Rattle.ehabi_commands.proofs.FilesAsked.{asks_more, asks_never}
+use Rattle.ehabi_commands.proofs.command_input.FilesAsked.{asks_more, asks_never}
 
 pub ended_well : (words : List (List ℕ)) (files files' : FileState) (old new : Streams) (status : ℕ) → Does (command_of words) files files' old new (Ok status) → IsAnswer words files files' old new status
 ended_well words files files' old new status d =

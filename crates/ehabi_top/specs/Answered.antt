@@ -3,10 +3,10 @@
 use Rattle.std.specs.Prelude.{ℕ, ◌≡◌, ◌≤◌, ◌↔◌, ◌⊎◌, true, List, None, IfSome}
 use Rattle.eh_port.specs.Causes.{Rose}
 use Rattle.program_answers.specs.declared.status.TheConstants.{USAGE, READ_FAILED, WRITE_FAILED, NO_MEMORY, FILE_UNAVAILABLE}
-use Rattle.ehabi_commands.specs.AsksFor.{AsksFor, files_named}
+use Rattle.ehabi_commands.specs.command_input.AsksFor.{AsksFor, files_named}
 use Rattle.program_answers.specs.Statuses.{is_conclusive}
 use Rattle.ehabi_commands.specs.Report.{Reports, IfTold, LacksFile, Refuses}
-use Rattle.ehabi_commands.specs.Words.{command_of}
+use Rattle.ehabi_commands.specs.command_input.Words.{command_of}
 use Rattle.program_answers.specs.Files.{FileState}
 use Rattle.ehabi_commands.specs.Yields.{Streams, NoFault, DoesWhole, DoesPart}
 

@@ -15,18 +15,18 @@ use Rattle.frame_check.specs.declared.fault.CheckFault.{CheckFault}
 use Rattle.frame_check.specs.declared.fault.CheckFault.TheVariants as check
 use Rattle.image_memory.specs.Start.{code_start}
 use Rattle.plain_run.specs.Machine.{flat_ran}
-use Rattle.ehabi_commands.specs.Accepting.{IsFound, IsRejected, check_fault_line, no_image_report, rejected_report, BytesReportsBy}
-use Rattle.ehabi_commands.proofs.BytesCases.{by_bytes}
+use Rattle.ehabi_commands.specs.command_input.Accepting.{IsFound, IsRejected, check_fault_line, no_image_report, rejected_report, BytesReportsBy}
+use Rattle.ehabi_commands.proofs.command_input.BytesCases.{by_bytes}
 use Rattle.report_lines.specs.Text.{after_blank, image_fault_line, refusal_line}
 use Rattle.ehabi_commands.specs.BuildReport.{plain_report, build_report}
-use Rattle.ehabi_commands.specs.Building.{found_text, file_of, files_of, built, or_refused, made_of_found, image_bytes}
+use Rattle.ehabi_commands.specs.command_input.Building.{found_text, file_of, files_of, built, or_refused, made_of_found, image_bytes}
 use Rattle.ehabi_commands.specs.CheckReport.{ChecksAccepted}
-use Rattle.ehabi_commands.specs.Finding.{bytes_of_answer, file_bytes, found_report, FoundReports}
+use Rattle.ehabi_commands.specs.command_input.Finding.{bytes_of_answer, file_bytes, found_report, FoundReports}
 use Rattle.ehabi_commands.specs.FlatReport.{code_report, flat_report}
 use Rattle.ehabi_commands.specs.GenerateReport.{CountsAccepted}
-use Rattle.ehabi_commands.specs.Loading.{Report}
+use Rattle.ehabi_commands.specs.command_input.Loading.{Report}
 use Rattle.ehabi_commands.specs.Report.{Reports}
-use Rattle.ehabi_commands.specs.Sources.{NamedText, Refusal, and_rest, all_answers}
+use Rattle.ehabi_commands.specs.command_input.Sources.{NamedText, Refusal, and_rest, all_answers}
 use Rattle.std.specs.Result.{result_map_both}
 use Rattle.eh_index.specs.Refusal.{index_refusal}
 use Rattle.eh_index.specs.declared.fault.IndexFault.{IndexFault}
@@ -41,13 +41,13 @@ use Rattle.gnu_translation.specs.Refusal.{translation_refusal}
 use Rattle.report_lines.specs.CheckText.{index_line}
 use Rattle.report_lines.specs.TablesText.{entry_name, tables_line}
 use Rattle.ehabi_commands.specs.GnuReport.{GnuAccepted, GnuBytesReports, Rewritten, by_image, by_index, by_tables, gnu_found, rewritten_bytes, rewritten_last, with_filters}
-use Rattle.ehabi_commands.specs.RefusalText.{schedule_line}
+use Rattle.ehabi_commands.specs.command_input.RefusalText.{schedule_line}
 use Rattle.ehabi_commands.specs.ThreadsReport.{ThreadsAccepted, ThreadsBytesReports, digits_of, is_image, last_file, no_file as empty_file, program_bytes, threaded_last, threaded_of, threads_found}
 use Rattle.thread_schedule.specs.Schedules.{schedule_of}
 use Rattle.ehabi_commands.specs.TaskReport.{TaskReports, DoesTask, RunBytesReports}
-use Rattle.ehabi_commands.specs.Words.{Command, FlatFile, BuildSources, CheckFile, CheckSources, RunFile, RunSources, RunGnu, RunThreads, GenerateProgram, is_source}
-use Rattle.ehabi_commands.specs.declared.words.Task.{Task}
-use Rattle.ehabi_commands.specs.declared.words.Task.TheVariants.{Run, Walk, Force}
+use Rattle.ehabi_commands.specs.command_input.Words.{Command, FlatFile, BuildSources, CheckFile, CheckSources, RunFile, RunSources, RunGnu, RunThreads, GenerateProgram, is_source}
+use Rattle.ehabi_commands.specs.command_input.declared.words.Task.{Task}
+use Rattle.ehabi_commands.specs.command_input.declared.words.Task.TheVariants.{Run, Walk, Force}
 use Rattle.report_laws.specs.Written.{ReportsAreWritten, RunEnds}
 use Rattle.report_laws.specs.Commands.{line_of, Told, SaysAccepted, SaysTask, SaysCounts, SaysGnu, SaysThreads, IsRefusedBy, lsda_line, lsda_name, OfFile, AreThere, OfSources, IsFirst, IsSource, program, ThreadsAreTold, CommandsAreTold}
 

@@ -26,7 +26,7 @@ use Rattle.accepted_laws.specs.OneReport.{ProgramsAreOne}
 use Rattle.ehabi_commands.specs.BothRuns.{bytes_events}
 use Rattle.ehabi_commands.specs.ForceReport.{accepted_force, by_site_end, force_report, forced_type, from_forced, preceded, unforced, IsRefusedForcing, IsUnforced}
 use Rattle.ehabi_commands.specs.GenerateReport.{summary_report}
-use Rattle.ehabi_commands.specs.Loading.{Report, Closing, closing_of, ran_report, status_of}
+use Rattle.ehabi_commands.specs.command_input.Loading.{Report, Closing, closing_of, ran_report, status_of}
 use Rattle.ehabi_commands.specs.RunReport.{accepted_report, run_report, trace}
 use Rattle.ehabi_commands.specs.TaskReport.{TaskReports}
 use Rattle.ehabi_commands.specs.Text.{trace_head, summary}
@@ -34,9 +34,9 @@ use Rattle.report_lines.specs.Text.{end_line}
 use Rattle.ehabi_commands.specs.WalkReport.{accepted_walk, walk_closing, walk_report, walked, walked_by}
 use Rattle.program_answers.specs.declared.status.TheConstants.{DONE}
 use Rattle.ehabi_commands.specs.declared.walk.TheConstants.{MOST_FRAMES}
-use Rattle.ehabi_commands.specs.declared.words.Task.{Task}
-use Rattle.ehabi_commands.specs.declared.words.Task.TheVariants.{Run, Walk, Force}
-use Rattle.ehabi_commands.specs.declared.words.TheConstants.{MOST_INSTRUCTIONS}
+use Rattle.ehabi_commands.specs.command_input.declared.words.Task.{Task}
+use Rattle.ehabi_commands.specs.command_input.declared.words.Task.TheVariants.{Run, Walk, Force}
+use Rattle.ehabi_commands.specs.command_input.declared.words.TheConstants.{MOST_INSTRUCTIONS}
 use Rattle.ehabi_commands.specs.ThreadsReport.{accepted_threads}
 use Rattle.ehabi_commands.specs.thread_run.Elements.{joint_over}
 use Rattle.ehabi_commands.specs.thread_run.Schedules.{Scheduled, schedule_run}

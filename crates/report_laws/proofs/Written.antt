@@ -23,12 +23,12 @@ use Rattle.image_memory.specs.Start.{code_start}
 use Rattle.plain_run.specs.Machine.{flat_ran}
 use Rattle.thumb_core.specs.declared.ends.End.{End}
 use Rattle.thumb_core.specs.declared.ends.End.TheVariants.{Exit, Terminate, Trap, Budget, ReadFault, WriteFault}
-use Rattle.ehabi_commands.specs.Finding.{file_bytes, bytes_of_answer}
+use Rattle.ehabi_commands.specs.command_input.Finding.{file_bytes, bytes_of_answer}
 use Rattle.ehabi_commands.specs.FlatReport.{code_report, line_feed}
 use Rattle.ehabi_commands.specs.ForceReport.{accepted_force, recorded_force_report, by_site_end, from_forced, preceded}
 use Rattle.ehabi_commands.specs.GenerateReport.{summary_report, recorded_summary, counted_report}
 use Rattle.ehabi_commands.specs.GnuReport.{gnu_report, recorded_gnu_report}
-use Rattle.ehabi_commands.specs.Loading.{Report, Closing, closing_of, ran_report, status_of}
+use Rattle.ehabi_commands.specs.command_input.Loading.{Report, Closing, closing_of, ran_report, status_of}
 use Rattle.ehabi_commands.specs.RunReport.{accepted_report, recorded_report, run_report}
 use Rattle.ehabi_commands.specs.ThreadsReport.{accepted_threads, recorded_threads_report}
 use Rattle.ehabi_commands.specs.thread_laws.RecordedThreads.{RecordedPlace}

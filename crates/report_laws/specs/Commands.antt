@@ -22,15 +22,15 @@ use Rattle.frame_check.specs.declared.fault.CheckFault.{CheckFault}
 use Rattle.frame_check.specs.declared.fault.CheckFault.TheVariants as check
 use Rattle.image_memory.specs.Start.{code_start}
 use Rattle.plain_run.specs.Machine.{flat_ran}
-use Rattle.ehabi_commands.specs.Building.{built}
+use Rattle.ehabi_commands.specs.command_input.Building.{built}
 use Rattle.report_lines.specs.CheckText.{index_line, cause_line, type_line}
 use Rattle.report_lines.specs.Text.{image_fault_line}
-use Rattle.ehabi_commands.specs.Loading.{Report}
+use Rattle.ehabi_commands.specs.command_input.Loading.{Report}
 use Rattle.ehabi_commands.specs.Report.{Reports}
-use Rattle.ehabi_commands.specs.Sources.{NamedText}
-use Rattle.ehabi_commands.specs.Words.{Command, FlatFile, BuildSources, CheckFile, CheckSources, RunFile, RunSources, RunGnu, RunThreads, GenerateProgram}
-use Rattle.ehabi_commands.specs.declared.words.Task.{Task}
-use Rattle.ehabi_commands.specs.declared.words.Task.TheVariants.{Run, Walk, Force}
+use Rattle.ehabi_commands.specs.command_input.Sources.{NamedText}
+use Rattle.ehabi_commands.specs.command_input.Words.{Command, FlatFile, BuildSources, CheckFile, CheckSources, RunFile, RunSources, RunGnu, RunThreads, GenerateProgram}
+use Rattle.ehabi_commands.specs.command_input.declared.words.Task.{Task}
+use Rattle.ehabi_commands.specs.command_input.declared.words.Task.TheVariants.{Run, Walk, Force}
 use Rattle.thread_schedule.specs.Schedules.{schedule_of}
 use Rattle.report_laws.specs.Written.{over_bytes, with_activations, IsOfBytes, RunEnds, IsRun, IsWalk, IsForce, IsThreads, IsRecordedThreads, IsGnu, IsRecordedGnu, IsCount, RefusesToStore}
 

@@ -3,10 +3,10 @@ use Rattle.std.specs.Prelude.{◌≡◌, ℕ, List}
 use Rattle.frame_check.specs.Accepts.{Accepted, IsSound}
 use Rattle.ehabi_commands.specs.ForceReport.{IsUnforced}
 use Rattle.ehabi_commands.specs.GenerateReport.{CountsAccepted}
-use Rattle.ehabi_commands.specs.Loading.{Report}
+use Rattle.ehabi_commands.specs.command_input.Loading.{Report}
 use Rattle.ehabi_commands.specs.TaskReport.{DoesTask}
 use Rattle.ehabi_commands.specs.ThreadsReport.{ThreadsAccepted}
-use Rattle.ehabi_commands.specs.declared.words.Request.{Request}
+use Rattle.ehabi_commands.specs.command_input.declared.words.Request.{Request}
 
 -- two reports of the checker are of one image
 pub record AreOfOne (x y : Accepted) : Type 0 where

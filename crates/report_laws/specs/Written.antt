@@ -35,12 +35,12 @@ use Rattle.thumb_core.specs.declared.ends.End.{End}
 use Rattle.thumb_core.specs.declared.ends.End.TheVariants.{Exit, Terminate, Trap, Budget, ReadFault, WriteFault}
 use Rattle.ehabi_commands.specs.BuildReport.{plain_report}
 use Rattle.ehabi_commands.specs.CheckReport.{ChecksAccepted}
-use Rattle.ehabi_commands.specs.Finding.{file_bytes}
+use Rattle.ehabi_commands.specs.command_input.Finding.{file_bytes}
 use Rattle.ehabi_commands.specs.FlatReport.{code_report}
 use Rattle.ehabi_commands.specs.ForceReport.{ForcesAccepted}
 use Rattle.ehabi_commands.specs.GenerateReport.{CountsAccepted}
 use Rattle.ehabi_commands.specs.GnuReport.{GnuAccepted}
-use Rattle.ehabi_commands.specs.Loading.{Report}
+use Rattle.ehabi_commands.specs.command_input.Loading.{Report}
 use Rattle.ehabi_commands.specs.Report.{Reports}
 use Rattle.ehabi_commands.specs.RunReport.{RunsAccepted}
 use Rattle.ehabi_commands.specs.ThreadsReport.{ThreadsAccepted}

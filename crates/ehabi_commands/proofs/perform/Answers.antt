@@ -1,4 +1,4 @@
-use Rattle.ehabi_commands.proofs.Asking.{asked_of}
+use Rattle.command_input.proofs.Asking.{asked_of}
 use Rattle.ehabi_commands.proofs.Doing.{usage_does}
 use Rattle.program_answers.specs.Words.{texts}
 use Rattle.program_answers.specs.Files.{file_state}

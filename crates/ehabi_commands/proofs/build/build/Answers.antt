@@ -1,6 +1,6 @@
 use Rattle.std.proofs.Common.{refl}
 use Rattle.ehabi_commands.specs.BuildReport.{IsUnwritten, plain_report}
-use Rattle.ehabi_commands.specs.Building.{image_bytes, refusal_of}
+use Rattle.command_input.specs.Building.{image_bytes, refusal_of}
 use Rattle.program_answers.specs.Words.{texts}
 use Rattle.ehabi_commands.specs.Yields.{Only, RefusedOf}
 use Rattle.program_answers.specs.declared.status.TheConstants.{DONE}

@@ -1,6 +1,6 @@
 use Rattle.std.proofs.Common.{◌∙◌, ap, length, refl}
 use Rattle.elf_image.specs.Image.{Image}
-use Rattle.ehabi_commands.specs.Accepting.{BytesReportsBy, IsUnaccepted}
+use Rattle.command_input.specs.Accepting.{BytesReportsBy, IsUnaccepted}
 use Rattle.ehabi_commands.specs.CheckReport.{ChecksAccepted}
 use Rattle.report_lines.specs.CheckText.{accepted_line}
 use Rattle.program_answers.specs.declared.status.TheConstants.{DONE}

@@ -1,8 +1,8 @@
 use Rattle.std.proofs.Common.{refl}
-use Rattle.ehabi_commands.specs.Building.{refusal_of}
-use Rattle.ehabi_commands.specs.Accepting.{BytesReportsBy, IsUnaccepted}
+use Rattle.command_input.specs.Building.{refusal_of}
+use Rattle.command_input.specs.Accepting.{BytesReportsBy, IsUnaccepted}
 use Rattle.ehabi_commands.specs.CheckReport.{ChecksAccepted}
-use Rattle.ehabi_commands.specs.Finding.{file_bytes}
+use Rattle.command_input.specs.Finding.{file_bytes}
 use Rattle.ehabi_commands.specs.Yields.{RefusedOf}
 use Rattle.ehabi_commands.proofs.Doing.{keeps_bytes, keeps_fault}
 use Rattle.ehabi_commands.proofs.Runners.{check_asks, check_leaves}

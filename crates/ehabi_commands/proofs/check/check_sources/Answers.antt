@@ -1,6 +1,6 @@
 use Rattle.std.proofs.Common.{refl}
-use Rattle.ehabi_commands.specs.Accepting.{BytesReportsBy, IsUnaccepted}
-use Rattle.ehabi_commands.specs.Building.{image_bytes, refusal_of}
+use Rattle.command_input.specs.Accepting.{BytesReportsBy, IsUnaccepted}
+use Rattle.command_input.specs.Building.{image_bytes, refusal_of}
 use Rattle.ehabi_commands.specs.CheckReport.{ChecksAccepted}
 use Rattle.program_answers.specs.Words.{texts}
 use Rattle.ehabi_commands.specs.Yields.{RefusedOf}

@@ -4,7 +4,7 @@ use Rattle.eh_bus.specs.declared.map.TheConstants.{MAX_IMAGE_SIZE}
 use Rattle.elf_image.specs.declared.fault.ImageFault.TheVariants.{TooLarge}
 use Rattle.plain_run.specs.Machine.{flat_machine}
 use Rattle.ehabi_commands.specs.FlatReport.{IsTooLarge, code_report, line_feed}
-use Rattle.ehabi_commands.specs.Loading.{closing_of}
+use Rattle.command_input.specs.Loading.{closing_of}
 use Rattle.report_lines.specs.Text.{image_fault_line}
 use Rattle.program_answers.specs.declared.status.TheConstants.{REFUSED}
 use Rattle.ehabi_commands.specs.Yields.{Only}

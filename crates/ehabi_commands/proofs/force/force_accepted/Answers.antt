@@ -5,7 +5,7 @@ use Rattle.eh_walk.specs.two_machines.Start.{start_of}
 use Rattle.eh_walk.specs.Reaching.{Onward, after, most_events, site_machine}
 use Rattle.ehabi_commands.specs.BothRuns.{bytes_events}
 use Rattle.ehabi_commands.specs.ForceReport.{ForcesAccepted, IsUnforced}
-use Rattle.ehabi_commands.specs.Loading.{closing_of}
+use Rattle.command_input.specs.Loading.{closing_of}
 use Rattle.ehabi_commands.specs.RunReport.{trace}
 use Rattle.ehabi_commands.specs.Yields.{RefusedOn}
 use Rattle.ehabi_commands.proofs.ForceReports.{begun, came, ended_before, forces_on, nothing_unforced}

@@ -4,10 +4,10 @@ use Rattle.eh_walk.specs.two_machines.Checked.{program_of}
 use Rattle.eh_walk.specs.two_machines.Machine.{machine_of}
 use Rattle.ehabi_commands.specs.BothRuns.{bytes_events}
 use Rattle.ehabi_commands.specs.ForceReport.{bytes_from_site, bytes_forced, IsRefusedForcing}
-use Rattle.ehabi_commands.specs.Loading.{closing_of}
+use Rattle.command_input.specs.Loading.{closing_of}
 use Rattle.ehabi_commands.specs.RunReport.{trace}
 use Rattle.ehabi_commands.specs.Yields.{Only}
-use Rattle.ehabi_commands.specs.declared.words.TheConstants.{MOST_INSTRUCTIONS}
+use Rattle.command_input.specs.declared.words.TheConstants.{MOST_INSTRUCTIONS}
 use Rattle.ehabi_commands.proofs.ForceReports.{went_on, not_refused, not_unwound}
 use Rattle.ehabi_commands.proofs.Statuses.{end_of_run}
 use Rattle.ehabi_commands.proofs.Yielding.{run_some, both_kept, yields_run}

@@ -1,5 +1,5 @@
 use Rattle.std.proofs.Common.{rules}
-use Rattle.ehabi_commands.specs.Building.{fault_line}
+use Rattle.command_input.specs.Building.{fault_line}
 use Rattle.ehabi_commands.specs.GenerateReport.{GenerateReports, IsUnfitProgram}
 use Rattle.ehabi_commands.proofs.Doing.{program_does}
 use Rattle.ehabi_commands.proofs.Programs.{program_built, program_refused}

@@ -1,5 +1,5 @@
 use Rattle.std.proofs.Common.{ℕ, List, [], ◌∷◌, refl}
-use Rattle.ehabi_commands.specs.Building.{refusal_of}
+use Rattle.command_input.specs.Building.{refusal_of}
 use Rattle.ehabi_commands.specs.GnuReport.{RefusesRewritten, GnuBytesReports, gnu_found}
 use Rattle.ehabi_commands.proofs.Doing.{does_bytes, does_fault}
 use Rattle.ehabi_commands.proofs.Runners.{gnu_asks, gnu_reads}

@@ -5,7 +5,7 @@ use Rattle.eh_walk.specs.two_machines.Start.{start_of}
 use Rattle.gnu_machine.specs.GnuMachine.{gnu_machine_of}
 use Rattle.ehabi_commands.specs.BothRuns.{bytes_events}
 use Rattle.ehabi_commands.specs.GnuReport.{GnuAccepted, gnu_report}
-use Rattle.ehabi_commands.specs.Loading.{closing_of}
+use Rattle.command_input.specs.Loading.{closing_of}
 use Rattle.ehabi_commands.specs.RunReport.{trace}
 use Rattle.ehabi_commands.proofs.GnuReports.{gnu_some, run_gnu}
 use Rattle.ehabi_commands.proofs.Statuses.{end_of_run}

@@ -1,4 +1,4 @@
-use Rattle.ehabi_commands.specs.Accepting.{BytesReportsBy, IsUnaccepted}
+use Rattle.command_input.specs.Accepting.{BytesReportsBy, IsUnaccepted}
 use Rattle.ehabi_commands.specs.GnuReport.{GnuAccepted}
 use Rattle.ehabi_commands.proofs.Judging.{found_yields, refused_yields}
 use Rattle.ehabi_commands.proofs.Yielding.{yields_memory}

@@ -1,7 +1,7 @@
 use Rattle.std.proofs.Common.{refl}
 use Rattle.ehabi_commands.specs.TaskReport.{RunBytesReports, RunBytesRefuse}
-use Rattle.ehabi_commands.specs.Finding.{file_bytes}
-use Rattle.ehabi_commands.specs.Building.{refusal_of}
+use Rattle.command_input.specs.Finding.{file_bytes}
+use Rattle.command_input.specs.Building.{refusal_of}
 use Rattle.ehabi_commands.proofs.Doing.{does_bytes, does_fault}
 use Rattle.ehabi_commands.proofs.Runners.{run_asks, run_reads}
 use Rattle.ehabi_commands.proofs.run.run.Goals as goal

@@ -4,7 +4,7 @@ use Rattle.eh_walk.specs.two_machines.Checked.{program_of}
 use Rattle.eh_walk.specs.two_machines.Machine.{machine_of}
 use Rattle.eh_walk.specs.two_machines.Start.{start_of}
 use Rattle.ehabi_commands.specs.BothRuns.{bytes_events}
-use Rattle.ehabi_commands.specs.Loading.{closing_of}
+use Rattle.command_input.specs.Loading.{closing_of}
 use Rattle.ehabi_commands.specs.RunReport.{RunsAccepted, accepted_report, trace}
 use Rattle.ehabi_commands.proofs.RunReports.{run_accepted}
 use Rattle.ehabi_commands.proofs.Statuses.{end_of_run}

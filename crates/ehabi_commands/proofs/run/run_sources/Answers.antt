@@ -1,7 +1,7 @@
 use Rattle.std.proofs.Common.{refl}
 use Rattle.ehabi_commands.specs.TaskReport.{RunBytesReports, RunBytesRefuse}
 use Rattle.program_answers.specs.Words.{texts}
-use Rattle.ehabi_commands.specs.Building.{image_bytes, refusal_of}
+use Rattle.command_input.specs.Building.{image_bytes, refusal_of}
 use Rattle.ehabi_commands.proofs.Doing.{does_bytes, does_fault}
 use Rattle.ehabi_commands.proofs.Runners.{sources_asks, sources_reads}
 use Rattle.ehabi_commands.proofs.run.run_sources.Goals as goal

@@ -1,5 +1,5 @@
 use Rattle.std.proofs.Common.{ap, sym, ◌∙◌, arith}
-use Rattle.ehabi_commands.specs.Sources.{NamedText}
+use Rattle.command_input.specs.Sources.{NamedText}
 use Rattle.ehabi_commands.proofs.Threading.{empty, last_of_none, last_popped}
 use Rattle.ehabi_commands.proofs.threads.last_bytes.Goals as goal
 

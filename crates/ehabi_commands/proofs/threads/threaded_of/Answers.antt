@@ -1,5 +1,5 @@
 use Rattle.std.proofs.lemmas.Result.{err_from_is_err_and}
-use Rattle.ehabi_commands.specs.Building.{fault_line}
+use Rattle.command_input.specs.Building.{fault_line}
 use Rattle.ehabi_commands.proofs.Threading.{both, no_bytes, no_digits}
 use Rattle.ehabi_commands.proofs.threads.threaded_of.Goals as goal
 

@@ -1,6 +1,6 @@
 use Rattle.std.proofs.Common.{refl}
 use Rattle.program_answers.specs.Words.{texts}
-use Rattle.ehabi_commands.specs.Building.{refusal_of}
+use Rattle.command_input.specs.Building.{refusal_of}
 use Rattle.ehabi_commands.specs.ThreadsReport.{RefusesThreaded, ThreadsBytesReports, threads_found}
 use Rattle.ehabi_commands.proofs.Doing.{does_bytes, does_fault}
 use Rattle.ehabi_commands.proofs.Runners.{threads_asks, threads_reads}

@@ -1,13 +1,13 @@
 use Rattle.std.proofs.Common.{Ok, Err, refl, rules}
 use Rattle.std.proofs.lemmas.Bool.{false≢true}
 use Rattle.std.proofs.lemmas.Result.{err_from_is_err_and}
-use Rattle.ehabi_commands.specs.Building.{fault_line}
+use Rattle.command_input.specs.Building.{fault_line}
 use Rattle.ehabi_commands.specs.ThreadsReport.{found_of, threads_found}
 use Rattle.program_answers.specs.Files.{missing_line, too_long_line}
 use Rattle.program_answers.specs.Words.{texts}
-use Rattle.ehabi_commands.specs.declared.refusal.FilesFault.TheVariants.{Missing, TooLong, Sources}
-use Rattle.ehabi_commands.proofs.Doing.{finds_ok}
-use Rattle.ehabi_commands.proofs.FilesAsked.{asks_more, asks_never}
+use Rattle.command_input.specs.declared.refusal.FilesFault.TheVariants.{Missing, TooLong, Sources}
+use Rattle.command_input.proofs.Finding.{finds_ok}
+use Rattle.command_input.proofs.FilesAsked.{asks_more, asks_never}
 use Rattle.ehabi_commands.proofs.Runners.{threads_made, threads_unavailable}
 use Rattle.ehabi_commands.proofs.threads.threads_found.Goals as goal
 

@@ -1,0 +1,9 @@
+pub mod Words
+pub mod Loading
+pub mod Sources
+pub mod RefusalText
+pub mod Building
+pub mod AsksFor
+pub mod Finding
+pub mod Accepting
+pub mod Laws
