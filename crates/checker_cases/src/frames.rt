@@ -74,7 +74,7 @@ fn say_solved(text: &mut Text, flow_graph: &FlowGraph, prologue: Prologue, pads:
     }
     match reach(text.alloc(), flow_graph) {
         Ok(reached) => {
-            let framed = Framed::new(flow_graph, prologue, pads, reached.reached());
+            let framed = Framed::new(flow_graph, &prologue, pads, reached.reached());
             say_solution(text, solve(text.alloc(), &framed));
         }
         Err(_fault) => text.refuse(Unanswered::Because("not reached")),

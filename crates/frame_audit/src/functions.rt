@@ -8,7 +8,7 @@ ghost use Rattle.frame_audit.specs.declared.functions.AuditMemory.TheVariants.{O
 
 use eh_index::Index;
 use elf_image::Function;
-use frame_check::{CheckFault, judge_function};
+use frame_check::{CheckFault, Room, judge_function};
 use frame_facts::FrameCause;
 use frame_graph::{Cover, FlowGraph, Unwinding};
 use std::alloc::{AllocError, AllocFailed, Global};
@@ -78,12 +78,20 @@ fn can_unwind(cover: &Cover, f: &Function) -> bool
 }
 
 /// Nothing of a function that is well, else an address and a cause that stands there.
-fn finding(alloc: Global, cover: &Cover, f: &Function) -> Result<Option<Unwell>, AuditMemory>
+fn finding(
+    alloc: Global,
+    room: &mut Room,
+    cover: &Cover,
+    f: &Function,
+) -> Result<Option<Unwell>, AuditMemory>
     requires { IsPlaced f.now }
     ensures { IfOk result (IsFinding (flow_graph_of cover.now f.now) f.now) }
 {
-    match judge_function(alloc, cover, f) {
-        Ok(_) => Ok(None),
+    match judge_function(alloc, room, cover, f) {
+        Ok(reached) => {
+            room.keep(reached);
+            Ok(None)
+        }
         Err(CheckFault::Function(r)) => Ok(Some(Unwell {
             at: r.at,
             cause: r.cause,
@@ -96,13 +104,14 @@ fn finding(alloc: Global, cover: &Cover, f: &Function) -> Result<Option<Unwell>,
 /// What is found of a function. The cover keeps the entry of its start.
 fn audit_function<'a>(
     alloc: Global,
+    room: &mut Room,
     cover: &Cover,
     f: &Function<'a>,
 ) -> Result<Audited<'a>, AuditMemory>
     requires { IsPlaced f.now }
     ensures { IfOk result (IsAudited cover.now f.now) }
 {
-    let unwell = finding(alloc, cover, f)?;
+    let unwell = finding(alloc, room, cover, f)?;
     Ok(Audited {
         name: f.name,
         start: f.start,
@@ -123,10 +132,10 @@ pub fn audit_functions<'a>(
 {
     let mut audited = Vec::new(alloc);
     let mut cover = Cover::new(alloc, index, profile);
+    let mut room = Room::new(alloc);
     for f in index.image().functions() {
-        let turned = cover.turned(alloc, f.start)?;
-        cover = turned.around(alloc, f.start, f.end)?;
-        let found = audit_function(alloc, &cover, f)?;
+        cover.turn(alloc, f.start, f.end)?;
+        let found = audit_function(alloc, &mut room, &cover, f)?;
         audited.push(found)?;
     }
     Ok(audited)

@@ -10,6 +10,10 @@ use Rattle.frame_facts.specs.declared.saves.Prologue.{Prologue}
 use Rattle.frame_facts.specs.declared.straight.Straight.{Straight}
 use Rattle.frame_facts.specs.Saves.{saves_of}
 use Rattle.frame_facts.specs.Prologues.{taken, begun}
+use Rattle.frame_reach.specs.Marks.{Marks}
+use Rattle.frame_reach.specs.Prologue.{places, lines}
+use Rattle.frame_graph.specs.FlowGraph.{FlowGraph}
+use Rattle.frame_check.specs.declared.pushes.PushAt.{PushAt}
 use Rattle.frame_check.specs.declared.pushes.Pushed.{Pushed}
 
 -- a PUSH of the run: its address, how many words it stores, and how many bytes the lowest of them lies below the CFA
@@ -27,6 +31,19 @@ unfoldable pub pushings : Straight → List (Instr × ℕ) → List Pushing
 pushings s [] = []
 pushings s (line ∷ more) = option_map_or (λ t. pushing s line.0 ++ pushings t more) (taken s line.0 line.1) []
 
+-- the PUSHes of a function's prologue
+abbrev pub pushings_of : FlowGraph → Marks → List Pushing
+pushings_of s m = pushings (begun s.start) (lines s m.target (places s) 0)
+
+-- ---- the same by their lists, while the prologue isn't known whole
+
+abbrev pub counted : PushAt → Pushing
+counted x = record { at = x.at; lowest = x.lowest; words = length (listed x.list) }
+
+abbrev pub push_at : Straight → Instr → List PushAt
+push_at s (Push list) = record { at = s.prologue.end; lowest = s.fact.depth + 4 * length (listed list); list = list } ∷ []
+push_at s i = []
+
 -- ---- their saves
 
 -- a save lies so many bytes below the CFA
@@ -43,6 +60,9 @@ word_bits p lowest (suc k) = word_bits p lowest k + word_bit p lowest k
 
 abbrev pub marked : Prologue → Pushing → Pushed
 marked p x = record { at = x.at; saves = word_bits p x.lowest x.words }
+
+abbrev pub told : Prologue → PushAt → Pushed
+told p x = marked p (counted x)
 
 -- the PUSHes of a function by the instructions from its start on, with the words of each that are saves of the prologue
 unfoldable pub pushes_of : Prologue → ℕ → List (Instr × ℕ) → List Pushed

@@ -1,5 +1,5 @@
 //! Checking an image. docs/checking.md.
-ghost use Rattle.std.specs.Prelude.{◌≡◌, ◌≢◌, ◌<◌, All, IfOk, IfErr, OnOk};
+ghost use Rattle.std.specs.Prelude.{◌≡◌, ◌≢◌, ◌<◌, map, All, IfOk, IfErr, OnOk};
 ghost use Rattle.eh_types.specs.Meant.{IsGraph};
 ghost use Rattle.image_memory.specs.Profiles.{profile_of};
 ghost use Rattle.frame_reach.specs.Held.{marks_of};
@@ -9,12 +9,14 @@ ghost use Rattle.frame_check.specs.declared.fault.CheckFault.TheVariants.{OutOfM
 ghost use Rattle.frame_check.specs.Roots.{flow_graph_of, roots_of};
 ghost use Rattle.frame_check.specs.Accepts.{AreBytes, IsWell, AreWell, AreRoles, IsSound, IsAccepted, Refuses};
 ghost use Rattle.frame_check.specs.Judged.{IsJudged, RefusesOne, RefusesFunctions, RefusesTypes, IsTaken, IsPlaced};
+ghost use Rattle.frame_check.specs.Pushes.{counted, pushings_of};
 
 use crate::accepted::Accepted;
 use crate::fault::{CheckFault, Rejected};
 use crate::judge::{Well, judge};
 use crate::marking::mark;
 use crate::roles::Roles;
+use crate::room::Room;
 use crate::roots::roots_of;
 use eh_index::Index;
 use eh_types::{TypeFault, TypeGraph};
@@ -58,15 +60,21 @@ fn rejected(alloc: Global, flow_graph: &FlowGraph, f: &Function, fault: FrameFau
 }
 
 /// Judges one function: what is found of it where it is well, else its name, an address and a cause that stands there.
-fn judged(alloc: Global, flow_graph: &FlowGraph, f: &Function) -> Result<Well, CheckFault>
+fn judged(
+    alloc: Global,
+    room: &mut Room,
+    flow_graph: &FlowGraph,
+    f: &Function,
+) -> Result<Well, CheckFault>
     requires placed { IsPlaced f.now }
     requires flow_graph { flow_graph.now ≡ flow_graph_of flow_graph.now.image f.now }
     ensures marks { IfOk result (λ w. AreMarks flow_graph.now (marks_of w.reached)) }
     ensures prologue { IfOk result (λ w. w.prologue ≡ prologue flow_graph.now (marks_of w.reached)) }
+    ensures pushes { IfOk result (λ w. map counted room.new.pushes.items ≡ pushings_of flow_graph.now (marks_of w.reached)) }
     ensures well { IfOk result (λ _. IsWell flow_graph.now) }
     ensures refused { IfErr result (RefusesOne flow_graph.now.image f.now) }
 {
-    match judge(alloc, flow_graph) {
+    match judge(alloc, room, flow_graph) {
         Err(fault) => Err(rejected(alloc, flow_graph, f, fault)),
         Ok(well) => Ok(well),
     }
@@ -74,14 +82,19 @@ fn judged(alloc: Global, flow_graph: &FlowGraph, f: &Function) -> Result<Well, C
 
 /// Judges one function, and marks nothing: its reached places where it is well, else its name, an address and a cause that stands there.
 /// The cover keeps the entry of its start.
-pub fn judge_function(alloc: Global, cover: &Cover, f: &Function) -> Result<Reached, CheckFault>
+pub fn judge_function(
+    alloc: Global,
+    room: &mut Room,
+    cover: &Cover,
+    f: &Function,
+) -> Result<Reached, CheckFault>
     requires { IsPlaced f.now }
     ensures marks { IfOk result (λ reached. AreMarks (flow_graph_of cover.now f.now) (marks_of reached)) }
     ensures well { IfOk result (λ _. IsWell (flow_graph_of cover.now f.now)) }
     ensures refused { IfErr result (RefusesOne cover.now f.now) }
 {
     let flow_graph = FlowGraph::under(cover, f.start, f.end);
-    match judged(alloc, &flow_graph, f) {
+    match judged(alloc, room, &flow_graph, f) {
         Err(fault) => Err(fault),
         Ok(well) => Ok(well.reached),
     }
@@ -90,6 +103,7 @@ pub fn judge_function(alloc: Global, cover: &Cover, f: &Function) -> Result<Reac
 /// Checks a function, and marks its addresses where it is well. The cover keeps the entry of its start.
 fn check_function(
     alloc: Global,
+    room: &mut Room,
     roles: &mut Roles,
     cover: &Cover,
     f: &Function,
@@ -99,9 +113,13 @@ fn check_function(
     ensures refused { IfErr result (RefusesOne cover.now f.now) }
 {
     let flow_graph = FlowGraph::under(cover, f.start, f.end);
-    match judged(alloc, &flow_graph, f) {
+    match judged(alloc, room, &flow_graph, f) {
         Err(fault) => Err(fault),
-        Ok(well) => Ok(mark(alloc, roles, &flow_graph, &well.reached, &well.prologue)?),
+        Ok(well) => {
+            mark(room, roles, &flow_graph, &well)?;
+            room.keep(well.reached);
+            Ok(())
+        }
     }
 }
 
@@ -114,10 +132,10 @@ fn check_functions(alloc: Global, index: &Index, profile: Profile) -> Result<Rol
 {
     let mut roles = Roles::new(alloc);
     let mut cover = Cover::new(alloc, index, profile);
+    let mut room = Room::new(alloc);
     for f in index.image().functions() {
-        let turned = cover.turned(alloc, f.start)?;
-        cover = turned.around(alloc, f.start, f.end)?;
-        match check_function(alloc, &mut roles, &cover, f) {
+        cover.turn(alloc, f.start, f.end)?;
+        match check_function(alloc, &mut room, &mut roles, &cover, f) {
             Ok(()) => {}
             Err(fault) => return Err(fault),
         }

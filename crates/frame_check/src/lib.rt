@@ -10,6 +10,7 @@ pub mod laws;
 mod marking;
 pub mod pushes;
 pub mod roles;
+pub mod room;
 pub mod roots;
 mod walk;
 
@@ -17,3 +18,4 @@ pub use accepted::Accepted;
 pub use checking::{check, judge_function, types_of};
 pub use fault::{CheckFault, Rejected};
 pub use roles::Role;
+pub use room::Room;

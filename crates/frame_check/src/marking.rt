@@ -1,18 +1,18 @@
 //! What a run asks of the addresses of a function, put into the roles. docs/checking.md, "Look-ups".
-ghost use Rattle.std.specs.Prelude.{◌≡◌, ℕ, ◌+◌, ◌*◌, ◌%◌, ◌^◌, ◌<◌, ◌≤◌, ◌∷◌, [], All, Contains, OnOk};
+ghost use Rattle.std.specs.Prelude.{◌≡◌, ℕ, ◌+◌, ◌*◌, ◌%◌, ◌^◌, ◌<◌, ◌≤◌, ◌∷◌, [], map, All, Contains, OnOk};
 ghost use Rattle.frame_reach.specs.Marks.{AreMarks};
 ghost use Rattle.frame_reach.specs.Held.{is_set, marks_of};
 ghost use Rattle.frame_reach.specs.Prologue.{prologue};
 ghost use Rattle.frame_check.specs.declared.pushes.Pushed.{Pushed as Push};
+ghost use Rattle.frame_check.specs.Pushes.{counted, pushings_of};
 ghost use Rattle.frame_check.specs.Marking.{with_instr, with_lowers, with_start, with_saves, Turned, AreInstrs, AreLowered, AreSaved, IsMarked};
 
-use crate::pushes::Pushed;
+use crate::judge::Well;
+use crate::pushes::{Pushed, tell};
 use crate::roles::Roles;
-use crate::walk::pushes_of;
-use frame_facts::Prologue;
+use crate::room::Room;
 use frame_graph::FlowGraph;
-use frame_reach::Reached;
-use std::alloc::{AllocError, Global};
+use std::alloc::AllocError;
 
 /// Marks an address as a checked instruction.
 fn mark_instr(roles: &mut Roles, a: u32) -> Result<(), AllocError>
@@ -112,26 +112,26 @@ fn mark_pushes(roles: &mut Roles, pushes: &[Pushed]) -> Result<(), AllocError>
     Ok(())
 }
 
-/// Marks the checked instructions of a function, its lowering places, its start, and its prologue's saves.
+/// Marks the checked instructions of a function, its lowering places, its start, and its prologue's saves. The room has its PUSHes.
 pub(crate) fn mark(
-    alloc: Global,
+    room: &mut Room,
     roles: &mut Roles,
     flow_graph: &FlowGraph,
-    reached: &Reached,
-    p: &Prologue,
+    well: &Well,
 ) -> Result<(), AllocError>
     requires even { flow_graph.now.start % 2 ≡ 0 }
-    requires prologue { p.now ≡ prologue flow_graph.now (marks_of reached.now) }
+    requires prologue { well.now.prologue ≡ prologue flow_graph.now (marks_of well.now.reached) }
+    requires pushes { map counted room.old.pushes.items ≡ pushings_of flow_graph.now (marks_of well.now.reached) }
     requires some { flow_graph.now.start < flow_graph.now.end }
     requires low { flow_graph.now.end + 4 ≤ 2 ^ 32 }
-    requires marks { AreMarks flow_graph.now (marks_of reached.now) }
-    ensures { OnOk result (IsMarked flow_graph.now (marks_of reached.now) roles.old roles.new) }
+    requires marks { AreMarks flow_graph.now (marks_of well.now.reached) }
+    ensures { OnOk result (IsMarked flow_graph.now (marks_of well.now.reached) roles.old roles.new) }
 {
     let _end = flow_graph.end();
-    let found = reached.places();
+    let found = well.reached.places();
     mark_places(roles, flow_graph, found)?;
-    mark_lowerings(roles, flow_graph, reached.reached(), found)?;
+    mark_lowerings(roles, flow_graph, well.reached.reached(), found)?;
     mark_start(roles, flow_graph.start())?;
-    let pushes = pushes_of(alloc, flow_graph, reached, p)?;
-    mark_pushes(roles, &pushes)
+    tell(&mut room.pushed, &well.prologue, &room.pushes)?;
+    mark_pushes(roles, &room.pushed)
 }

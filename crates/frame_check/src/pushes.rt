@@ -1,14 +1,25 @@
 //! Which of the words that the PUSHes of a prologue store are its saves. docs/checking.md, "Saves".
-ghost use Rattle.std.specs.Prelude.{◌≡◌, ◌+◌, ◌-◌, ◌*◌, ◌^◌, ◌<◌, ◌≤◌, ◌++◌, length, map, OnOk, ◌==◌};
-ghost use Rattle.thumb_core.specs.Words.{listed};
+ghost use Rattle.std.specs.Prelude.{◌≡◌, ◌-◌, ◌*◌, ◌^◌, ◌<◌, ◌≤◌, ◌++◌, map, OnOk, ◌==◌};
 ghost use Rattle.frame_facts.specs.declared.facts.TheConstants.{DEEPEST};
 ghost use Rattle.frame_facts.specs.Saves.{saves_of};
-ghost use Rattle.frame_check.specs.Pushes.{is_saved, word_bit, word_bits, pushing, marked};
+ghost use Rattle.frame_check.specs.Pushes.{is_saved, word_bit, word_bits, push_at, told};
 
+use frame_facts::lists::words_of;
 use frame_facts::saves::{Prologue, Save};
 use frame_facts::straight::Straight;
 use std::alloc::AllocError;
 use thumb_isa::instr::Instr;
+
+/// A PUSH of a prologue that isn't known whole yet.
+#[derive(Clone, Copy)]
+pub struct PushAt {
+    /// Its address, in bytes.
+    pub at: u32,
+    /// How many bytes the lowest word that it stores lies below the CFA.
+    pub lowest: u32,
+    /// Its registers.
+    pub list: u16,
+}
 
 /// A PUSH of a prologue.
 #[derive(Clone, Copy)]
@@ -17,20 +28,6 @@ pub struct Pushed {
     pub at: u32,
     /// Which of the words that it stores are saves: bit k stands for word k, counted from the lowest address.
     pub saves: u16,
-}
-
-/// How many registers a list has.
-fn words_of(list: u16) -> u32
-    ensures words { result ≡ length (listed list) }
-    ensures few { result ≤ 16 }
-{
-    let mut words = 0;
-    for k in 0..16u8 {
-        if (list >> k) & 1 == 1 {
-            words += 1;
-        }
-    }
-    words
 }
 
 /// The saves of a prologue.
@@ -82,21 +79,44 @@ fn word_bits(p: &Prologue, lowest: u32, words: u32) -> u16
 
 /// Adds an instruction that stands after a run, where it is a PUSH.
 pub(crate) fn add_push(
-    pushes: &mut Vec<Pushed>,
-    p: &Prologue,
+    pushes: &mut Vec<PushAt>,
     run: &Straight,
     i: &Instr,
 ) -> Result<(), AllocError>
     requires { run.now.fact.depth ≤ DEEPEST }
-    ensures { OnOk result (pushes.new.items ≡ pushes.old.items ++ map (marked p.now) (pushing run.now i.now)) }
+    ensures { OnOk result (pushes.new.items ≡ pushes.old.items ++ push_at run.now i.now) }
 {
     if let Instr::Push { list } = *i {
-        let words = words_of(list);
-        let lowest = run.fact.depth + 4 * words;
-        pushes.push(Pushed {
+        pushes.push(PushAt {
             at: run.prologue.end,
-            saves: word_bits(p, lowest, words),
+            lowest: run.fact.depth + 4 * words_of(list),
+            list,
         })?;
+    }
+    Ok(())
+}
+
+/// What is told of a PUSH of a prologue.
+fn told(p: &Prologue, push: &PushAt) -> Pushed
+    ensures { result ≡ told p.now push.now }
+{
+    Pushed {
+        at: push.at,
+        saves: word_bits(p, push.lowest, words_of(push.list)),
+    }
+}
+
+/// Puts what is told of the PUSHes of a prologue into a list, in place of what it held.
+pub(crate) fn tell(
+    into: &mut Vec<Pushed>,
+    p: &Prologue,
+    pushes: &[PushAt],
+) -> Result<(), AllocError>
+    ensures { OnOk result (into.new.items ≡ map (told p.now) pushes.now) }
+{
+    into.clear();
+    for push in pushes {
+        into.push(told(p, push))?;
     }
     Ok(())
 }

@@ -1,5 +1,6 @@
 -- A table of facts by slots, as a list place by place.
-use Rattle.std.proofs.Common.{ℕ, ◌≡◌, ◌<◌, ◌+◌, List, [], ◌∷◌, ◌++◌, length, get_or, set, replicate, Option, Some, None, zero, suc, sym, ◌∙◌, ap, subst, refl, ⊎_elim, arith}
+use Rattle.std.proofs.Common.{ℕ, ◌≡◌, ◌<◌, ◌+◌, ◌-◌, List, [], ◌∷◌, ◌++◌, length, get_or, set, replicate, take, cond, Option, Some, None, Result, Ok, Err, zero, suc, sym, ◌∙◌, ap, subst, refl, ⊎_elim, arith}
+use Rattle.std.specs.Prelude.{OnOk, is_ok}
 use Rattle.std.proofs.lemmas.Bool.{cases_eq}
 use Rattle.std.proofs.lemmas.Option.{same_Some, none-some}
 use Rattle.std.proofs.lemmas.List.{same_lists, get_or_read, get_or-set_same, get_or-set_other, length-set, length-append}
@@ -141,8 +142,31 @@ new_table slots known p f t l = record {
 
 -- ---- as calls see them
 
-pub new_is : (slots : List (Option ℕ)) (n : ℕ) (known : List Known) → slots ≡ replicate n None → table slots known ≡ replicate n None
+new_is : (slots : List (Option ℕ)) (n : ℕ) (known : List Known) → slots ≡ replicate n None → table slots known ≡ replicate n None
 new_is slots n known e = ap (λ (l : List (Option ℕ)). table l known) e ∙ none_known n known
+
+none_taken : (n : ℕ) (none : List (Option ℕ)) → none ≡ [] → take n none ≡ []
+none_taken zero none e = refl
+none_taken (suc n) none e = ap (take (suc n)) e
+
+empty_slots : (before slots : List (Option ℕ)) (n m : ℕ) → before ≡ [] → m ≡ 0 → slots ≡ take n before ++ replicate (n - m) None → slots ≡ replicate n None
+empty_slots before slots n m e z is =
+    let rest : n - m ≡ n = omega (arith, z) in
+    is
+    ∙ (ap (λ (l : List (Option ℕ)). l ++ replicate (n - m) None) (none_taken n before e)
+    ∙ ap (λ (k : ℕ). let l : List (Option ℕ) = replicate k None in l) rest)
+
+-- a table that is made anew has no fact, whether or not memory runs out
+pub blank_table : {E : Type 0} (before slots : List (Option ℕ)) (known : List Known) (n m : ℕ) (r : Result (Unit {0}) E) → before ≡ [] → m ≡ 0
+    → slots ≡ cond (is_ok r) (take n before ++ replicate (n - m) None) before → IsTable slots known
+blank_table before slots known n m (Ok u) e z is = none_is_table slots n known (empty_slots before slots n m e z is)
+blank_table before slots known n m (Err fault) e z is = none_is_table slots 0 known (is ∙ e)
+
+-- .. and has as many places as are asked for where it doesn't
+pub blank_is : {E : Type 0} (before slots : List (Option ℕ)) (known : List Known) (n m : ℕ) (r : Result (Unit {0}) E) → before ≡ [] → m ≡ 0
+    → slots ≡ cond (is_ok r) (take n before ++ replicate (n - m) None) before → OnOk r (table slots known ≡ replicate n None)
+blank_is before slots known n m (Ok u) e z is = new_is slots n known (empty_slots before slots n m e z is)
+blank_is before slots known n m (Err fault) e z is = tt
 
 pub slot_here : (slots : List (Option ℕ)) (p : ℕ) (x o : Option ℕ) → p < length slots → x ≡ get_or slots p x → x ≡ o → get_or slots p None ≡ o
 slot_here slots p x o l e is = sym (get_or_read slots p x l e None) ∙ is

@@ -35,7 +35,7 @@ impl<'f, 's, 'i, 'a> Framed<'f, 's, 'i, 'a> {
         ensures { result ≡ by_first (unwound self.now.prologue unwinding.now call fact.now) tt }
     {
         match unwinding {
-            Unwinding::Finds(recipe) => agrees(fact, &self.prologue, recipe, call),
+            Unwinding::Finds(recipe) => agrees(fact, self.prologue, recipe, call),
             Unwinding::Refused | Unwinding::BadBytecode | Unwinding::GenericModel => {
                 if call && fact.depth < 4 {
                     Err(FrameCause::CallState { reg: LR })
@@ -140,7 +140,7 @@ impl<'f, 's, 'i, 'a> Framed<'f, 's, 'i, 'a> {
             next,
             &i,
             self.flow_graph.address_of(place),
-            &self.prologue,
+            self.prologue,
             self.lowers_at(place, &i),
         ) {
             Err(cause) => Err(cause),

@@ -1,5 +1,5 @@
 //! The facts of a function's places while they are found. docs/acceptance.md, "The facts of a function".
-ghost use Rattle.std.specs.Prelude.{◌≡◌, ◌<◌, List, Option, Some, None, length, replicate, slice_set, slice_index_or, option_copied, IfOk, OnOk};
+ghost use Rattle.std.specs.Prelude.{◌≡◌, ◌<◌, [], List, Option, Some, None, length, replicate, slice_set, slice_index_or, option_copied, OnOk};
 ghost use Rattle.flow.specs.Flow.{fact_at};
 
 use frame_facts::Fact;
@@ -32,26 +32,24 @@ impl Model for Facts {
     ghost invariant = { λ f. IsTable f.slots.items f.known.items };
 }
 
-/// Slots of so many places, none of which leads to a fact.
-fn no_slots(alloc: Global, count: u32) -> Result<Vec<Option<u32>>, AllocError>
-    ensures { IfOk result (λ slots. slots.items ≡ replicate count None) }
-{
-    let mut slots = Vec::with_capacity(alloc, count as usize)?;
-    for i in 0..count {
-        slots.push(None)?;
-    }
-    Ok(slots)
-}
-
 impl Facts {
-    /// A table for so many places, in which none has a fact.
-    pub(crate) fn new(alloc: Global, count: u32) -> Result<Facts, AllocError>
-        ensures { IfOk result (λ facts. facts ≡ replicate count None) }
+    /// A table of no places.
+    pub(crate) fn none(alloc: Global) -> Facts
+        ensures { result ≡ [] }
     {
-        Ok(Facts {
-            slots: no_slots(alloc, count)?,
+        Facts {
+            slots: Vec::new(alloc),
             known: Vec::new(alloc),
-        })
+        }
+    }
+
+    /// Makes it a table for so many places, in which none has a fact, in the room that it has.
+    pub(crate) fn blank(&mut self, count: u32) -> Result<(), AllocError>
+        ensures { OnOk result (self.new ≡ replicate count None) }
+    {
+        self.slots.clear();
+        self.known.clear();
+        self.slots.resize(count as usize, None)
     }
 
     /// The fact of a place. It is lent.

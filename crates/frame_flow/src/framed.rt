@@ -11,7 +11,7 @@ use std::marker::Model;
 #[derive(Drop)]
 pub struct Framed<'f, 's, 'i, 'a> {
     pub(crate) flow_graph: &'f FlowGraph<'s, 'i, 'a>,
-    pub(crate) prologue: Prologue,
+    pub(crate) prologue: &'f Prologue,
     pub(crate) pads: &'f [bool],
     pub(crate) reached: &'f [bool],
 }
@@ -21,18 +21,18 @@ impl<'f, 's, 'i, 'a> Model for Framed<'f, 's, 'i, 'a> {
 
     ghost Value = { Parts };
 
-    ghost view = { λ f. record { flow_graph = f.flow_graph.now; prologue = f.prologue; pads = f.pads.now; reached = f.reached.now } };
+    ghost view = { λ f. record { flow_graph = f.flow_graph.now; prologue = f.prologue.now; pads = f.pads.now; reached = f.reached.now } };
 }
 
 impl<'f, 's, 'i, 'a> Framed<'f, 's, 'i, 'a> {
     /// The function of a flow graph with its prologue, its pads and the places that are reached.
     pub fn new(
         flow_graph: &'f FlowGraph<'s, 'i, 'a>,
-        prologue: Prologue,
+        prologue: &'f Prologue,
         pads: &'f [bool],
         reached: &'f [bool],
     ) -> Framed<'f, 's, 'i, 'a>
-        ensures { result ≡ record { flow_graph = flow_graph.entry.now; prologue = prologue; pads = pads.entry.now; reached = reached.entry.now } }
+        ensures { result ≡ record { flow_graph = flow_graph.entry.now; prologue = prologue.entry.now; pads = pads.entry.now; reached = reached.entry.now } }
     {
         Framed {
             flow_graph,

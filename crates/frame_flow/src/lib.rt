@@ -9,4 +9,4 @@ pub mod laws;
 pub mod work;
 
 pub use framed::Framed;
-pub use work::{FrameFault, solve};
+pub use work::{FrameFault, SolveRoom, solve, solve_in};

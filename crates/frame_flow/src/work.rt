@@ -13,6 +13,27 @@ use frame_facts::{Fact, FrameCause, clobber, entry_fact, join, stays};
 use frame_graph::{Edge, Stretch};
 use std::alloc::Global;
 
+/// Lists that a search for facts fills. What they hold before doesn't matter: they are lent as room, from one function to the next.
+#[derive(Drop)]
+pub struct SolveRoom {
+    facts: Facts,
+    work: Vec<u32>,
+    edges: Vec<Edge>,
+    stretch: Stretch,
+}
+
+impl SolveRoom {
+    /// It has no memory yet.
+    pub fn new(alloc: Global) -> SolveRoom {
+        SolveRoom {
+            facts: Facts::none(alloc),
+            work: Vec::new(alloc),
+            edges: Vec::new(alloc),
+            stretch: Stretch::new(alloc),
+        }
+    }
+}
+
 /// Why a function has no valid facts, or why none were found.
 #[derive(Clone, Copy)]
 pub enum FrameFault {
@@ -147,22 +168,40 @@ pub fn solve(alloc: Global, x: &Framed) -> Result<(), FrameFault>
     ensures refused { IfErr result (FaultStands (framed_of x.now)) }
     ensures lacks { IfErr result (LacksFacts (framed_of x.now)) }
 {
+    let mut room = SolveRoom::new(alloc);
+    solve_in(alloc, &mut room, x)
+}
+
+/// The same in room that is lent.
+pub fn solve_in(alloc: Global, room: &mut SolveRoom, x: &Framed) -> Result<(), FrameFault>
+    requires { x.now.flow_graph.start < x.now.flow_graph.end }
+    ensures accepted { IfOk result (λ _. HasFacts (framed_of x.now)) }
+    ensures clear { IfOk result (λ _. NoneStands (framed_of x.now)) }
+    ensures refused { IfErr result (FaultStands (framed_of x.now)) }
+    ensures lacks { IfErr result (LacksFacts (framed_of x.now)) }
+{
     let count = (x.flow_graph.end() - x.flow_graph.start()).div_ceil(2);
-    let Ok(mut facts) = Facts::new(alloc, count) else {
-        return Err(FrameFault::OutOfMemory);
-    };
-    let mut work = Vec::new(alloc);
+    match room.facts.blank(count) {
+        Ok(()) => {}
+        Err(_) => return Err(FrameFault::OutOfMemory),
+    }
+    room.work.clear();
+    room.stretch.forget();
     let mut next = entry_fact();
-    put(&mut facts, &mut work, 0, &next)?;
-    let mut stretch = Stretch::new(alloc);
-    let mut edges = Vec::new(alloc);
-    while let Some(place) = work.pop() {
-        match x.flow_graph.turn_stretch(alloc, &mut stretch, place) {
+    put(&mut room.facts, &mut room.work, 0, &next)?;
+    while let Some(place) = room.work.pop() {
+        match x.flow_graph.turn_stretch(alloc, &mut room.stretch, place) {
             Ok(()) => {}
             Err(_) => return Err(FrameFault::OutOfMemory),
         }
         match visit(
-            x, &mut facts, &mut work, &mut edges, &mut next, &stretch, place,
+            x,
+            &mut room.facts,
+            &mut room.work,
+            &mut room.edges,
+            &mut next,
+            &room.stretch,
+            place,
         ) {
             Ok(()) => {}
             Err(fault) => return Err(fault),

@@ -2,7 +2,9 @@
 //! docs/flow-graphs.md, "Sites".
 ghost use Rattle.std.specs.Prelude.{◌≡◌, ◌++◌, Some, true, IfOk, OnOk, IfSome};
 ghost use Rattle.std.specs.List.{list_any, filter};
+ghost use Rattle.eh_index.specs.Covering.{covering};
 ghost use Rattle.eh_index.specs.Places.{table_of};
+ghost use Rattle.eh_index.specs.Rows.{entries_of};
 ghost use Rattle.eh_desc.specs.Grammar.{items_of};
 ghost use Rattle.image_memory.specs.Profiles.{profile_of};
 ghost use Rattle.frame_graph.specs.Sites.{is_fault};
@@ -61,14 +63,38 @@ pub(crate) fn is_entry(kept: Option<Entry>, e: &Entry) -> bool
     }
 }
 
-/// The address, where the entry that is kept covers it.
-fn covered(index: &Index, kept: Option<Entry>, a: u32) -> Option<u32>
-    ensures covers { CoversTo index.now kept result }
-    ensures same { IfSome result (λ last. last ≡ a) }
+/// The address, where the entry that covers it is told and is the one that is kept.
+fn covered(index: &Index, kept: Option<Entry>, told: Option<Entry>, a: u32) -> Option<u32>
+    requires { IfSome told (λ e. covering (entries_of index.now) a ≡ Some e) }
+    ensures { CoversTo index.now kept result }
 {
-    match index.find(a) {
+    match told {
         None => None,
         Some(e) => { if is_entry(kept, &e) { Some(a) } else { None } }
+    }
+}
+
+/// The entry that covers the last address of a function, where it begins at the first one or below it, so that it covers all of them.
+fn whole_entry(index: &Index, function: &Span) -> Option<Entry>
+    ensures { IfSome result (λ e. covering (entries_of index.now) function.now.last ≡ Some e) }
+{
+    match index.find(function.last) {
+        None => None,
+        Some(e) => {
+            if e.start <= function.low {
+                Some(e)
+            } else {
+                None
+            }
+        }
+    }
+}
+
+/// The addresses of a function, by its first one and the first one above it.
+fn span_of(start: u32, end: u32) -> Span {
+    Span {
+        low: start,
+        last: end.saturating_sub(1).max(start),
     }
 }
 
@@ -193,30 +219,35 @@ impl<'s, 'i, 'a> Cover<'s, 'i, 'a> {
         Ok(())
     }
 
-    /// Turns it to the entry that covers an address. That is read only where another one is kept.
-    pub fn turn(&mut self, a: u32) -> Result<(), AllocError>
+    /// Keeps an entry. It is read only where another one is kept.
+    fn keep(&mut self, e: Entry) -> Result<(), AllocError>
+        ensures { self.new ≡ self.old }
+    {
+        if is_entry(self.entry, &e) {
+            Ok(())
+        } else {
+            self.read(e)
+        }
+    }
+
+    /// Keeps the entry that covers an address.
+    fn keep_at(&mut self, a: u32) -> Result<(), AllocError>
         ensures { self.new ≡ self.old }
     {
         match self.index.find(a) {
             None => Ok(()),
-            Some(e) => {
-                if is_entry(self.entry, &e) {
-                    Ok(())
-                } else {
-                    self.read(e)
-                }
-            }
+            Some(e) => self.keep(e),
         }
     }
 
-    /// The same, as a cover.
-    pub fn turned(self, alloc: Global, a: u32) -> Result<Cover<'s, 'i, 'a>, AllocError>
-        ensures { IfOk result (λ c. c ≡ self.entry) }
+    /// Keeps the entry that covers a function's first address. Where one covers the whole function it is told.
+    fn keep_for(&mut self, whole: Option<Entry>, start: u32) -> Result<(), AllocError>
+        ensures { self.new ≡ self.old }
     {
-        let _alloc = alloc;
-        let mut cover = self;
-        cover.turn(a)?;
-        Ok(cover)
+        match whole {
+            None => self.keep_at(start),
+            Some(e) => self.keep(e),
+        }
     }
 
     /// Puts the descriptors at hand whose scope meets a function. They are chosen for all addresses around it that no other scope meets,
@@ -233,32 +264,18 @@ impl<'s, 'i, 'a> Cover<'s, 'i, 'a> {
         Ok(())
     }
 
-    /// Turns it to a function, by its first address and the first one above it: keeps what stands at its places, has the descriptors at
-    /// hand whose scope meets it, and its last address where the entry covers that.
-    pub fn surround(&mut self, alloc: Global, start: u32, end: u32) -> Result<(), AllocError>
+    /// Turns it to a function, by its first address and the first one above it: to the entry that covers the first; keeps what stands at
+    /// its places, has the descriptors at hand whose scope meets it, and its last address where the entry covers that. Where it does the
+    /// index is searched once.
+    pub fn turn(&mut self, alloc: Global, start: u32, end: u32) -> Result<(), AllocError>
         ensures { self.new ≡ self.old }
     {
-        let function = Span {
-            low: start,
-            last: end.saturating_sub(1).max(start),
-        };
+        let function = span_of(start, end);
+        let whole = whole_entry(self.index, &function);
+        self.keep_for(whole, start)?;
         self.kept.turn(self.index, self.profile, start, end)?;
         self.choose(alloc, &function)?;
-        self.last = covered(self.index, self.entry, function.last);
+        self.last = covered(self.index, self.entry, whole, function.last);
         Ok(())
-    }
-
-    /// The same, as a cover.
-    pub fn around(
-        self,
-        alloc: Global,
-        start: u32,
-        end: u32,
-    ) -> Result<Cover<'s, 'i, 'a>, AllocError>
-        ensures { IfOk result (λ c. c ≡ self.entry) }
-    {
-        let mut cover = self;
-        cover.surround(alloc, start, end)?;
-        Ok(cover)
     }
 }

@@ -12,7 +12,7 @@ audit_function-requires c =
 
 pub loop-f-preserved : goal.loop-f-preserved
 loop-f-preserved c =
-    let covered = c.in_ok-cover.ensures ∙ (c.in_ok-turned.ensures ∙ c.loop-f.invariant.cover) in
+    let covered = c.turn.ensures ∙ c.loop-f.invariant.cover in
     let found = c.in_ok-found.found in
     let audited =
     audited_item c.args.index.now c.functions-f-items.result.now c.loop-f.f-index c.f-item.result c.loop-f.audited.items found

@@ -10,32 +10,32 @@ use Rattle.frame_flow.proofs.framed.Framed.passed.Goals as goal
 
 pub returns-then-is_undecodable : goal.returns-then-is_undecodable
 returns-then-is_undecodable c =
-    let x : Parts = record { flow_graph = c.self.inside.flow_graph.now; prologue = c.self.inside.prologue; pads = c.self.inside.pads.now; reached = c.self.inside.reached.now } in
+    let x : Parts = record { flow_graph = c.self.inside.flow_graph.now; prologue = c.self.inside.prologue.now; pads = c.self.inside.pads.now; reached = c.self.inside.reached.now } in
     seen x c.args.self.now c.args.place c.args.fact.now (Err Undecodable) c.self.view_is
     (at_undecodable (framed_of x) c.args.place c.args.fact.now (sym c.is_undecodable.ensures ∙ c.if-is_undecodable.true))
 
 pub returns-then-branches_out : goal.returns-then-branches_out
 returns-then-branches_out c =
-    let x : Parts = record { flow_graph = c.self.inside.flow_graph.now; prologue = c.self.inside.prologue; pads = c.self.inside.pads.now; reached = c.self.inside.reached.now } in
+    let x : Parts = record { flow_graph = c.self.inside.flow_graph.now; prologue = c.self.inside.prologue.now; pads = c.self.inside.pads.now; reached = c.self.inside.reached.now } in
     seen x c.args.self.now c.args.place c.args.fact.now (Err BranchOut) c.self.view_is
     (at_branch (framed_of x) c.args.place c.args.fact.now (sym c.is_undecodable.ensures ∙ c.if-is_undecodable.false) (sym c.branches_out.ensures ∙ c.if-branches_out.true))
 
 pub returns-then-calls_nothing : goal.returns-then-calls_nothing
 returns-then-calls_nothing c =
-    let x : Parts = record { flow_graph = c.self.inside.flow_graph.now; prologue = c.self.inside.prologue; pads = c.self.inside.pads.now; reached = c.self.inside.reached.now } in
+    let x : Parts = record { flow_graph = c.self.inside.flow_graph.now; prologue = c.self.inside.prologue.now; pads = c.self.inside.pads.now; reached = c.self.inside.reached.now } in
     seen x c.args.self.now c.args.place c.args.fact.now (Err CallNotFunction) c.self.view_is
     (at_call (framed_of x) c.args.place c.args.fact.now (sym c.is_undecodable.ensures ∙ c.if-is_undecodable.false) (sym c.branches_out.ensures ∙ c.if-branches_out.false) (sym c.calls_nothing.ensures ∙ c.if-calls_nothing.true))
 
 pub returns-in_default : goal.returns-in_default
 returns-in_default c =
-    let x : Parts = record { flow_graph = c.self.inside.flow_graph.now; prologue = c.self.inside.prologue; pads = c.self.inside.pads.now; reached = c.self.inside.reached.now } in
+    let x : Parts = record { flow_graph = c.self.inside.flow_graph.now; prologue = c.self.inside.prologue.now; pads = c.self.inside.pads.now; reached = c.self.inside.reached.now } in
     let fine : IsFine (framed_of x) c.args.place = record { decodes = sym c.is_undecodable.ensures ∙ c.if-is_undecodable.false; stays = sym c.branches_out.ensures ∙ c.if-branches_out.false; calls = sym c.calls_nothing.ensures ∙ c.if-calls_nothing.false } in
     seen x c.args.self.now c.args.place c.args.fact.now (Ok None) c.self.view_is
     (at_nothing (framed_of x) c.args.place c.args.fact.now fine (ap instruction_of (sym c.standing_at-standing.ensures) ∙ no_instruction c.standing_at-standing.result c.in_default.not-Instruction))
 
 pub returns-in-Err : goal.returns-in-Err
 returns-in-Err c =
-    let x : Parts = record { flow_graph = c.self.inside.flow_graph.now; prologue = c.self.inside.prologue; pads = c.self.inside.pads.now; reached = c.self.inside.reached.now } in
+    let x : Parts = record { flow_graph = c.self.inside.flow_graph.now; prologue = c.self.inside.prologue.now; pads = c.self.inside.pads.now; reached = c.self.inside.reached.now } in
     let fine : IsFine (framed_of x) c.args.place = record { decodes = sym c.is_undecodable.ensures ∙ c.if-is_undecodable.false; stays = sym c.branches_out.ensures ∙ c.if-branches_out.false; calls = sym c.calls_nothing.ensures ∙ c.if-calls_nothing.false } in
     let instruction = ap instruction_of (sym c.standing_at-standing.ensures ∙ c.in-Instruction.is) in
     let lowers = ap (λ (a : Parts). (framed_of a).lowers c.args.place) c.self.view_is ∙ sym c.lowers_at.ensures in
@@ -45,7 +45,7 @@ returns-in-Err c =
 
 pub returns-in-None : goal.returns-in-None
 returns-in-None c =
-    let x : Parts = record { flow_graph = c.self.inside.flow_graph.now; prologue = c.self.inside.prologue; pads = c.self.inside.pads.now; reached = c.self.inside.reached.now } in
+    let x : Parts = record { flow_graph = c.self.inside.flow_graph.now; prologue = c.self.inside.prologue.now; pads = c.self.inside.pads.now; reached = c.self.inside.reached.now } in
     let fine : IsFine (framed_of x) c.args.place = record { decodes = sym c.is_undecodable.ensures ∙ c.if-is_undecodable.false; stays = sym c.branches_out.ensures ∙ c.if-branches_out.false; calls = sym c.calls_nothing.ensures ∙ c.if-calls_nothing.false } in
     let instruction = ap instruction_of (sym c.standing_at-standing.ensures ∙ c.in-Instruction.is) in
     let lowers = ap (λ (a : Parts). (framed_of a).lowers c.args.place) c.self.view_is ∙ sym c.lowers_at.ensures in
@@ -61,7 +61,7 @@ agrees_at-requires c = c.requires.tells c.in-Some.site (ap (λ (a : Parts). site
 
 pub returns-in-Err-agrees_at : goal.returns-in-Err-agrees_at
 returns-in-Err-agrees_at c =
-    let x : Parts = record { flow_graph = c.self.inside.flow_graph.now; prologue = c.self.inside.prologue; pads = c.self.inside.pads.now; reached = c.self.inside.reached.now } in
+    let x : Parts = record { flow_graph = c.self.inside.flow_graph.now; prologue = c.self.inside.prologue.now; pads = c.self.inside.pads.now; reached = c.self.inside.reached.now } in
     let fine : IsFine (framed_of x) c.args.place = record { decodes = sym c.is_undecodable.ensures ∙ c.if-is_undecodable.false; stays = sym c.branches_out.ensures ∙ c.if-branches_out.false; calls = sym c.calls_nothing.ensures ∙ c.if-calls_nothing.false } in
     let instruction = ap instruction_of (sym c.standing_at-standing.ensures ∙ c.in-Instruction.is) in
     let lowers = ap (λ (a : Parts). (framed_of a).lowers c.args.place) c.self.view_is ∙ sym c.lowers_at.ensures in
@@ -72,7 +72,7 @@ returns-in-Err-agrees_at c =
 
 pub returns-in-Ok-agrees_at : goal.returns-in-Ok-agrees_at
 returns-in-Ok-agrees_at c =
-    let x : Parts = record { flow_graph = c.self.inside.flow_graph.now; prologue = c.self.inside.prologue; pads = c.self.inside.pads.now; reached = c.self.inside.reached.now } in
+    let x : Parts = record { flow_graph = c.self.inside.flow_graph.now; prologue = c.self.inside.prologue.now; pads = c.self.inside.pads.now; reached = c.self.inside.reached.now } in
     let fine : IsFine (framed_of x) c.args.place = record { decodes = sym c.is_undecodable.ensures ∙ c.if-is_undecodable.false; stays = sym c.branches_out.ensures ∙ c.if-branches_out.false; calls = sym c.calls_nothing.ensures ∙ c.if-calls_nothing.false } in
     let instruction = ap instruction_of (sym c.standing_at-standing.ensures ∙ c.in-Instruction.is) in
     let lowers = ap (λ (a : Parts). (framed_of a).lowers c.args.place) c.self.view_is ∙ sym c.lowers_at.ensures in
