@@ -1,22 +1,26 @@
 //! Answers in words.
-use case_rows::Unanswered;
-use std::alloc::Global;
+use case_rows::Text;
 
-/// A text as it is.
-pub fn said(alloc: Global, text: &str) -> Result<String, Unanswered> {
-    Ok(String::from_str(alloc, text)?)
+/// Adds a name and a number after it, in hexadecimal digits.
+pub fn say_number(text: &mut Text, name: &str, number: u32) {
+    text.say(name);
+    text.say(" ");
+    text.say_hex(number);
 }
 
-/// A number by its hexadecimal digits.
-pub fn word(alloc: Global, word: u32) -> Result<String, Unanswered> {
-    Ok(format!(in alloc; "{word:X}")?)
+pub fn say_yes_or_no(text: &mut Text, is_so: bool) {
+    text.say(if is_so { "yes" } else { "no" });
 }
 
-/// A text and a number after it, in hexadecimal digits.
-pub fn with_number(alloc: Global, text: &str, number: u32) -> Result<String, Unanswered> {
-    Ok(format!(in alloc; "{text} {number:X}")?)
+/// Adds a piece where something holds.
+pub fn say_if(text: &mut Text, holds: bool, piece: &str) {
+    if holds {
+        text.say(piece);
+    }
 }
 
-pub fn yes_or_no(alloc: Global, is_so: bool) -> Result<String, Unanswered> {
-    said(alloc, if is_so { "yes" } else { "no" })
+/// Adds a byte by its two hexadecimal digits, behind a space where others stand in front of it.
+pub fn say_byte(text: &mut Text, byte: u8) {
+    text.say_between(" ");
+    write!(text, "{byte:02X}");
 }

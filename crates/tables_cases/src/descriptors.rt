@@ -1,130 +1,65 @@
 //! Descriptors of a table, in an image of one read-only segment that holds its words at 9000.
-use crate::answers::{said, word, yes_or_no};
-use case_images::{image_of, opened};
-use case_rows::{Asked, Unanswered, first_word, number, numbers};
+use crate::answers::{say_if, say_yes_or_no};
+use case_images::{image_by, opened_in};
+use case_rows::{Text, Unanswered, first_word};
 use eh_desc::{CatchType, Desc, DescFault, DescKind, Descs, spec_type};
 use eh_index::Index;
 use elf_image::image::Image;
-use std::alloc::{AllocError, Global};
 use unwind_codes::{Entry, EntryBody};
+
+/// The image, of which the table's words are left open.
+const FORM: &str =
+    "entry 8000 ; index 8000 0 ; function _start 8000 10 ; segment 8000 2000 ; words 9000 {}";
 
 /// What a table is asked.
 #[derive(Clone, Copy)]
-pub struct Tables;
+enum Asked {
+    /// The descriptors of an entry of a function at 8000.
+    Listed(EntryBody),
+    /// The type at a place in what a descriptor names.
+    Named(DescKind, u32),
+}
 
-impl Asked for Tables {
-    fn answer(&self, alloc: Global, question: &str) -> Result<String, Unanswered> {
-        let (what, rest) = first_word(question);
-        let (first, words) = first_word(rest);
-        match what {
-            "table" => listed(alloc, EntryBody::Table(number(first)?), words),
-            "inline" => listed(alloc, EntryBody::Inline(number(first)?), words),
-            "covers" => covers(alloc, &numbers(alloc, rest)?),
-            "specification" => named(alloc, rest),
-            "cleanup" => none_of_a_cleanup(alloc, first, words),
-            _ => Err(Unanswered::NotKnown),
-        }
+/// `table ADDRESS WORD..` and `inline WORD WORD..`: the descriptors of an entry of a function at 8000, in an image with these words.
+/// `covers START SIZE ADDRESS`: whether a scope covers an address. `specification TYPES COUNT PLACE WORD..`: the type at a place in a
+/// specification of so many at an address; `cleanup PLACE WORD..`: that in a cleanup.
+pub fn tell(text: &mut Text, question: &str) {
+    let (what, rest) = first_word(question);
+    match what {
+        "table" | "inline" => tell_listed(text, what, rest),
+        "covers" => say_covers(text, rest),
+        "specification" => tell_named(text, rest),
+        "cleanup" => tell_of_cleanup(text, rest),
+        _ => text.refuse(Unanswered::NotKnown),
     }
 }
 
-/// The file of an image with a table's words at 9000.
-fn file_of(alloc: Global, words: &str) -> Result<Vec<u8>, Unanswered> {
-    let text = format!(in alloc;
-        "entry 8000 ; index 8000 0 ; function _start 8000 10 ; segment 8000 2000 ; words 9000 {words}"
-    )?;
-    image_of(alloc, text.as_str())
-}
-
-/// The index of an image.
-pub fn index_of<'i, 'a>(image: &'i Image<'a>) -> Result<Index<'i, 'a>, Unanswered> {
-    match Index::read(image) {
-        Ok(index) => Ok(index),
-        Err(_fault) => Err(Unanswered::Because("no index")),
-    }
-}
-
-fn push_type(text: &mut String, ty: CatchType) -> Result<(), AllocError> {
-    match ty {
-        CatchType::All => text.push_str("all"),
-        CatchType::AllFails => text.push_str("all fails"),
-        CatchType::One(a) => write!(text, "{a:X}"),
-    }
-}
-
-fn push_catch(
-    text: &mut String,
-    pad: u32,
-    reference: bool,
-    ty: CatchType,
-) -> Result<(), AllocError> {
-    text.push_str("catch ")?;
-    push_type(text, ty)?;
-    let by = if reference { " by reference" } else { "" };
-    write!(text, "{by} to {pad:X}")
-}
-
-fn push_spec(
-    text: &mut String,
-    types: u32,
-    count: u32,
-    pad: Option<u32>,
-) -> Result<(), AllocError> {
-    write!(text, "specification of {count} at {types:X}")?;
-    match pad {
-        Some(pad) => write!(text, " to {pad:X}"),
-        None => Ok(()),
-    }
-}
-
-fn push_kind(text: &mut String, kind: DescKind) -> Result<(), AllocError> {
-    match kind {
-        DescKind::Cleanup { pad } => write!(text, "cleanup to {pad:X}"),
-        DescKind::Catch { pad, reference, ty } => push_catch(text, pad, reference, ty),
-        DescKind::Spec { types, count, pad } => push_spec(text, types, count, pad),
-    }
-}
-
-/// Adds where a descriptor stands, the one after it, and its scope.
-fn push_place(text: &mut String, desc: &Desc) -> Result<(), AllocError> {
-    let (at, next, start, size) = (desc.at, desc.next, desc.start, desc.size);
-    write!(text, " {at:X}-{next:X} {start:X}+{size:X} ")
-}
-
-/// Adds a descriptor: its place, and what it says.
-fn push_desc(text: &mut String, desc: &Desc) -> Result<(), AllocError> {
-    push_place(text, desc)?;
-    push_kind(text, desc.kind)?;
-    text.push(';')
-}
-
-fn push_item(text: &mut String, item: Result<Desc, DescFault>) -> Result<(), AllocError> {
-    match item {
-        Ok(desc) => push_desc(text, &desc),
-        Err(DescFault::Short) => text.push_str(" too short;"),
-        Err(DescFault::Kind) => text.push_str(" both marks;"),
-        Err(DescFault::Count) => text.push_str(" too many types;"),
-    }
-}
-
-fn descs_text(alloc: Global, index: &Index, entry: &Entry) -> Result<String, AllocError> {
-    let mut text = String::from_str(alloc, "descriptors")?;
-    for item in Descs::of(index, entry) {
-        push_item(&mut text, item)?;
-    }
-    Ok(text)
-}
-
-/// `table ADDRESS WORD..` and `inline WORD WORD..`: the descriptors of an entry of a function at 8000, in an image with these
-/// words.
-fn listed(alloc: Global, body: EntryBody, words: &str) -> Result<String, Unanswered> {
-    let entry = Entry {
-        start: 0x8000,
-        body,
+fn tell_listed(text: &mut Text, what: &str, rest: &str) {
+    let (number, words) = text.first_hex(rest);
+    let body = if what == "table" {
+        EntryBody::Table(number)
+    } else {
+        EntryBody::Inline(number)
     };
-    let file = file_of(alloc, words)?;
-    let image = opened(alloc, &file)?;
-    let index = index_of(&image)?;
-    Ok(descs_text(alloc, &index, &entry)?)
+    tell_of(text, words, Asked::Listed(body));
+}
+
+fn tell_named(text: &mut Text, rest: &str) {
+    let (types, rest) = text.first_hex(rest);
+    let (count, rest) = text.first_hex(rest);
+    let (place, words) = text.first_hex(rest);
+    let kind = DescKind::Spec {
+        types,
+        count,
+        pad: None,
+    };
+    tell_of(text, words, Asked::Named(kind, place));
+}
+
+fn tell_of_cleanup(text: &mut Text, rest: &str) {
+    let (place, words) = text.first_hex(rest);
+    let kind = DescKind::Cleanup { pad: 0x8000 };
+    tell_of(text, words, Asked::Named(kind, place));
 }
 
 /// A descriptor at 0 with a scope.
@@ -138,50 +73,109 @@ fn desc_of(start: u32, size: u32, kind: DescKind) -> Desc {
     }
 }
 
-/// `covers START SIZE ADDRESS`: whether a scope covers an address.
-fn covers(alloc: Global, given: &[u32]) -> Result<String, Unanswered> {
-    let [start, size, a] = given else {
-        return Err(Unanswered::NoWord);
-    };
-    let desc = desc_of(*start, *size, DescKind::Cleanup { pad: 0 });
-    yes_or_no(alloc, desc.covers(*a))
+fn say_covers(text: &mut Text, rest: &str) {
+    let (start, rest) = text.first_hex(rest);
+    let (size, a) = text.first_hex(rest);
+    let a = text.hex(a);
+    let desc = desc_of(start, size, DescKind::Cleanup { pad: 0 });
+    say_yes_or_no(text, desc.covers(a));
 }
 
-/// The type at a place in what a descriptor names, in an image with a table's words.
-fn type_named(
-    alloc: Global,
-    kind: DescKind,
-    place: u32,
-    words: &str,
-) -> Result<String, Unanswered> {
-    let file = file_of(alloc, words)?;
-    let image = opened(alloc, &file)?;
-    let index = index_of(&image)?;
-    match spec_type(&index, &desc_of(0x8000, 8, kind), place) {
-        Some(ty) => word(alloc, ty),
-        None => said(alloc, "none"),
+/// Tells of the image with a table's words.
+fn tell_of(text: &mut Text, words: &str, asked: Asked) {
+    if let Some(file) = image_by(text, FORM, &[words]) {
+        tell_of_file(text, &file, asked);
     }
 }
 
-/// `specification TYPES COUNT PLACE WORD..`: the type at a place in a specification of so many at an address.
-fn named(alloc: Global, rest: &str) -> Result<String, Unanswered> {
-    let (types, rest) = first_word(rest);
-    let (count, rest) = first_word(rest);
-    let (place, words) = first_word(rest);
-    let kind = DescKind::Spec {
-        types: number(types)?,
-        count: number(count)?,
-        pad: None,
-    };
-    type_named(alloc, kind, number(place)?, words)
+fn tell_of_file(text: &mut Text, file: &[u8], asked: Asked) {
+    if let Some(image) = opened_in(text, file) {
+        tell_of_image(text, &image, asked);
+    }
 }
 
-/// `cleanup PLACE WORD..`: the type at a place in a cleanup.
-fn none_of_a_cleanup(alloc: Global, place: &str, words: &str) -> Result<String, Unanswered> {
-    type_named(
-        alloc,
-        DescKind::Cleanup { pad: 0x8000 },
-        number(place)?,
-        words,
-    )
+fn tell_of_image(text: &mut Text, image: &Image, asked: Asked) {
+    match Index::read(image) {
+        Ok(index) => say_asked(text, &index, asked),
+        Err(_fault) => text.refuse(Unanswered::Because("no index")),
+    }
+}
+
+fn say_asked(text: &mut Text, index: &Index, asked: Asked) {
+    match asked {
+        Asked::Listed(body) => say_listed(text, index, body),
+        Asked::Named(kind, place) => say_named(text, index, kind, place),
+    }
+}
+
+fn say_named(text: &mut Text, index: &Index, kind: DescKind, place: u32) {
+    match spec_type(index, &desc_of(0x8000, 8, kind), place) {
+        Some(ty) => text.say_hex(ty),
+        None => text.say("none"),
+    }
+}
+
+fn say_listed(text: &mut Text, index: &Index, body: EntryBody) {
+    text.say("descriptors");
+    let entry = Entry {
+        start: 0x8000,
+        body,
+    };
+    for item in Descs::of(index, &entry) {
+        say_item(text, item);
+    }
+}
+
+fn say_item(text: &mut Text, item: Result<Desc, DescFault>) {
+    match item {
+        Ok(desc) => say_desc(text, &desc),
+        Err(fault) => text.say(reason_of(fault)),
+    }
+    text.say(";");
+}
+
+/// Why the descriptors can't be read on.
+fn reason_of(fault: DescFault) -> &'static str {
+    match fault {
+        DescFault::Short => " too short",
+        DescFault::Kind => " both marks",
+        DescFault::Count => " too many types",
+    }
+}
+
+/// Adds a descriptor: where it stands, the one after it, its scope, and what it says.
+fn say_desc(text: &mut Text, desc: &Desc) {
+    let (at, next, start, size) = (desc.at, desc.next, desc.start, desc.size);
+    write!(text, " {at:X}-{next:X} {start:X}+{size:X} ");
+    say_kind(text, desc.kind);
+}
+
+fn say_kind(text: &mut Text, kind: DescKind) {
+    match kind {
+        DescKind::Cleanup { pad } => write!(text, "cleanup to {pad:X}"),
+        DescKind::Catch { pad, reference, ty } => say_catch(text, pad, reference, ty),
+        DescKind::Spec { types, count, pad } => say_spec(text, types, count, pad),
+    }
+}
+
+fn say_catch(text: &mut Text, pad: u32, reference: bool, ty: CatchType) {
+    text.say("catch ");
+    say_type(text, ty);
+    say_if(text, reference, " by reference");
+    write!(text, " to {pad:X}");
+}
+
+fn say_type(text: &mut Text, ty: CatchType) {
+    match ty {
+        CatchType::All => text.say("all"),
+        CatchType::AllFails => text.say("all fails"),
+        CatchType::One(a) => text.say_hex(a),
+    }
+}
+
+fn say_spec(text: &mut Text, types: u32, count: u32, pad: Option<u32>) {
+    write!(text, "specification of {count} at {types:X}");
+    if let Some(pad) = pad {
+        write!(text, " to {pad:X}");
+    }
 }

@@ -5,8 +5,11 @@
 mod answers;
 mod codes;
 mod descriptors;
+mod graphs;
+mod hierarchies;
+mod listed;
 mod matching;
-mod object;
+mod objects;
 mod phases;
 mod rows;
 mod stack;
@@ -14,59 +17,57 @@ mod starts;
 mod types;
 mod unwinding;
 
-use case_rows::{Unanswered, run_file};
-use codes::Recipes;
-use descriptors::Tables;
-use matching::Hierarchy;
-use object::{graph_of, listed};
-use phases::Phases;
-use rows::Rows;
+use case_rows::{Telling, Text, run_telling};
+use hierarchies::{HIERARCHIES, run_hierarchy};
 use std::fs;
 use std::io::Error;
 use types::Images;
-use unwinding::Unwindings;
 
-/// Asks what is caught among types, with objects of them.
-fn run_types(host: &HostRuntime, name: &str, types: &str, objects: &str) -> Result<(), Unanswered> {
-    let listed = listed(host.alloc(), types)?;
-    let graph = graph_of(host.alloc(), &listed)?;
-    let hierarchy = Hierarchy {
-        types,
-        objects,
-        graph: &graph,
-    };
-    Ok(run_file(host, name, &hierarchy)?)
+/// What the rows of a file ask.
+enum About {
+    Unwindings,
+    Recipes,
+    Descriptors,
+    Rows,
+    Phases,
 }
 
-/// Asks what is caught in a hierarchy of types, with its objects.
-fn run_hierarchy(host: &HostRuntime, name: &str, types: &str, objects: &str) -> Result<(), Error> {
-    let types = fs::read_to_string(host, types)?;
-    let objects = fs::read_to_string(host, objects)?;
-    match run_types(host, name, types.as_str(), objects.as_str()) {
-        Ok(()) => Ok(()),
-        Err(Unanswered::Failed(fault)) => Err(fault),
-        Err(_why) => println!(host; "{name}: no graph"),
+/// The files of rows that need no other file, but for the last.
+static FILES: [(&str, About); 4] = [
+    ("unwinding.txt", About::Unwindings),
+    ("recipes.txt", About::Recipes),
+    ("descriptors.txt", About::Descriptors),
+    ("rows.txt", About::Rows),
+];
+
+impl Telling for About {
+    fn tell(&self, text: &mut Text, question: &str) {
+        match self {
+            About::Unwindings => unwinding::tell(text, question),
+            About::Recipes => codes::tell(text, question),
+            About::Descriptors => descriptors::tell(text, question),
+            About::Rows => rows::tell(text, question),
+            About::Phases => phases::tell(text, question),
+        }
     }
+}
+
+/// Asks what is read of types in images, of which some have names.
+fn run_types(host: &HostRuntime) -> Result<(), Error> {
+    let images = fs::read_to_string(host, "graphs.images")?;
+    let images = Images {
+        named: images.as_str(),
+    };
+    run_telling(host, "types.txt", &images)
 }
 
 fn main(host: HostRuntime) -> Result<(), Error> {
-    run_file(&host, "unwinding.txt", &Unwindings)?;
-    run_file(&host, "recipes.txt", &Recipes)?;
-    run_file(&host, "descriptors.txt", &Tables)?;
-    run_file(&host, "rows.txt", &Rows)?;
-    let images = fs::read_to_string(&host, "graphs.images")?;
-    run_file(
-        &host,
-        "types.txt",
-        &Images {
-            named: images.as_str(),
-        },
-    )?;
-    for name in ["classes.txt", "pointers.txt", "words.txt"] {
-        run_hierarchy(&host, name, "hierarchies.types", "hierarchies.objects")?;
+    for (name, about) in FILES.iter() {
+        run_telling(&host, *name, about)?;
     }
-    run_hierarchy(&host, "plain.txt", "plain.types", "none.objects")?;
-    run_hierarchy(&host, "virtual.txt", "virtual.types", "none.objects")?;
-    run_hierarchy(&host, "names.txt", "names.types", "none.objects")?;
-    run_file(&host, "phases.txt", &Phases)
+    run_types(&host)?;
+    for (name, types, objects) in HIERARCHIES.iter() {
+        run_hierarchy(&host, *name, *types, *objects)?;
+    }
+    run_telling(&host, "phases.txt", &About::Phases)
 }

@@ -1,60 +1,138 @@
 //! The two phases, row by row of the rules in docs/phases.md. Types aren't read, so that each is equal to itself alone.
-use crate::answers::{said, with_number};
-use crate::descriptors::index_of;
-use crate::starts::{Start, file_of, flooded, stack, start_of};
-use crate::unwinding::push_changed;
+use crate::answers::say_number;
+use crate::graphs::graph_in;
+use crate::stack::memory;
+use crate::starts::{FORM, Start, flood, lay_frames, start_of};
+use crate::unwinding::say_changed;
 use bus_memories::flat::FlatBus;
-use case_images::opened;
-use case_rows::{Asked, Unanswered, first_word, number, want_of_memory};
+use case_images::{image_by, opened_in};
+use case_rows::{Text, Unanswered, first_word};
 use eh_bytecode::Vrs;
+use eh_index::Index;
 use eh_match::Match;
 use eh_phase::{Barrier, Entered, Found, Goal, Tables, Thrown, advance, search};
 use eh_types::TypeGraph;
 use elf_image::image::Image;
-use std::alloc::Global;
 use thumb_core::ends::Cause;
 
 /// The thrown object.
 const OBJECT: u32 = 0x3800_0080;
 
-/// What the phases are asked.
-#[derive(Clone, Copy)]
-pub struct Phases;
+/// What a phase is asked, and where it begins.
+#[derive(Drop)]
+struct Asked<'q> {
+    words: &'q str,
+    start: Start,
+}
 
-impl Asked for Phases {
-    fn answer(&self, alloc: Global, question: &str) -> Result<String, Unanswered> {
-        let Some((from, table)) = question.split_once(" over ") else {
-            return Err(Unanswered::NoWord);
-        };
-        let Some((asked, start)) = from.split_once(" from ") else {
-            return Err(Unanswered::NoWord);
-        };
-        let file = file_of(alloc, table)?;
-        over(alloc, &file, &start_of(start)?, asked)
+/// `search TYPE [LIMIT] from SP LR SITE over TABLE`: what phase 1 finds for an object of a type; `flooded ..` over a stack full of return
+/// addresses. `advance NEXT FRAME DESCRIPTOR from SP LR SITE over TABLE`: what phase 2 enters on its way to a barrier.
+pub fn tell(text: &mut Text, question: &str) {
+    let (from, table) = text.around(question, " over ");
+    let (words, start) = text.around(from, " from ");
+    let start = start_of(text, start);
+    if let Some(file) = image_by(text, FORM, &[table]) {
+        tell_of_file(text, &file, &Asked { words, start });
     }
 }
 
-/// What is asked over the image of a file.
-fn over(alloc: Global, file: &[u8], start: &Start, asked: &str) -> Result<String, Unanswered> {
-    let image = opened(alloc, file)?;
-    let (what, asked) = first_word(asked);
+fn tell_of_file(text: &mut Text, file: &[u8], asked: &Asked) {
+    if let Some(image) = opened_in(text, file) {
+        tell_of_image(text, &image, asked);
+    }
+}
+
+fn tell_of_image(text: &mut Text, image: &Image, asked: &Asked) {
+    if let Some(types) = graph_in(text, image, &[]) {
+        tell_with_types(text, image, &types, asked);
+    }
+}
+
+fn tell_with_types<'i, 'a>(
+    text: &mut Text,
+    image: &'i Image<'a>,
+    types: &'i TypeGraph<'a>,
+    asked: &Asked,
+) {
+    match Index::read(image) {
+        Ok(index) => tell_of_tables(text, &Tables { index, types }, asked),
+        Err(_fault) => text.refuse(Unanswered::Because("no index")),
+    }
+}
+
+/// Tells what is asked, over a memory that has the frames of the throw or is flooded.
+fn tell_of_tables(text: &mut Text, tables: &Tables, asked: &Asked) {
+    let (what, words) = first_word(asked.words);
+    if let Some(mut bus) = memory(text) {
+        lay_stack(text, &mut bus, what);
+        say_asked(text, tables, &bus, &asked.start, what, words);
+    }
+}
+
+fn lay_stack(text: &mut Text, bus: &mut FlatBus, what: &str) {
+    if what == "flooded" {
+        flood(bus, 0x8075);
+    } else {
+        lay_frames(text, bus);
+    }
+}
+
+fn say_asked(
+    text: &mut Text,
+    tables: &Tables,
+    bus: &FlatBus,
+    start: &Start,
+    what: &str,
+    words: &str,
+) {
     match what {
-        "search" => searched(alloc, &image, &stack(alloc)?, start, asked),
-        "flooded" => searched(alloc, &image, &flooded(alloc, 0x8075)?, start, asked),
-        "advance" => advanced(alloc, &image, start, asked),
-        _ => Err(Unanswered::NotKnown),
+        "search" | "flooded" => say_searched(text, tables, bus, start, words),
+        "advance" => say_advanced(text, tables, bus, start, words),
+        _ => text.refuse(Unanswered::NotKnown),
     }
 }
 
-fn types_of<'a>(alloc: Global, image: &Image<'a>) -> Result<TypeGraph<'a>, Unanswered> {
-    match TypeGraph::read(alloc, image, &[]) {
-        Ok(types) => Ok(types),
-        Err(_fault) => Err(want_of_memory()),
+/// `TYPE [LIMIT]`: the limit of the search, where there is one.
+fn limit_of(text: &mut Text, word: &str) -> Option<u32> {
+    if word.is_empty() {
+        None
+    } else {
+        Some(text.hex(word))
     }
 }
 
-fn cause_text(alloc: Global, cause: Cause) -> Result<String, Unanswered> {
-    let name = match cause {
+fn say_searched(text: &mut Text, tables: &Tables, bus: &FlatBus, start: &Start, words: &str) {
+    let (ty, limit) = text.first_hex(words);
+    let limit = limit_of(text, limit);
+    let what = Thrown { object: OBJECT, ty };
+    let found = search(tables, bus, &start.vrs, start.site, &what, limit);
+    say_found(text, &found);
+}
+
+fn say_found(text: &mut Text, found: &Found) {
+    match found {
+        Found::Barrier(barrier) => say_barrier(text, barrier),
+        Found::Terminate(cause) => text.say(name_of(*cause)),
+        Found::ObjectRead(a) => say_number(text, "unreadable", *a),
+    }
+}
+
+fn say_barrier(text: &mut Text, barrier: &Barrier) {
+    let (sp, desc, site) = (barrier.sp, barrier.desc, barrier.site);
+    write!(text, "barrier {desc:X} of the frame {sp:X} at {site:X}, ");
+    text.say(hit_of(barrier.hit));
+}
+
+fn hit_of(hit: Match) -> &'static str {
+    match hit {
+        Match::Object(OBJECT) => "the object",
+        _ => "another match",
+    }
+}
+
+/// Why nothing is entered.
+fn name_of(cause: Cause) -> &'static str {
+    match cause {
         Cause::NoHandler => "terminate: no handler",
         Cause::CannotUnwind => "terminate: cannot unwind",
         Cause::NoThrow => "terminate: no throw allowed",
@@ -63,113 +141,49 @@ fn cause_text(alloc: Global, cause: Cause) -> Result<String, Unanswered> {
         Cause::NothingCaught => "terminate: nothing caught",
         Cause::PoolFull => "terminate: pool full",
         Cause::Called => "terminate: called",
-    };
-    said(alloc, name)
-}
-
-fn barrier_text(alloc: Global, barrier: &Barrier) -> Result<String, Unanswered> {
-    let (sp, desc, site) = (barrier.sp, barrier.desc, barrier.site);
-    let hit = if barrier.hit == Match::Object(OBJECT) {
-        "the object"
-    } else {
-        "another match"
-    };
-    Ok(format!(in alloc; "barrier {desc:X} of the frame {sp:X} at {site:X}, {hit}")?)
-}
-
-fn found_text(alloc: Global, found: &Found) -> Result<String, Unanswered> {
-    match found {
-        Found::Barrier(barrier) => barrier_text(alloc, barrier),
-        Found::Terminate(cause) => cause_text(alloc, *cause),
-        Found::ObjectRead(a) => with_number(alloc, "unreadable", *a),
     }
 }
 
-/// `TYPE [LIMIT]`: the thrown object, and the limit of the search, where there is one.
-fn thrown_of(asked: &str) -> Result<(Thrown, Option<u32>), Unanswered> {
-    let (ty, limit) = first_word(asked);
-    let what = Thrown {
-        object: OBJECT,
-        ty: number(ty)?,
-    };
-    if limit.is_empty() {
-        return Ok((what, None));
+/// `NEXT FRAME DESCRIPTOR`: where phase 2 goes on, and the barrier that it is to reach.
+fn say_advanced(text: &mut Text, tables: &Tables, bus: &FlatBus, start: &Start, words: &str) {
+    let (next, words) = text.first_hex(words);
+    let (sp, desc) = text.first_hex(words);
+    let desc = text.hex(desc);
+    let goal = Goal { sp, desc };
+    let entered = advance(tables, bus, &start.vrs, start.site, next, &goal);
+    say_entered(text, &entered);
+    if let Some(vrs) = registers_of(&entered) {
+        say_changed(text, &start.vrs.r, &vrs.r);
     }
-    Ok((what, Some(number(limit)?)))
 }
 
-/// `search TYPE [LIMIT] from SP LR SITE over TABLE`: what phase 1 finds for an object of a type.
-fn searched(
-    alloc: Global,
-    image: &Image,
-    bus: &FlatBus,
-    start: &Start,
-    asked: &str,
-) -> Result<String, Unanswered> {
-    let (what, limit) = thrown_of(asked)?;
-    let types = types_of(alloc, image)?;
-    let tables = Tables {
-        index: index_of(image)?,
-        types: &types,
-    };
-    let found = search(&tables, bus, &start.vrs, start.site, &what, limit);
-    found_text(alloc, &found)
-}
-
-/// A cleanup, and where phase 2 goes on.
-fn cleanup_text(alloc: Global, pad: u32, next: u32, site: u32) -> Result<String, Unanswered> {
-    Ok(format!(in alloc; "cleanup {pad:X}, then {next:X} at {site:X}")?)
-}
-
-/// A text, and the registers that aren't those of the start.
-fn with_changes(text: String, start: &Start, vrs: &Vrs) -> Result<String, Unanswered> {
-    let mut text = text;
-    push_changed(&mut text, &start.vrs.r, &vrs.r)?;
-    Ok(text)
-}
-
-/// What is entered, with the registers that aren't those of the start.
-fn entered_text(alloc: Global, start: &Start, entered: &Entered) -> Result<String, Unanswered> {
+/// Adds what is entered.
+fn say_entered(text: &mut Text, entered: &Entered) {
     match entered {
         Entered::Cleanup {
-            vrs,
             pad,
             next,
             site,
-        } => with_changes(cleanup_text(alloc, *pad, *next, *site)?, start, vrs),
-        Entered::Catch { vrs, pad } => with_changes(with_number(alloc, "catch", *pad)?, start, vrs),
-        Entered::Spec { vrs, pad } => {
-            with_changes(with_number(alloc, "specification", *pad)?, start, vrs)
-        }
-        Entered::Unexpected => said(alloc, "unexpected"),
-        Entered::Terminate(cause) => cause_text(alloc, *cause),
+            ..
+        } => say_cleanup(text, *pad, *next, *site),
+        Entered::Catch { pad, .. } => say_number(text, "catch", *pad),
+        Entered::Spec { pad, .. } => say_number(text, "specification", *pad),
+        Entered::Unexpected => text.say("unexpected"),
+        Entered::Terminate(cause) => text.say(name_of(*cause)),
     }
 }
 
-/// `FRAME DESCRIPTOR`: the barrier that phase 2 is to reach.
-fn goal_of(asked: &str) -> Result<Goal, Unanswered> {
-    let (sp, desc) = first_word(asked);
-    Ok(Goal {
-        sp: number(sp)?,
-        desc: number(desc)?,
-    })
+/// Adds a cleanup, and where phase 2 goes on.
+fn say_cleanup(text: &mut Text, pad: u32, next: u32, site: u32) {
+    write!(text, "cleanup {pad:X}, then {next:X} at {site:X}");
 }
 
-/// `advance NEXT FRAME DESCRIPTOR from SP LR SITE over TABLE`: what phase 2 enters on its way to a barrier.
-fn advanced(
-    alloc: Global,
-    image: &Image,
-    start: &Start,
-    asked: &str,
-) -> Result<String, Unanswered> {
-    let (next, goal) = first_word(asked);
-    let (next, goal) = (number(next)?, goal_of(goal)?);
-    let types = types_of(alloc, image)?;
-    let tables = Tables {
-        index: index_of(image)?,
-        types: &types,
-    };
-    let bus = stack(alloc)?;
-    let entered = advance(&tables, &bus, &start.vrs, start.site, next, &goal);
-    entered_text(alloc, start, &entered)
+/// The registers with which something is entered.
+fn registers_of(entered: &Entered) -> Option<&Vrs> {
+    match entered {
+        Entered::Cleanup { vrs, .. } | Entered::Catch { vrs, .. } | Entered::Spec { vrs, .. } => {
+            Some(vrs)
+        }
+        Entered::Unexpected | Entered::Terminate(_) => None,
+    }
 }

@@ -1,199 +1,200 @@
 //! Rows of the exception index and the bytes of codes: how they are read, and how they are written.
-ghost use Rattle.std.specs.Prelude.{IfOk};
+ghost use Rattle.std.specs.Prelude.{IfSome};
 ghost use Rattle.unwind_codes.specs.Bytes.{HasBytes};
 
-use crate::answers::{said, with_number, word};
-use case_rows::{Asked, Unanswered, first_word, number, number_at, numbers};
-use std::alloc::Global;
+use crate::answers::{say_byte, say_number};
+use case_rows::{Text, Unanswered, first_word};
 use unwind_codes::{
     Code, Entry, EntryBody, body_of, code_words_after, entry_of, personality_of_word, prel31_to,
     push_code, push_row, push_rows, second_word,
 };
 
 /// What the words of the index and the codes are asked.
-#[derive(Clone, Copy)]
-pub struct Rows;
-
-impl Asked for Rows {
-    fn answer(&self, alloc: Global, question: &str) -> Result<String, Unanswered> {
-        let (what, rest) = first_word(question);
-        match what {
-            "row" => row(alloc, rest),
-            "rows" => many_rows(alloc, rest),
-            "write" => written(alloc, rest),
-            _ => by_numbers(alloc, what, &numbers(alloc, rest)?),
-        }
+pub fn tell(text: &mut Text, question: &str) {
+    let (what, rest) = first_word(question);
+    match what {
+        "row" => say_row(text, rest),
+        "rows" => say_rows(text, rest),
+        "write" => say_written(text, rest),
+        _ => say_by_number(text, what, rest),
     }
 }
 
 /// What is asked by numbers.
-fn by_numbers(alloc: Global, what: &str, given: &[u32]) -> Result<String, Unanswered> {
+fn say_by_number(text: &mut Text, what: &str, rest: &str) {
+    let (number, rest) = text.first_hex(rest);
     match what {
-        "second" => second(alloc, given),
-        "distance" => distance(alloc, given),
-        "entry" => entry(alloc, given),
-        "first" => first(alloc, number_at(given, 0)?),
-        _ => Err(Unanswered::NotKnown),
+        "second" => say_second(text, number, rest),
+        "distance" => say_distance(text, number, rest),
+        "entry" => say_entry(text, number, rest),
+        "first" => say_first(text, number),
+        _ => text.refuse(Unanswered::NotKnown),
     }
 }
 
-fn body_text(alloc: Global, body: EntryBody) -> Result<String, Unanswered> {
+fn say_body(text: &mut Text, body: EntryBody) {
     match body {
-        EntryBody::CantUnwind => said(alloc, "can't unwind"),
-        EntryBody::Inline(word) => with_number(alloc, "inline", word),
-        EntryBody::Table(address) => with_number(alloc, "table", address),
+        EntryBody::CantUnwind => text.say("can't unwind"),
+        EntryBody::Inline(word) => say_number(text, "inline", word),
+        EntryBody::Table(address) => say_number(text, "table", address),
     }
 }
 
 /// `second PLACE WORD`: what a second word at a place says, and the word that is written for that.
-fn second(alloc: Global, given: &[u32]) -> Result<String, Unanswered> {
-    let [place, word] = given else {
-        return Err(Unanswered::NoWord);
-    };
-    let body = body_of(*place, *word);
-    let text = body_text(alloc, body)?;
-    let written = second_word(*place, body);
-    Ok(format!(in alloc; "{text}, written {written:X}")?)
+fn say_second(text: &mut Text, place: u32, word: &str) {
+    let body = body_of(place, text.hex(word));
+    say_body(text, body);
+    say_number(text, ", written", second_word(place, body));
 }
 
 /// `distance PLACE TARGET`: the word at a place that leads to a target.
-fn distance(alloc: Global, given: &[u32]) -> Result<String, Unanswered> {
-    let [place, target] = given else {
-        return Err(Unanswered::NoWord);
-    };
-    word(alloc, prel31_to(*place, *target))
+fn say_distance(text: &mut Text, place: u32, target: &str) {
+    let target = text.hex(target);
+    text.say_hex(prel31_to(place, target));
 }
 
 /// `entry PLACE WORD WORD`: the row of two words at a place.
-fn entry(alloc: Global, given: &[u32]) -> Result<String, Unanswered> {
-    let [place, first, second] = given else {
-        return Err(Unanswered::NoWord);
-    };
-    let entry = entry_of(*place, *first, *second);
-    let start = entry.start;
-    let body = body_text(alloc, entry.body)?;
-    Ok(format!(in alloc; "{start:X} {body}")?)
+fn say_entry(text: &mut Text, place: u32, words: &str) {
+    let (first, second) = text.first_hex(words);
+    let entry = entry_of(place, first, text.hex(second));
+    text.say_hex(entry.start);
+    text.say(" ");
+    say_body(text, entry.body);
 }
 
 /// `first WORD`: the personality of an entry's first word, and how many words of codes stand after it.
-fn first(alloc: Global, word: u32) -> Result<String, Unanswered> {
+fn say_first(text: &mut Text, word: u32) {
     let personality = personality_of_word(word);
     let after = code_words_after(word);
-    Ok(format!(in alloc; "personality {personality}, {after} words behind")?)
+    write!(text, "personality {personality}, {after} words behind");
 }
 
 /// `can't unwind`, `inline WORD` or `table ADDRESS`.
-fn body_named(text: &str) -> Result<EntryBody, Unanswered> {
-    let (kind, word) = first_word(text);
+fn body_named(text: &mut Text, words: &str) -> EntryBody {
+    let (kind, word) = first_word(words);
     match kind {
-        "can't" => Ok(EntryBody::CantUnwind),
-        "inline" => Ok(EntryBody::Inline(number(word)?)),
-        "table" => Ok(EntryBody::Table(number(word)?)),
-        _ => Err(Unanswered::NotKnown),
+        "can't" => EntryBody::CantUnwind,
+        "inline" => EntryBody::Inline(text.hex(word)),
+        "table" => EntryBody::Table(text.hex(word)),
+        _ => {
+            text.refuse(Unanswered::NotKnown);
+            EntryBody::CantUnwind
+        }
     }
 }
 
 /// `START BODY`.
-fn row_named(text: &str) -> Result<Entry, Unanswered> {
-    let (start, body) = first_word(text);
-    Ok(Entry {
-        start: number(start)?,
-        body: body_named(body)?,
-    })
+fn row_named(text: &mut Text, words: &str) -> Entry {
+    let (start, body) = text.first_hex(words);
+    Entry {
+        start,
+        body: body_named(text, body),
+    }
 }
 
-fn bytes_text(alloc: Global, bytes: &[u8]) -> Result<String, Unanswered> {
-    let mut text = String::new(alloc);
+fn say_bytes(text: &mut Text, bytes: &[u8]) {
     for byte in bytes {
-        if !text.is_empty() {
-            text.push(' ')?;
-        }
-        write!(text, "{byte:02X}")?;
+        say_byte(text, *byte);
     }
-    Ok(text)
 }
 
 /// `row PLACE START BODY`: the bytes of a row.
-fn row(alloc: Global, rest: &str) -> Result<String, Unanswered> {
-    let (place, row) = first_word(rest);
-    let mut bytes = Vec::new(alloc);
-    push_row(&mut bytes, number(place)?, row_named(row)?)?;
-    bytes_text(alloc, &bytes)
+fn say_row(text: &mut Text, rest: &str) {
+    let (place, row) = text.first_hex(rest);
+    let row = row_named(text, row);
+    let mut bytes = Vec::new(text.alloc());
+    text.note(push_row(&mut bytes, place, row));
+    say_bytes(text, &bytes);
 }
 
 /// `START BODY, START BODY, ..`.
-fn rows_named(alloc: Global, text: &str) -> Result<Vec<Entry>, Unanswered> {
-    let mut rows = Vec::new(alloc);
-    for row in text.split(", ") {
-        rows.push(row_named(row)?)?;
+fn rows_named(text: &mut Text, words: &str) -> Vec<Entry> {
+    let mut rows = Vec::new(text.alloc());
+    for row in words.split(", ") {
+        let row = row_named(text, row);
+        if rows.push(row).is_err() {
+            text.want_memory();
+        }
     }
-    Ok(rows)
+    rows
 }
 
 /// `rows PLACE START BODY, START BODY, ..`: the byte EE and the bytes of rows after it.
-fn many_rows(alloc: Global, rest: &str) -> Result<String, Unanswered> {
-    let (place, rest) = first_word(rest);
-    let rows = rows_named(alloc, rest)?;
-    let mut bytes = Vec::new(alloc);
-    bytes.push(0xEE)?;
-    push_rows(&mut bytes, number(place)?, rows.as_slice())?;
-    bytes_text(alloc, &bytes)
+fn say_rows(text: &mut Text, rest: &str) {
+    let (place, rest) = text.first_hex(rest);
+    let rows = rows_named(text, rest);
+    say_rows_at(text, place, &rows);
+}
+
+fn say_rows_at(text: &mut Text, place: u32, rows: &[Entry]) {
+    let mut bytes = Vec::new(text.alloc());
+    text.note(bytes.extend_from_slice(&[0xEE]));
+    text.note(push_rows(&mut bytes, place, rows));
+    say_bytes(text, &bytes);
 }
 
 /// A code that has no number.
-fn bare_code(name: &str) -> Result<Code, Unanswered>
-    ensures { IfOk result HasBytes }
+fn bare_code(name: &str) -> Option<Code>
+    ensures { IfSome result HasBytes }
 {
     match name {
-        "refuse" => Ok(Code::Refuse),
-        "finish" => Ok(Code::Finish),
-        _ => Err(Unanswered::NotKnown),
+        "refuse" => Some(Code::Refuse),
+        "finish" => Some(Code::Finish),
+        _ => None,
     }
 }
 
 /// A code that moves the stack pointer by a number, or takes it from a register.
-fn moving_code(name: &str, field: u32) -> Result<Code, Unanswered>
-    ensures { IfOk result HasBytes }
+fn moving_code(name: &str, field: u32) -> Option<Code>
+    ensures { IfSome result HasBytes }
 {
     match name {
-        "raise" => Ok(Code::Raise((field % 64) as u8)),
-        "lower" => Ok(Code::Lower((field % 64) as u8)),
-        "restore" => Ok(Code::Restore((field % 16) as u8)),
-        "raise-long" => Ok(Code::RaiseLong(field % 0x4000)),
-        _ => Err(Unanswered::NotKnown),
+        "raise" => Some(Code::Raise((field % 64) as u8)),
+        "lower" => Some(Code::Lower((field % 64) as u8)),
+        "restore" => Some(Code::Restore((field % 16) as u8)),
+        "raise-long" => Some(Code::RaiseLong(field % 0x4000)),
+        _ => None,
     }
 }
 
 /// A code with a number, of which the bits count that it has.
-fn code_of(name: &str, field: u32) -> Result<Code, Unanswered>
-    ensures { IfOk result HasBytes }
+fn code_of(name: &str, field: u32) -> Option<Code>
+    ensures { IfSome result HasBytes }
 {
     match name {
-        "pop-mask" => Ok(Code::PopMask((field % 0x1000) as u16)),
-        "pop-range" => Ok(Code::PopRange((field % 8) as u8)),
-        "pop-range-and-lr" => Ok(Code::PopRangeAndLr((field % 8) as u8)),
-        "pop-low" => Ok(Code::PopLow((field % 16) as u8)),
+        "pop-mask" => Some(Code::PopMask((field % 0x1000) as u16)),
+        "pop-range" => Some(Code::PopRange((field % 8) as u8)),
+        "pop-range-and-lr" => Some(Code::PopRangeAndLr((field % 8) as u8)),
+        "pop-low" => Some(Code::PopLow((field % 16) as u8)),
         _ => moving_code(name, field),
     }
 }
 
 /// A code by its name and its number, where it has one.
-fn code_named(text: &str) -> Result<Code, Unanswered>
-    ensures { IfOk result HasBytes }
+fn code_named(text: &mut Text, words: &str) -> Option<Code>
+    ensures { IfSome result HasBytes }
 {
-    let (name, field) = first_word(text);
+    let (name, field) = first_word(words);
     if field.is_empty() {
         bare_code(name)
     } else {
-        code_of(name, number(field)?)
+        code_of(name, text.hex(field))
+    }
+}
+
+/// Adds the bytes of a code.
+fn push_named(text: &mut Text, bytes: &mut Vec<u8>, words: &str) {
+    match code_named(text, words) {
+        Some(code) => text.note(push_code(bytes, code)),
+        None => text.refuse(Unanswered::NotKnown),
     }
 }
 
 /// `write CODE FIELD, CODE, ..`: the bytes of codes.
-fn written(alloc: Global, rest: &str) -> Result<String, Unanswered> {
-    let mut bytes = Vec::new(alloc);
+fn say_written(text: &mut Text, rest: &str) {
+    let mut bytes = Vec::new(text.alloc());
     for code in rest.split(", ") {
-        push_code(&mut bytes, code_named(code)?)?;
+        push_named(text, &mut bytes, code);
     }
-    bytes_text(alloc, &bytes)
+    say_bytes(text, &bytes);
 }

@@ -1,17 +1,19 @@
 //! Type information in images: each kind, and each refusal with its type (Itanium C++ ABI, "Run-Time Type Information").
-use crate::answers::{said, with_number, yes_or_no};
-use crate::object::OBJECT;
+use crate::answers::{say_if, say_number, say_yes_or_no};
+use crate::graphs::graph_in;
+use crate::listed::said_of;
+use crate::objects::OBJECT;
 use crate::stack::memory;
 use bus_memories::flat::FlatBus;
-use case_images::{image_of, opened};
-use case_rows::{Asked, Unanswered, decimal, first_word, number, numbers, want_of_memory};
+use case_images::{image_by, opened_in};
+use case_rows::{Telling, Text, Unanswered, first_word};
 use eh_match::{Match, type_match};
-use eh_types::{Base, Bases, TypeFault, TypeGraph, TypeKind};
-use std::alloc::{AllocError, Global};
+use eh_types::{Base, Bases, TypeGraph, TypeKind};
+use elf_image::image::Image;
 
-/// What stands in front of each image's own parts; the types begin at 8060, the names at 9000.
-const FRONT: &str =
-    "entry 8000 ; index 8000 0 ; function _start 8000 10 ; vtables ; segment 8000 2000 ; ";
+/// An image, of which its own parts are left open; the types begin at 8060, the names at 9000.
+const FORM: &str =
+    "entry 8000 ; index 8000 0 ; function _start 8000 10 ; vtables ; segment 8000 2000 ; {}";
 
 /// What images are asked, of which some have names, a line each: `NAME ROOTS from IMAGE`.
 #[derive(Drop)]
@@ -19,121 +21,176 @@ pub struct Images<'a> {
     pub named: &'a str,
 }
 
-impl<'a> Asked for Images<'a> {
-    fn answer(&self, alloc: Global, question: &str) -> Result<String, Unanswered> {
+impl<'a> Telling for Images<'a> {
+    /// `read ROOTS from IMAGE`, and `chain COUNT`, `wide COUNT` and `name COUNT` for an image that is made by a count: whether there is a
+    /// graph; `ends COUNT`: what is caught in a chain. `NAME kind TYPE`, `bases`, `called`, `holds`, and `NAME same TYPE TYPE`.
+    fn tell(&self, text: &mut Text, question: &str) {
         let (what, rest) = first_word(question);
         match what {
-            "read" => told_of(alloc, rest),
-            "ends" => ends(alloc, rest),
-            "chain" | "wide" | "name" => told_of(alloc, made(alloc, what, rest)?.as_str()),
-            _ => self.known(alloc, what, rest),
+            "read" => tell_of(text, rest, question),
+            "chain" | "wide" | "name" | "ends" => tell_of_made(text, what, rest, question),
+            _ => tell_of(text, said_of(self.named, what), rest),
         }
     }
 }
 
-/// `ROOTS from IMAGE` of an image that is made by a count.
-fn made(alloc: Global, what: &str, rest: &str) -> Result<String, Unanswered> {
+/// Tells of an image that is made by a count.
+fn tell_of_made(text: &mut Text, what: &str, rest: &str, asked: &str) {
+    let mut made = Text::new(text.alloc());
+    make(&mut made, what, rest);
+    if let Some(rooted) = text.taken(made.finish()) {
+        tell_of(text, rooted.as_str(), asked);
+    }
+}
+
+/// Adds `ROOTS from IMAGE` of an image that is made by a count.
+fn make(made: &mut Text, what: &str, rest: &str) {
     match what {
-        "chain" => chain(alloc, rest, "9000"),
-        "wide" => wide(alloc, rest),
-        _ => long_name(alloc, rest),
+        "chain" => make_chain(made, rest, "9000"),
+        "ends" => make_chain(made, rest, "9001"),
+        "wide" => make_wide(made, rest),
+        _ => make_name(made, rest),
     }
 }
 
-/// An image's file, and the addresses of the roots that are asked for.
-#[derive(Drop)]
-struct RootedFile {
-    file: Vec<u8>,
-    roots: Vec<u32>,
-}
-
-/// The file and the roots of `ROOTS from IMAGE`.
-fn rooted(alloc: Global, text: &str) -> Result<RootedFile, Unanswered> {
-    let Some((roots, parts)) = text.split_once(" from ") else {
-        return Err(Unanswered::NoWord);
-    };
-    let roots = numbers(alloc, roots.strip_prefix("nothing").unwrap_or(roots))?;
-    let text = format!(in alloc; "{FRONT}{parts}")?;
-    let file = image_of(alloc, text.as_str())?;
-    Ok(RootedFile { file, roots })
-}
-
-/// The graph of the roots, or the refusal.
-fn read<'a>(
-    alloc: Global,
-    rooted: &'a RootedFile,
-) -> Result<Result<TypeGraph<'a>, TypeFault>, Unanswered> {
-    let image = opened(alloc, &rooted.file)?;
-    Ok(TypeGraph::read(alloc, &image, &rooted.roots))
-}
-
-/// What is told of `ROOTS from IMAGE`.
-fn told_of(alloc: Global, text: &str) -> Result<String, Unanswered> {
-    let rooted = rooted(alloc, text)?;
-    told(alloc, read(alloc, &rooted)?)
-}
-
-fn fault_text(alloc: Global, fault: TypeFault) -> Result<String, Unanswered> {
-    match fault {
-        TypeFault::Unreadable(a) => with_number(alloc, "unreadable", a),
-        TypeFault::Writable(a) => with_number(alloc, "writable", a),
-        TypeFault::NameTooLong(a) => with_number(alloc, "too long a name", a),
-        TypeFault::Cyclic(a) => with_number(alloc, "cyclic", a),
-        TypeFault::TooManyPaths(a) => with_number(alloc, "too many paths", a),
-        TypeFault::OutOfMemory => Err(want_of_memory()),
-    }
-}
-
-/// A graph, or the refusal.
-fn told(alloc: Global, graph: Result<TypeGraph, TypeFault>) -> Result<String, Unanswered> {
-    match graph {
-        Ok(_graph) => said(alloc, "a graph"),
-        Err(fault) => fault_text(alloc, fault),
-    }
+/// `COUNT`: so many classes, each but the last with the next as its base, all with the name at an address.
+fn make_chain(made: &mut Text, count: &str, name: &str) {
+    let count = made.decimal(count);
+    made.say("8060 from words 8060");
+    say_singles(made, count, name);
+    write!(made, " class {name} ; names 9000 A");
 }
 
 /// Adds the classes of a chain but the last: each has the next as its base, and its name at an address.
-fn push_chain(text: &mut String, count: u32, name: &str) -> Result<(), AllocError> {
+fn say_singles(made: &mut Text, count: u32, name: &str) {
     let mut at = 0x8060u32;
     for _ in 1..count {
         at = at.wrapping_add(12);
-        write!(text, " single {name} {at:X}")?;
+        write!(made, " single {name} {at:X}");
     }
-    Ok(())
 }
 
-/// `chain COUNT`: so many classes, each but the last with the next as its base, all with the name at an address.
-fn chain(alloc: Global, count: &str, name: &str) -> Result<String, Unanswered> {
-    let mut text = String::from_str(alloc, "8060 from words 8060")?;
-    push_chain(&mut text, decimal(count)?, name)?;
-    write!(text, " class {name} ; names 9000 A")?;
-    Ok(text)
-}
-
-/// Adds a part of a text so many times.
-fn push_times(text: &mut String, count: u32, part: &str) -> Result<(), AllocError> {
+/// Adds a part so many times.
+fn say_times(made: &mut Text, count: u32, part: &str) {
     for _ in 0..count {
-        text.push_str(part)?;
+        made.say(part);
     }
-    Ok(())
 }
 
-/// `wide COUNT`: a class with so many bases of one type, which stands in front of it.
-fn wide(alloc: Global, count: &str) -> Result<String, Unanswered> {
-    let count = decimal(count)?;
-    let mut text = format!(in alloc; "8068 from words 8060 class 9000 many 9000 0 {count:X}")?;
-    push_times(&mut text, count, " 8060 2")?;
-    text.push_str(" ; names 9000 A")?;
-    Ok(text)
+/// `COUNT`: a class with so many bases of one type, which stands in front of it.
+fn make_wide(made: &mut Text, count: &str) {
+    let count = made.decimal(count);
+    write!(
+        made,
+        "8068 from words 8060 class 9000 many 9000 0 {count:X}"
+    );
+    say_times(made, count, " 8060 2");
+    made.say(" ; names 9000 A");
 }
 
-/// `name COUNT`: a class with a name of so many bytes; `name COUNT open`: without a zero byte after it.
-fn long_name(alloc: Global, rest: &str) -> Result<String, Unanswered> {
+/// `COUNT`: a class with a name of so many bytes; `COUNT open`: without a zero byte after it.
+fn make_name(made: &mut Text, rest: &str) {
     let (count, end) = first_word(rest);
+    let count = made.decimal(count);
     let part = if end == "open" { "text" } else { "names" };
-    let mut text = format!(in alloc; "8060 from words 8060 class 9000 ; {part} 9000 ")?;
-    push_times(&mut text, decimal(count)?, "a")?;
-    Ok(text)
+    write!(made, "8060 from words 8060 class 9000 ; {part} 9000 ");
+    say_times(made, count, "a");
+}
+
+/// Tells of the graph of `ROOTS from IMAGE` what is asked.
+fn tell_of(text: &mut Text, rooted: &str, asked: &str) {
+    let (roots, parts) = text.around(rooted, " from ");
+    if let Some(file) = image_by(text, FORM, &[parts]) {
+        tell_of_file(text, &file, roots, asked);
+    }
+}
+
+fn tell_of_file(text: &mut Text, file: &[u8], roots: &str, asked: &str) {
+    if let Some(image) = opened_in(text, file) {
+        tell_of_image(text, &image, roots, asked);
+    }
+}
+
+fn tell_of_image(text: &mut Text, image: &Image, roots: &str, asked: &str) {
+    let roots = text.numbers(roots.strip_prefix("nothing").unwrap_or(roots));
+    if let Some(graph) = graph_in(text, image, &roots) {
+        say_asked(text, &graph, asked);
+    }
+}
+
+/// What is asked of a graph.
+fn say_asked(text: &mut Text, graph: &TypeGraph, asked: &str) {
+    let (what, rest) = first_word(asked);
+    match what {
+        "read" | "chain" | "wide" | "name" => text.say("a graph"),
+        "ends" => say_ends(text, graph, rest),
+        _ => say_of_type(text, graph, what, rest),
+    }
+}
+
+/// What is asked of a type of a graph.
+fn say_of_type(text: &mut Text, graph: &TypeGraph, what: &str, rest: &str) {
+    let (ty, rest) = text.first_hex(rest);
+    match what {
+        "kind" => say_kind(text, graph.kind(ty)),
+        "bases" => say_bases(text, graph.bases(ty)),
+        "called" => say_name(text, graph.name(ty)),
+        "holds" => say_yes_or_no(text, graph.holds(ty)),
+        "same" => say_same(text, graph, ty, rest),
+        _ => text.refuse(Unanswered::NotKnown),
+    }
+}
+
+fn say_same(text: &mut Text, graph: &TypeGraph, ty: u32, other: &str) {
+    let other = text.hex(other);
+    say_yes_or_no(text, graph.is_same(ty, other));
+}
+
+fn say_kind(text: &mut Text, kind: Option<TypeKind>) {
+    match kind {
+        Some(TypeKind::Si(base)) => say_number(text, "single", base),
+        Some(TypeKind::Pointer { flags, pointee }) => write!(text, "pointer {flags} {pointee:X}"),
+        Some(kind) => text.say(name_of(kind)),
+        None => text.say("no type"),
+    }
+}
+
+/// The name of a kind.
+fn name_of(kind: TypeKind) -> &'static str {
+    match kind {
+        TypeKind::Other => "other",
+        TypeKind::Fundamental => "fundamental",
+        TypeKind::Class => "class",
+        TypeKind::Si(_) => "single",
+        TypeKind::Vmi => "many",
+        TypeKind::Pointer { .. } => "pointer",
+    }
+}
+
+fn say_bases(text: &mut Text, bases: Bases) {
+    text.say("bases");
+    for base in bases {
+        say_base(text, &base);
+    }
+}
+
+fn say_base(text: &mut Text, base: &Base) {
+    let (ty, offset) = (base.ty, base.offset);
+    write!(text, " {ty:X} at {offset}");
+    say_if(text, base.is_public, " public");
+    say_if(text, base.is_virtual, " virtual");
+    text.say(";");
+}
+
+fn say_name(text: &mut Text, name: &[u8]) {
+    text.say("\"");
+    text.say_ascii(name);
+    text.say("\"");
+}
+
+/// Where the last class of a chain stands.
+fn last_of(count: u32) -> u32 {
+    count.wrapping_sub(1).wrapping_mul(12).wrapping_add(0x8060)
 }
 
 /// Whether a thrown object of the first class of a chain is caught as the last, and one of the last not as the first.
@@ -142,104 +199,18 @@ fn is_caught_down_alone(bus: &FlatBus, graph: &TypeGraph, last: u32) -> bool {
         && type_match(graph, last, OBJECT, 0x8060, bus) == Match::Failed
 }
 
-/// Where the last class of a chain stands.
-fn last_of(count: u32) -> u32 {
-    count.wrapping_sub(1).wrapping_mul(12).wrapping_add(0x8060)
+/// What is caught of a thrown object of the first class of a chain as the last, and of the last as the first.
+fn say_ends(text: &mut Text, graph: &TypeGraph, count: &str) {
+    let last = last_of(text.decimal(count));
+    if let Some(bus) = memory(text) {
+        text.say(ends_of(is_caught_down_alone(&bus, graph, last)));
+    }
 }
 
-/// `ends COUNT`: a thrown object of the first class of a chain without names as the last, and of the last as the first.
-fn ends(alloc: Global, count: &str) -> Result<String, Unanswered> {
-    let text = chain(alloc, count, "9001")?;
-    let rooted = rooted(alloc, text.as_str())?;
-    let Ok(graph) = read(alloc, &rooted)? else {
-        return Err(Unanswered::Because("no graph"));
-    };
-    if is_caught_down_alone(&memory(alloc)?, &graph, last_of(decimal(count)?)) {
-        said(alloc, "only the first is caught as the last")
+fn ends_of(is_down_alone: bool) -> &'static str {
+    if is_down_alone {
+        "only the first is caught as the last"
     } else {
-        said(alloc, "otherwise")
-    }
-}
-
-fn pointer_text(alloc: Global, flags: u32, pointee: u32) -> Result<String, Unanswered> {
-    Ok(format!(in alloc; "pointer {flags} {pointee:X}")?)
-}
-
-fn kind_text(alloc: Global, kind: Option<TypeKind>) -> Result<String, Unanswered> {
-    match kind {
-        Some(TypeKind::Other) => said(alloc, "other"),
-        Some(TypeKind::Fundamental) => said(alloc, "fundamental"),
-        Some(TypeKind::Class) => said(alloc, "class"),
-        Some(TypeKind::Si(base)) => with_number(alloc, "single", base),
-        Some(TypeKind::Vmi) => said(alloc, "many"),
-        Some(TypeKind::Pointer { flags, pointee }) => pointer_text(alloc, flags, pointee),
-        None => said(alloc, "no type"),
-    }
-}
-
-fn push_base(text: &mut String, base: &Base) -> Result<(), AllocError> {
-    let (ty, offset) = (base.ty, base.offset);
-    let public = if base.is_public { " public" } else { "" };
-    let shared = if base.is_virtual { " virtual" } else { "" };
-    write!(text, " {ty:X} at {offset}{public}{shared};")
-}
-
-fn bases_text(alloc: Global, bases: Bases) -> Result<String, Unanswered> {
-    let mut text = String::from_str(alloc, "bases")?;
-    for base in bases {
-        push_base(&mut text, &base)?;
-    }
-    Ok(text)
-}
-
-fn name_text(alloc: Global, name: &[u8]) -> Result<String, Unanswered> {
-    let mut text = String::new(alloc);
-    text.push('"')?;
-    for byte in name {
-        text.push(*byte as char)?;
-    }
-    text.push('"')?;
-    Ok(text)
-}
-
-/// What is asked of a type of a graph.
-fn known_in(
-    alloc: Global,
-    graph: &TypeGraph,
-    what: &str,
-    ty: u32,
-    rest: &str,
-) -> Result<String, Unanswered> {
-    match what {
-        "kind" => kind_text(alloc, graph.kind(ty)),
-        "bases" => bases_text(alloc, graph.bases(ty)),
-        "called" => name_text(alloc, graph.name(ty)),
-        "holds" => yes_or_no(alloc, graph.holds(ty)),
-        "same" => yes_or_no(alloc, graph.is_same(ty, number(rest)?)),
-        _ => Err(Unanswered::NotKnown),
-    }
-}
-
-/// What is asked of a type of the graph of `ROOTS from IMAGE`: `WHAT TYPE` and what is asked further.
-fn known_of(alloc: Global, image: &str, asked: &str) -> Result<String, Unanswered> {
-    let (what, rest) = first_word(asked);
-    let (ty, rest) = first_word(rest);
-    let rooted = rooted(alloc, image)?;
-    match read(alloc, &rooted)? {
-        Ok(graph) => known_in(alloc, &graph, what, number(ty)?, rest),
-        Err(fault) => fault_text(alloc, fault),
-    }
-}
-
-impl<'a> Images<'a> {
-    /// `NAME kind TYPE`, `bases`, `called`, `holds`, and `NAME same TYPE TYPE`.
-    fn known(&self, alloc: Global, name: &str, asked: &str) -> Result<String, Unanswered> {
-        for line in self.named.lines() {
-            let (other, image) = first_word(line);
-            if other == name {
-                return known_of(alloc, image, asked);
-            }
-        }
-        Err(Unanswered::NotKnown)
+        "otherwise"
     }
 }

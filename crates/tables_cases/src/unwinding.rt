@@ -1,85 +1,26 @@
 //! Unwinding by the codes of an inline entry over a stack of known words.
-use crate::answers::{said, with_number};
-use crate::stack::memory;
+use crate::answers::{say_byte, say_number};
+use crate::stack::{lay, memory};
 use bus_memories::flat::FlatBus;
-use case_rows::{Asked, Unanswered, first_word, number_at, numbers};
+use case_rows::{Text, Unanswered, first_word};
 use eh_bus::bus::Bus;
 use eh_bytecode::{Codes, CodesFault, UnwindEnd, Vrs, unwind};
-use std::alloc::{AllocError, Global};
 
 /// The stack pointer; 64 words stand from there on, the first of them 100, each one above the one below it.
 const SP: u32 = 0x3FFF_F000;
 
-/// What an unwinding or the bytes of codes is asked.
-#[derive(Clone, Copy)]
-pub struct Unwindings;
-
-impl Asked for Unwindings {
-    fn answer(&self, alloc: Global, question: &str) -> Result<String, Unanswered> {
-        let (what, rest) = first_word(question);
-        let given = numbers(alloc, rest)?;
-        match what {
-            "unwind" => unwound(alloc, &given),
-            "codes" => codes(alloc, &given),
-            _ => Err(Unanswered::NotKnown),
+/// `unwind WORD [SP [WORD..]]`: how the codes of an inline entry end, and the registers that they change; the further words
+/// stand from the stack pointer on. `codes BYTE..`: the bytes of a table's codes, or why there are none.
+pub fn tell(text: &mut Text, question: &str) {
+    let (what, rest) = first_word(question);
+    match what {
+        "unwind" => tell_unwound(text, rest),
+        "codes" => {
+            let bytes = text.bytes(rest);
+            say_codes(text, &bytes);
         }
+        _ => text.refuse(Unanswered::NotKnown),
     }
-}
-
-/// Stores words from an address on. What can't be stored there isn't.
-fn lay(bus: &mut FlatBus, from: u32, words: &[u32]) {
-    let mut at = from;
-    for word in words {
-        let _done = bus.store32(at, *word);
-        at = at.wrapping_add(4);
-    }
-}
-
-/// The stack with further words from an address on.
-fn stack(alloc: Global, from: u32, words: &[u32]) -> Result<FlatBus, Unanswered> {
-    let mut bus = memory(alloc)?;
-    for k in 0..64u32 {
-        let _done = bus.store32(SP + 4 * k, 0x100 + k);
-    }
-    lay(&mut bus, from, words);
-    Ok(bus)
-}
-
-/// r0 to r12 and lr have numbers of their own, and pc another.
-fn registers(sp: u32) -> [u32; 16] {
-    [
-        0x9000, 0x9001, 0x9002, 0x9003, 0x9004, 0x9005, 0x9006, 0x9007, 0x9008, 0x9009, 0x900A,
-        0x900B, 0x900C, sp, 0x900E, 0x900F,
-    ]
-}
-
-/// The place of bytes that begin no code.
-fn bad_code(alloc: Global, at: usize) -> Result<String, Unanswered> {
-    Ok(format!(in alloc; "bad code at {at}")?)
-}
-
-/// How an unwinding ends.
-fn end_text(alloc: Global, end: UnwindEnd) -> Result<String, Unanswered> {
-    match end {
-        UnwindEnd::Finished => said(alloc, "finished"),
-        UnwindEnd::Refused => said(alloc, "refused"),
-        UnwindEnd::BadCode(at) => bad_code(alloc, at),
-        UnwindEnd::Unreadable(a) => with_number(alloc, "unreadable", a),
-    }
-}
-
-/// Adds the registers that aren't as they were.
-pub fn push_changed(
-    text: &mut String,
-    before: &[u32; 16],
-    after: &[u32; 16],
-) -> Result<(), AllocError> {
-    for (k, (old, new)) in before.iter().zip(after).enumerate() {
-        if old != new {
-            write!(text, " r{k}={new:X}")?;
-        }
-    }
-    Ok(())
 }
 
 /// Why an entry has no codes.
@@ -91,56 +32,92 @@ pub fn fault_text(fault: CodesFault) -> &'static str {
     }
 }
 
+fn say_codes(text: &mut Text, bytes: &[u8]) {
+    match Codes::table(bytes) {
+        Ok(codes) => say_bytes(text, codes),
+        Err(fault) => text.say(fault_text(fault)),
+    }
+}
+
+fn say_bytes(text: &mut Text, codes: Codes) {
+    text.say("bytes");
+    for byte in codes {
+        say_byte(text, byte);
+    }
+}
+
+fn tell_unwound(text: &mut Text, words: &str) {
+    let (word, rest) = text.first_hex(words);
+    match Codes::inline(word) {
+        Ok(codes) => say_unwound(text, &codes, rest),
+        Err(fault) => text.say(fault_text(fault)),
+    }
+}
+
+/// Unwinds over a stack on which further words stand from the stack pointer on.
+fn say_unwound(text: &mut Text, codes: &Codes, words: &str) {
+    let (sp, words) = sp_of(text, words);
+    if let Some(mut bus) = memory(text) {
+        lay_known(&mut bus);
+        lay(text, &mut bus, sp, words);
+        say_unwound_over(text, codes, &bus, sp);
+    }
+}
+
+/// The stack pointer in front of further words.
+fn sp_of<'a>(text: &mut Text, words: &'a str) -> (u32, &'a str) {
+    if words.is_empty() {
+        (SP, "")
+    } else {
+        text.first_hex(words)
+    }
+}
+
+/// Stores the known words.
+fn lay_known(bus: &mut FlatBus) {
+    for k in 0..64u32 {
+        let _done = bus.store32(SP + 4 * k, 0x100 + k);
+    }
+}
+
+/// r0 to r12 and lr have numbers of their own, and pc another.
+fn registers(sp: u32) -> [u32; 16] {
+    let mut r = [0; 16];
+    for k in 0..16u32 {
+        r[k as usize] = 0x9000 + k;
+    }
+    r[13] = sp;
+    r
+}
+
 /// How codes end over a stack, and the registers that they change.
-fn unwound_over(
-    alloc: Global,
-    codes: &Codes,
-    bus: &FlatBus,
-    sp: u32,
-) -> Result<String, Unanswered> {
+fn say_unwound_over(text: &mut Text, codes: &Codes, bus: &FlatBus, sp: u32) {
     let before = registers(sp);
     let mut vrs = Vrs { r: before };
     let end = unwind(codes, &mut vrs, bus);
-    let mut text = end_text(alloc, end)?;
-    push_changed(&mut text, &before, &vrs.r)?;
-    Ok(text)
+    say_end(text, end);
+    say_changed(text, &before, &vrs.r);
 }
 
-/// `unwind WORD [SP [WORD..]]`: how the codes of an inline entry end, and the registers that they change; the further words
-/// stand from the stack pointer on.
-fn unwound(alloc: Global, given: &[u32]) -> Result<String, Unanswered> {
-    let sp = given.get(1).copied().unwrap_or(SP);
-    match Codes::inline(number_at(given, 0)?) {
-        Ok(codes) => {
-            let bus = stack(alloc, sp, given.get(2..).unwrap_or(&[]))?;
-            unwound_over(alloc, &codes, &bus, sp)
-        }
-        Err(fault) => said(alloc, fault_text(fault)),
+/// Adds how an unwinding ends.
+fn say_end(text: &mut Text, end: UnwindEnd) {
+    match end {
+        UnwindEnd::Finished => text.say("finished"),
+        UnwindEnd::Refused => text.say("refused"),
+        UnwindEnd::BadCode(at) => write!(text, "bad code at {at}"),
+        UnwindEnd::Unreadable(a) => say_number(text, "unreadable", a),
     }
 }
 
-/// The numbers as bytes.
-fn bytes_of(alloc: Global, given: &[u32]) -> Result<Vec<u8>, AllocError> {
-    let mut bytes = Vec::new(alloc);
-    for number in given {
-        bytes.push((number % 256) as u8)?;
+/// Adds the registers that aren't as they were.
+pub fn say_changed(text: &mut Text, before: &[u32; 16], after: &[u32; 16]) {
+    for k in 0..16usize {
+        say_register(text, k, before[k], after[k]);
     }
-    Ok(bytes)
 }
 
-fn codes_text(alloc: Global, codes: Codes) -> Result<String, Unanswered> {
-    let mut text = String::from_str(alloc, "bytes")?;
-    for byte in codes {
-        write!(text, " {byte:02X}")?;
-    }
-    Ok(text)
-}
-
-/// `codes BYTE..`: the bytes of a table's codes, or why there are none.
-fn codes(alloc: Global, given: &[u32]) -> Result<String, Unanswered> {
-    let bytes = bytes_of(alloc, given)?;
-    match Codes::table(bytes.as_slice()) {
-        Ok(codes) => codes_text(alloc, codes),
-        Err(fault) => said(alloc, fault_text(fault)),
+fn say_register(text: &mut Text, k: usize, old: u32, new: u32) {
+    if old != new {
+        write!(text, " r{k}={new:X}");
     }
 }

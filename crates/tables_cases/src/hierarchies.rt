@@ -1,0 +1,80 @@
+//! Hierarchies of types: files that list types and their objects, and what is caught among them.
+use crate::graphs::graph_in;
+use crate::listed::{addresses, type_file};
+use crate::matching::Hierarchy;
+use case_images::opened_in;
+use case_rows::{Text, Unanswered, run_telling};
+use eh_types::TypeGraph;
+use std::fs;
+use std::io::Error;
+
+/// The files of rows, each with those of its types and of its objects.
+pub static HIERARCHIES: [(&str, &str, &str); 6] = [
+    ("classes.txt", "hierarchies.types", "hierarchies.objects"),
+    ("pointers.txt", "hierarchies.types", "hierarchies.objects"),
+    ("words.txt", "hierarchies.types", "hierarchies.objects"),
+    ("plain.txt", "plain.types", "none.objects"),
+    ("virtual.txt", "virtual.types", "none.objects"),
+    ("names.txt", "names.types", "none.objects"),
+];
+
+/// Asks what is caught in a hierarchy of types, with its objects.
+pub fn run_hierarchy(
+    host: &HostRuntime,
+    name: &str,
+    types: &str,
+    objects: &str,
+) -> Result<(), Error> {
+    let types = fs::read_to_string(host, types)?;
+    run_types(host, name, types.as_str(), objects)
+}
+
+fn run_types(host: &HostRuntime, name: &str, types: &str, objects: &str) -> Result<(), Error> {
+    let objects = fs::read_to_string(host, objects)?;
+    run_objects(host, name, types, objects.as_str())
+}
+
+fn run_objects(host: &HostRuntime, name: &str, types: &str, objects: &str) -> Result<(), Error> {
+    let mut why = Text::new(host.alloc());
+    match type_file(&mut why, types) {
+        Some(file) => run_image(host, name, types, objects, &file),
+        None => say_no_graph(host, name, why),
+    }
+}
+
+fn run_image(
+    host: &HostRuntime,
+    name: &str,
+    types: &str,
+    objects: &str,
+    file: &[u8],
+) -> Result<(), Error> {
+    let mut why = Text::new(host.alloc());
+    match graph_of(&mut why, types, file) {
+        Some(graph) => {
+            let hierarchy = Hierarchy {
+                types,
+                objects,
+                graph: &graph,
+            };
+            run_telling(host, name, &hierarchy)
+        }
+        None => say_no_graph(host, name, why),
+    }
+}
+
+/// The graph of the types that a file's image was made of.
+fn graph_of<'a>(why: &mut Text, types: &str, file: &'a [u8]) -> Option<TypeGraph<'a>> {
+    let image = opened_in(why, file)?;
+    let roots = addresses(why, types);
+    graph_in(why, &image, &roots)
+}
+
+/// Says why there is no graph, if no memory was wanting.
+fn say_no_graph(host: &HostRuntime, name: &str, why: Text) -> Result<(), Error> {
+    match why.finish() {
+        Ok(why) => println!(host; "{name}: no graph, {why}"),
+        Err(Unanswered::Failed(fault)) => Err(fault),
+        Err(_why) => println!(host; "{name}: no graph"),
+    }
+}
