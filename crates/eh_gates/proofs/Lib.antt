@@ -4,3 +4,4 @@ pub mod Sought
 pub mod Honest
 pub mod Leaving
 pub mod Heads
+pub mod KeptMap

@@ -1,5 +1,6 @@
 -- What gates promise in the words of their users (docs/machine.md, "Laws").
 use Rattle.std.specs.Prelude.{◌≡◌, ◌⊎◌, ℕ, Bool, true, false, is_some, IsSome, Ok, Err}
+use Rattle.eh_bus.specs.Map.{IsMap, SameMap}
 use Rattle.eh_cxa.specs.declared.globals.Globals.{Globals}
 use Rattle.eh_cxa.specs.Words.{word, block_slot, object_slot}
 use Rattle.eh_cxa.specs.Throw.{throw_fault}
@@ -73,3 +74,7 @@ pub record AreHeads (g : Globals) : Type 0 where
 -- where the heads of both chains are heads before a gate, they are after it
 abbrev pub HeadsStay : Type 0
 HeadsStay = (g : Tables) (number next : ℕ) (s : State) → AreHeads s.globals → AreHeads (gate_of g number next s).1.globals
+
+-- in a memory as every bus has it a gate changes no segment but the bytes of those that may be written
+abbrev pub GatesKeepTheMap : Type 0
+GatesKeepTheMap = (g : Tables) (number next : ℕ) (s : State) → IsMap s.memory → SameMap s.memory.segments (gate_of g number next s).1.memory.segments

@@ -1,5 +1,6 @@
 //! The gates of exceptions by their numbers (docs/machine.md, "Gates").
 ghost use Rattle.std.specs.Prelude.{◌≡◌, false};
+ghost use Rattle.eh_bus.specs.Map.{SameMap};
 ghost use Rattle.guest_gates.specs.Ends.{is_fault};
 ghost use Rattle.thumb_core.specs.declared.ends.End.{End as TheEnd};
 ghost use Rattle.eh_gates.specs.State.{state_of, tables_of};
@@ -63,7 +64,7 @@ fn perform<B: Bus>(
 }
 
 /// Does the gate with a number. The registers are those before its instruction, and the next instruction is at `next`. Any other number is
-/// the trap `UnknownGate`. No end is a fault of the outside.
+/// the trap `UnknownGate`. No end is a fault of the outside, and segments stay as they are but for the bytes of those that may be written.
 pub fn gate<B: Bus>(
     t: &Tables,
     number: u8,
@@ -74,6 +75,7 @@ pub fn gate<B: Bus>(
 ) -> Turned
     ensures does { (result, state_of core.new (B.memory bus.new) events.new) ≡ gate_of (tables_of t.now.index t.now.types.now) number next (state_of core.old (B.memory bus.old) events.old) }
     ensures inside { (end : TheEnd) → result ≡ Turned.Ended end → is_fault end ≡ false }
+    ensures map { SameMap (B.memory bus.old).segments (B.memory bus.new).segments }
 {
     perform(t, number, next, core, bus, events)
 }

@@ -1,5 +1,5 @@
 //! What gates promise in the words of their users (docs/machine.md, "Laws").
-ghost use Rattle.eh_gates.specs.Laws.{GatesLeave, FailedSearchesEnterNothing, FailedRethrowsEnterNothing, HeadsStay};
+ghost use Rattle.eh_gates.specs.Laws.{GatesLeave, FailedSearchesEnterNothing, FailedRethrowsEnterNothing, HeadsStay, GatesKeepTheMap};
 
 /// A gate that ends the run leaves the registers as before its instruction, and unless it terminates globals and memory too.
 pub fn gates_leave()
@@ -19,4 +19,9 @@ pub fn failed_rethrows_enter_nothing()
 /// Where the heads of the caught stack and of the cleanups in progress are each none or a slot's control block, they are so after every gate.
 pub fn heads_stay()
     ensures { HeadsStay }
+{}
+
+/// No gate changes the map: segments stay as they are but for the bytes of those that may be written.
+pub fn gates_keep_the_map()
+    ensures { GatesKeepTheMap }
 {}
