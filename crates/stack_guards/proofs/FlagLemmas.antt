@@ -4,6 +4,7 @@ use Rattle.std.proofs.lemmas.List.{length-replicate, get_or-replicate, length-se
 use Rattle.std.proofs.lemmas.List.FromFn.{length-map-range_with_len, get_or-map-range_with_len}
 use Rattle.std.proofs.lemmas.Nat.Bits.{bit_at-zero, bit_at-lt, bit_at_set_same, bit_at_set_other, bit_at_and, bit_at_mask_inside, bit_at_mask_below, ones_shl}
 use Rattle.std.proofs.lemmas.Bool.{cases_lt, cases_eq, ltb-true, ltb-false, eqb-true, eqb-false, lt-ltb, le-ltb, le-leb, lt-leb}
+use Rattle.std.proofs.lemmas.Nat.{and_mask}
 use Rattle.std.specs.Prelude.{bit_and, bit_or}
 use Rattle.std.specs.Int.{bit_at}
 use Rattle.eh_list.specs.Bytes.{zeros, length-zeros}
@@ -105,6 +106,9 @@ masked n k j h l = rw (ones_shl 64 k (omega arith)) (bit_at_and n (2 ^ 64 - 2 ^ 
     go : ((j < k) ⊎ (k ≤ j)) → min (bit_at n j) (bit_at (2 ^ 64 - 2 ^ k) j) ≡ cond (nat_lt j k) 0 (bit_at n j)
     go (inl b) = rw (bit_at_mask_below k 64 j b, lt-ltb j k b) (omega arith)
     go (inr b) = rw (bit_at_mask_inside k 64 j b l, le-ltb j k b) (omega (arith, bit_at-lt n j))
+
+pub unmasked : (n k : ℕ) → n < 2 ^ 64 → k ≡ 0 → bit_and n ((2 ^ 64 - 1) * 2 ^ k % 2 ^ 64) ≡ n
+unmasked n k h e = rw (e, and_mask n 64) (omega (arith, h))
 
 -- a filter of the flagged words clears their flags
 pub flagged_filter : (p : ℕ → Bool) (low : ℕ) (old new : List Bool) → length new ≡ length old
@@ -329,3 +333,58 @@ stack_release a low first end high old new e f l below rest d =
         let p = below i b in
         rw (d.off i o b, stays_not home a (STACK_START + 4 * i) p (omega (arith, e))) (sym (and_false (get_or (flags_of old) i false)))
     go i h (inr b) (inr o) = kept i (inr b) (inl (rest i b (omega (arith, flags_length old, f))))
+
+-- whole numbers that are cleared, and a mask for the bits that are left
+pub cleared_before : (old mid : List ℕ) (from end v : ℕ) → from ≤ end / NUMBER_BITS → end / NUMBER_BITS < length mid
+    → ((k : ℕ) → from ≤ k → k < end / NUMBER_BITS → get_or mid k 0 ≡ 0)
+    → ((k : ℕ) → ((k < from) ⊎ (end / NUMBER_BITS ≤ k)) → get_or mid k 0 ≡ get_or old k 0)
+    → ((j : ℕ) → j < NUMBER_BITS → bit_at v j ≡ cond (nat_lt j (end % NUMBER_BITS)) 0 (bit_at (get_or mid (end / NUMBER_BITS) 0) j))
+    → (end % NUMBER_BITS ≡ 0 → v ≡ get_or mid (end / NUMBER_BITS) 0)
+    → Cleared old (set mid (end / NUMBER_BITS) v) from end
+cleared_before old mid from end v r w gone rest bits none = record {
+  clear = λ k l h. other k (omega (arith, h)) ∙ gone k l h;
+  part = λ j l. rw (here, ← same) (bits j l);
+  none = λ z. here ∙ none z ∙ same;
+  below = λ k l. other k (omega (arith, l, r)) ∙ rest k (inl l);
+  above = λ k l. other k (omega (arith, l)) ∙ rest k (inr (omega (arith, l)));
+}
+  where
+    here : get_or (set mid (end / NUMBER_BITS) v) (end / NUMBER_BITS) 0 ≡ v
+    here = get_or-set_same mid (end / NUMBER_BITS) v 0 w
+
+    same : get_or mid (end / NUMBER_BITS) 0 ≡ get_or old (end / NUMBER_BITS) 0
+    same = rest (end / NUMBER_BITS) (inr (omega arith))
+
+    other : (k : ℕ) → (k ≡ end / NUMBER_BITS → ⊥) → get_or (set mid (end / NUMBER_BITS) v) k 0 ≡ get_or mid k 0
+    other k n = get_or-set_other mid (end / NUMBER_BITS) k v 0 n
+
+-- a home whose numbers are all 0 has no word left
+pub home_emptied : (old new : List ℕ) (home clear : ℕ) → IsClear old home clear
+    → ((k : ℕ) → HOME_NUMBERS * home + clear ≤ k → k < HOME_NUMBERS * home + HOME_NUMBERS → get_or new k 0 ≡ 0)
+    → ((k : ℕ) → ((k < HOME_NUMBERS * home + clear) ⊎ (HOME_NUMBERS * home + HOME_NUMBERS ≤ k)) → get_or new k 0 ≡ get_or old k 0)
+    → Released old new (HOME_WORDS * home) (HOME_WORDS * (home + 1))
+home_emptied old new home clear c gone rest =
+    let w = c.within in
+    home_released old new home clear (HOME_WORDS * (home + 1)) c (omega (arith, w)) record {
+      clear = λ k l h. gone k l (omega (arith, h));
+      part = λ j l. let e = rest (HOME_WORDS * (home + 1) / NUMBER_BITS) (inr (omega arith)) in let z : HOME_WORDS * (home + 1) % NUMBER_BITS ≡ 0 = omega arith in rw (e, z, le-ltb j 0 (omega arith)) refl;
+      none = λ z. rest (HOME_WORDS * (home + 1) / NUMBER_BITS) (inr (omega arith));
+      below = λ k l. rest k (inl l);
+      above = λ k l. rest k (inr (omega (arith, l)));
+    }
+
+-- what is released up to a word, and then from there on
+pub released_on : (old mid new : List ℕ) (low at end : ℕ) → low ≤ at → at ≤ end → Released old mid low at → Released mid new at end → Released old new low end
+released_on old mid new low at end l h r s = record { off = λ i p q. off i p q (cases_lt i at); rest = λ i o. rest i o }
+  where
+    off : (i : ℕ) → low ≤ i → i < end → ((i < at) ⊎ (at ≤ i)) → get_or (flags_of new) i false ≡ false
+    off i p q (inl o) = s.rest i (inl o) ∙ r.off i p o
+    off i p q (inr o) = s.off i o q
+
+    rest : (i : ℕ) → ((i < low) ⊎ (end ≤ i)) → get_or (flags_of new) i false ≡ get_or (flags_of old) i false
+    rest i (inl o) = s.rest i (inl (omega arith)) ∙ r.rest i (inl o)
+    rest i (inr o) = s.rest i (inr o) ∙ r.rest i (inr (omega arith))
+
+-- nothing is released where no word is named
+pub released_nowhere : (numbers : List ℕ) (low end : ℕ) → end ≤ low → Released numbers numbers low end
+released_nowhere numbers low end h = record { off = λ i l b. absurd (omega arith); rest = λ i o. refl }

@@ -1,5 +1,5 @@
 //! Guarded words of the stack, kept as a bit for each word, and what of them a home holds; docs/memory-map.md says what they do.
-ghost use Rattle.std.specs.Prelude.{◌≡◌, ◌≢◌, ℕ, ◌+◌, ◌-◌, ◌*◌, ◌/◌, ◌%◌, ◌^◌, ◌<◌, ◌≤◌, ◌∷◌, [], length, Option, Some, None, filter, nat_le, ◌||◌, nat_lt, IfOk, min, slice_index, slice_index_or, slice_set, true, false, if◌then◌else◌};
+ghost use Rattle.std.specs.Prelude.{◌≡◌, ◌≢◌, ◌⊎◌, ℕ, ◌+◌, ◌-◌, ◌*◌, ◌/◌, ◌%◌, ◌^◌, ◌<◌, ◌≤◌, ◌∷◌, [], length, Option, Some, None, filter, nat_le, ◌||◌, nat_lt, IfOk, min, slice_index, slice_index_or, slice_set, true, false, if◌then◌else◌};
 ghost use Rattle.std.specs.Int.{bit_at};
 ghost use Rattle.eh_list.specs.Bytes.{zeros};
 ghost use Rattle.eh_bus.specs.Memory.{guard_hit, stays_guarded};
@@ -102,16 +102,16 @@ fn clear_numbers(alloc: Global, n: usize) -> Result<Vec<u64>, AllocError>
 }
 
 /// The guarded word of an access, by its bit.
-#[tactic(auto, using(crate::proofs::FlagLemmas::stack_hit, crate::proofs::FlagLemmas::hit_below))]
+#[inline(always)]
+#[tactic(auto, using(crate::proofs::FlagLemmas::stack_hit, crate::proofs::FlagLemmas::hit_below, crate::proofs::FlagLemmas::flag_outside))]
 fn hit_in(numbers: &[u64], a: u32, n: u32) -> Option<u32>
+    requires whole { length numbers.now ≡ NUMBERS }
     requires some { 0 < n }
     requires one_word { a % 4 + n ≤ 4 }
     ensures { result ≡ guard_hit (flagged STACK_START (flags_of numbers.now)) a n }
 {
-    if a < STACK_START {
-        return None;
-    }
-    let i = ((a - STACK_START) / 4) as usize;
+    // an address below the stack gets a place behind the last word
+    let i = (a.wrapping_sub(STACK_START) / 4) as usize;
     if flag(numbers, i) {
         Some(a - a % 4)
     } else {
@@ -119,12 +119,13 @@ fn hit_in(numbers: &[u64], a: u32, n: u32) -> Option<u32>
     }
 }
 
+#[inline(always)]
 #[tactic(auto, using(crate::proofs::FlagLemmas::flag_inside, crate::proofs::FlagLemmas::flag_outside))]
 fn flag(numbers: &[u64], i: usize) -> bool
+    requires { length numbers.now ≡ NUMBERS }
     ensures { result ≡ slice_index_or (flags_of numbers.now) i false }
 {
-    let k = i / NUMBER_BITS;
-    k < numbers.len() && (numbers[k] >> (i % NUMBER_BITS)) % 2 == 1
+    i < STACK_WORDS && (numbers[i / NUMBER_BITS] >> (i % NUMBER_BITS)) % 2 == 1
 }
 
 /// Sets the bit of the word at `a`.
@@ -140,7 +141,10 @@ fn guard_word(numbers: &mut [u64], clear: &mut [usize], a: u32)
     set_bit(numbers, i);
     let number = i / NUMBER_BITS;
     let home = number / HOME_NUMBERS;
-    clear[home] = clear[home].min(number % HOME_NUMBERS);
+    let lowest = number % HOME_NUMBERS;
+    if lowest < clear[home] {
+        clear[home] = lowest;
+    }
 }
 
 /// Sets the bit of a word.
@@ -165,6 +169,8 @@ fn words_below(a: u32) -> usize
 }
 
 /// Clears the bits of the words below `a` from the home on that begins at `low`.
+///
+/// The homes above that of `a` have no word below it, and those between `low` and it are clear as a rule: a test passes each.
 fn release(numbers: &mut [u64], clear: &mut [usize], low: u32, a: u32)
     requires flags { AreFlags numbers.old clear.old }
     requires inside { STACK_START ≤ low }
@@ -175,22 +181,60 @@ fn release(numbers: &mut [u64], clear: &mut [usize], low: u32, a: u32)
 {
     let first = ((low - STACK_START) / HOME_SIZE) as usize;
     let end = words_below(a);
-    for home in first..HOMES {
-        clear[home] = release_in(numbers, clear[home], home, end);
+    let last = end / HOME_WORDS;
+    if last < first {
+        return;
+    }
+    for home in first..last {
+        pass(numbers, clear, home);
+    }
+    if last < HOMES {
+        clear[last] = release_in(numbers, clear[last], last, end);
     }
 }
 
-/// Clears the bits of this home before the word `end`, and tells how many of its lowest numbers have no bit then.
-fn release_in(numbers: &mut [u64], clear: usize, home: usize, end: usize) -> usize
+/// Clears all bits of a home, which has none as a rule.
+#[inline(always)]
+fn pass(numbers: &mut [u64], clear: &mut [usize], home: usize)
+    requires home { home < HOMES }
+    requires flags { AreFlags numbers.old clear.old }
+    ensures released { Released numbers.old numbers.new (HOME_WORDS * home) (HOME_WORDS * (home + 1)) }
+    ensures flags { AreFlags numbers.new clear.new }
+{
+    if clear[home] < HOME_NUMBERS {
+        empty(numbers, home, clear[home]);
+        clear[home] = HOME_NUMBERS;
+    }
+}
+
+/// Clears all bits of a home.
+#[cold]
+#[inline(never)]
+fn empty(numbers: &mut [u64], home: usize, clear: usize)
     requires home { home < HOMES }
     requires whole { length numbers.old ≡ NUMBERS }
     requires clear { IsClear numbers.old home clear }
-    ensures released { Released numbers.old numbers.new (HOME_WORDS * home) (min end (HOME_WORDS * (home + 1))) }
+    ensures released { Released numbers.old numbers.new (HOME_WORDS * home) (HOME_WORDS * (home + 1)) }
+    ensures clear { IsClear numbers.new home HOME_NUMBERS }
+    ensures others { (k : ℕ) → k / HOME_NUMBERS ≢ home → slice_index numbers.new k ≡ slice_index numbers.old k }
+{
+    let first = HOME_NUMBERS * home;
+    clear_whole(numbers, first + clear, first + HOME_NUMBERS);
+}
+
+/// Clears the bits of this home before the word `end`, and tells how many of its lowest numbers have no bit then.
+#[inline(always)]
+fn release_in(numbers: &mut [u64], clear: usize, home: usize, end: usize) -> usize
+    requires home { home < HOMES }
+    requires low { HOME_WORDS * home ≤ end }
+    requires high { end < HOME_WORDS * (home + 1) }
+    requires whole { length numbers.old ≡ NUMBERS }
+    requires clear { IsClear numbers.old home clear }
+    ensures released { Released numbers.old numbers.new (HOME_WORDS * home) end }
     ensures clear { IsClear numbers.new home result }
     ensures others { (k : ℕ) → k / HOME_NUMBERS ≢ home → slice_index numbers.new k ≡ slice_index numbers.old k }
 {
     let first = HOME_NUMBERS * home;
-    let end = end.min((first + HOME_NUMBERS) * NUMBER_BITS);
     if end <= (first + clear) * NUMBER_BITS {
         return clear;
     }
@@ -199,26 +243,37 @@ fn release_in(numbers: &mut [u64], clear: usize, home: usize, end: usize) -> usi
 }
 
 /// Clears the bits from those of the number `from` up to those before the word `end`.
+#[inline(always)]
 fn clear_between(numbers: &mut [u64], from: usize, end: usize)
     requires whole { length numbers.old ≡ NUMBERS }
     requires rises { from ≤ end / NUMBER_BITS }
-    requires within { end ≤ STACK_WORDS }
+    requires within { end < STACK_WORDS }
     ensures { Cleared numbers.old numbers.new from end }
 {
     let part = end / NUMBER_BITS;
-    for k in from..part {
+    clear_whole(numbers, from, part);
+    numbers[part] = bits_from(numbers[part], end % NUMBER_BITS);
+}
+
+/// Makes the numbers from `from` up to `to` 0.
+#[inline(always)]
+fn clear_whole(numbers: &mut [u64], from: usize, to: usize)
+    requires { to ≤ length numbers.old }
+    ensures clear { (k : ℕ) → from ≤ k → k < to → slice_index numbers.new k ≡ 0 }
+    ensures rest { (k : ℕ) → ((k < from) ⊎ (to ≤ k)) → slice_index numbers.new k ≡ slice_index numbers.old k }
+{
+    for k in from..to {
         numbers[k] = 0;
-    }
-    if end % NUMBER_BITS != 0 {
-        numbers[part] = bits_from(numbers[part], end % NUMBER_BITS);
     }
 }
 
 /// A number without its bits before `from`.
-#[tactic(auto, using(crate::proofs::FlagLemmas::masked, std::proofs::lemmas::Nat::and_le_l))]
+#[inline(always)]
+#[tactic(auto, using(crate::proofs::FlagLemmas::masked, crate::proofs::FlagLemmas::unmasked, std::proofs::lemmas::Nat::and_le_l))]
 fn bits_from(number: u64, from: usize) -> u64
     requires { from < NUMBER_BITS }
     ensures bits { (j : ℕ) → j < NUMBER_BITS → bit_at result j ≡ (if nat_lt j from then 0 else bit_at number j) }
+    ensures all { from ≡ 0 → result ≡ number }
     ensures less { result ≤ number }
 {
     number & (u64::MAX << from)

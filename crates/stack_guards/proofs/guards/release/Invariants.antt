@@ -1,4 +1,4 @@
-use Rattle.std.proofs.Common.{◌+◌, ◌*◌, min}
+use Rattle.std.proofs.Common.{◌*◌}
 use Rattle.stack_guards.specs.Flags.{AreFlags, Released}
 use Rattle.stack_guards.specs.declared.guards.TheConstants.{HOME_WORDS}
 use Rattle.stack_guards.proofs.guards.release.Given as goal
@@ -6,5 +6,5 @@ use Rattle.stack_guards.proofs.guards.release.Given as goal
 abbrev pub invariant-loop-home : goal.invariant-loop-home
 invariant-loop-home l = record {
   flags : AreFlags l.numbers l.clear;
-  released : Released l.initial.numbers l.numbers (HOME_WORDS * l.first) (min l.end (HOME_WORDS * l.home));
+  released : Released l.initial.numbers l.numbers (HOME_WORDS * l.first) (HOME_WORDS * l.home);
 }
