@@ -1,9 +1,10 @@
 //! Descriptors and their iterator (IHI 0038). docs/descriptors.md has the formats.
-ghost use Rattle.std.specs.Prelude.{◌≡◌, ◌+◌, ◌-◌, ◌*◌, ◌/◌, ◌%◌, ◌^◌, ◌<◌, ◌≤◌, ◌==◌, [], length, IfSome, IsTrue, ◌↔◌, nat_le, Some, None, Ok, Err, option_copied};
+ghost use Rattle.std.specs.Prelude.{◌≡◌, ◌+◌, ◌-◌, ◌*◌, ◌/◌, ◌%◌, ◌^◌, ◌<◌, ◌≤◌, ◌==◌, [], length, IfSome, IsOk, IsTrue, ◌↔◌, nat_le, Some, None, Ok, Err, option_copied};
 ghost use Rattle.std.specs.Iterator.{YieldsFirst, item_count};
 ghost use Rattle.eh_desc.specs.Grammar.{word_at, address_at, pad_by, type_by, catch_type, descriptor_of, cleanup_at, catch_at, padded_at, types_at, specification_at, kind_at, found_at, items_from, items_of, table_items, type_in};
-ghost use Rattle.eh_desc.specs.Tables.{form};
+ghost use Rattle.eh_desc.specs.Tables.{form, scope_at};
 ghost use Rattle.eh_index.specs.Places.{table_of};
+ghost use Rattle.eh_bytecode.specs.Codes.{table_codes};
 
 use eh_bytecode::Codes;
 use eh_index::Index;
@@ -69,6 +70,7 @@ pub struct Desc {
 impl Desc {
     /// Whether an address lies in the scope: at its start or above, and below its end. A scope whose end is past the last address
     /// holds none.
+    #[inline(always)]
     pub fn covers(&self, site: u32) -> bool
         ensures { IsTrue result ↔ ((self.now.start ≤ site) × (site < (self.now.start + self.now.size) % 2 ^ 32)) }
     {
@@ -146,6 +148,7 @@ fn catch_type(address: u32, word: u32) -> CatchType
 
 impl<'a> Table<'a> {
     /// The word at a place.
+    #[inline(always)]
     #[tactic(auto, using(crate::proofs::Room::room))]
     fn word(&self, place: usize) -> Option<u32>
         ensures word { result ≡ word_at (form self.now) place }
@@ -155,6 +158,7 @@ impl<'a> Table<'a> {
     }
 
     /// The address of a place.
+    #[inline(always)]
     fn address_at(&self, place: usize) -> u32
         ensures { result ≡ address_at (form self.now) place }
     {
@@ -162,12 +166,14 @@ impl<'a> Table<'a> {
     }
 
     /// A landing pad by its word.
+    #[inline(always)]
     fn pad_by(&self, place: usize, word: u32) -> u32
         ensures { result ≡ pad_by (form self.now) place word }
     {
         even(prel31(self.address_at(place), word))
     }
 
+    #[inline(always)]
     fn descriptor_of(&self, place: usize, scope: Scope, kind: DescKind, next: usize) -> Found
         ensures { result ≡ descriptor_of (form self.now) place scope.length scope.offset kind next }
     {
@@ -181,6 +187,7 @@ impl<'a> Table<'a> {
         Found::One(desc, next)
     }
 
+    #[inline(always)]
     fn cleanup(&self, place: usize, scope: Scope) -> Found
         ensures { result ≡ cleanup_at (form self.now) place scope.length scope.offset scope.place }
     {
@@ -191,6 +198,7 @@ impl<'a> Table<'a> {
         self.descriptor_of(place, scope, DescKind::Cleanup { pad }, scope.place + 4)
     }
 
+    #[inline(always)]
     fn catch(&self, place: usize, scope: Scope) -> Found
         ensures { result ≡ catch_at (form self.now) place scope.length scope.offset scope.place }
     {
@@ -247,6 +255,7 @@ impl<'a> Table<'a> {
         self.descriptor_of(place, scope, kind, after)
     }
 
+    #[inline(never)]
     fn specification(&self, place: usize, scope: Scope) -> Found
         ensures { result ≡ specification_at (form self.now) place scope.length scope.offset scope.place }
     {
@@ -262,6 +271,7 @@ impl<'a> Table<'a> {
     }
 
     /// What the marks of a scope say stands after it.
+    #[inline(always)]
     fn kind(&self, place: usize, scope: Scope) -> Found
         ensures { result ≡ kind_at (form self.now) place scope.length scope.offset scope.place }
     {
@@ -273,7 +283,29 @@ impl<'a> Table<'a> {
         }
     }
 
+    /// The scope whose first word stands at a place. None where its second word isn't there.
+    #[inline(always)]
+    fn scope(&self, place: usize, first: u32) -> Option<Scope>
+        requires { place + 4 ≤ length self.now.bytes.now }
+        ensures { result ≡ scope_at (form self.now) place first }
+    {
+        if !self.wide {
+            return Some(Scope {
+                length: first % 0x1_0000,
+                offset: first / 0x1_0000,
+                place: place + 4,
+            });
+        }
+        let offset = self.word(place + 4)?;
+        Some(Scope {
+            length: first,
+            offset,
+            place: place + 8,
+        })
+    }
+
     /// What stands at a place.
+    #[inline(always)]
     fn found_at(&self, place: usize) -> Found
         ensures { result ≡ found_at (form self.now) place }
     {
@@ -283,23 +315,10 @@ impl<'a> Table<'a> {
         if first == 0 {
             return Found::End;
         }
-        if !self.wide {
-            let scope = Scope {
-                length: first % 0x1_0000,
-                offset: first / 0x1_0000,
-                place: place + 4,
-            };
-            return self.kind(place, scope);
+        match self.scope(place, first) {
+            Some(scope) => self.kind(place, scope),
+            None => Found::Fault(DescFault::Short),
         }
-        let Some(offset) = self.word(place + 4) else {
-            return Found::Fault(DescFault::Short);
-        };
-        let scope = Scope {
-            length: first,
-            offset,
-            place: place + 8,
-        };
-        self.kind(place, scope)
     }
 }
 
@@ -326,7 +345,8 @@ impl<'a> Model for Descs<'a> {
 
 impl<'a> Descs<'a> {
     /// No descriptors.
-    fn none() -> Descs<'a>
+    #[inline(always)]
+    pub fn none() -> Descs<'a>
         ensures { result ≡ [] }
     {
         Descs {
@@ -341,13 +361,12 @@ impl<'a> Descs<'a> {
         }
     }
 
-    /// The descriptors after the codes of a table.
-    fn after(start: u32, address: u32, bytes: &'a [u8]) -> Descs<'a>
+    /// The descriptors after the codes of a table, at an address, of an entry with a start. The codes can be read.
+    #[inline(always)]
+    pub fn after_codes(start: u32, address: u32, bytes: &'a [u8]) -> Descs<'a>
+        requires { IsOk (table_codes bytes.now) }
         ensures { result ≡ table_items start address bytes.now }
     {
-        if Codes::table(bytes).is_err() {
-            return Descs::none();
-        }
         let Some(first) = get_word(bytes, 0) else {
             return Descs::none();
         };
@@ -362,6 +381,16 @@ impl<'a> Descs<'a> {
             place: 4 + 4 * code_words_after(first) as usize,
             over: false,
         }
+    }
+
+    /// The descriptors after the codes of a table.
+    fn after(start: u32, address: u32, bytes: &'a [u8]) -> Descs<'a>
+        ensures { result ≡ table_items start address bytes.now }
+    {
+        if Codes::table(bytes).is_err() {
+            return Descs::none();
+        }
+        Descs::after_codes(start, address, bytes)
     }
 
     /// The descriptors of an entry, in the bytes from its table's address to the end of those of the read-only segment that holds
@@ -391,6 +420,7 @@ impl<'a> Iterator for Descs<'a> {
 
     ghost remaining = { item_count (λ s. s) };
 
+    #[inline(always)]
     #[tactic(auto, using(crate::proofs::Items::over, crate::proofs::Items::one, crate::proofs::Items::fault))]
     fn next(&mut self) -> Option<Result<Desc, DescFault>> {
         if self.over {
