@@ -2,15 +2,16 @@
 use Rattle.std.proofs.Common.{◌≡◌, ℕ, zero, suc, ◌+◌, ◌-◌, ◌*◌, ◌/◌, ◌%◌, ◌^◌, ◌<◌, ◌≤◌, ◌⊎◌, inl, inr, Bool, true, false, ◌==◌, ◌&&◌, ◌||◌, nat_le, nat_lt, min, cond, replicate, List, [], ◌∷◌, length, get_or, set, filter, Some, None, refl, sym, ◌∙◌, arith, ap, w64}
 use Rattle.std.proofs.lemmas.List.{length-replicate, get_or-replicate, length-set, get_or-set_same, get_or-set_other, get_or_past, ext_get_or}
 use Rattle.std.proofs.lemmas.List.FromFn.{length-map-range_with_len, get_or-map-range_with_len}
-use Rattle.std.proofs.lemmas.Nat.Bits.{bit_at-zero, bit_at-lt, bit_at_set_same, bit_at_set_other, bit_at_and, bit_at_mask_inside, bit_at_mask_below, ones_shl}
+use Rattle.std.proofs.lemmas.Nat.Bits.{bit_at-zero, bit_at-lt, bit_at-trailing_zeros, bit_at_set_same, bit_at_set_other, bit_at_and, bit_at_mask_inside, bit_at_mask_below, ones_shl}
 use Rattle.std.proofs.lemmas.Bool.{cases_lt, cases_eq, ltb-true, ltb-false, eqb-true, eqb-false, lt-ltb, le-ltb, le-leb, lt-leb}
-use Rattle.std.proofs.lemmas.Nat.{and_mask}
+use Rattle.std.proofs.lemmas.Nat.{and_mask, shr-shr}
 use Rattle.std.specs.Prelude.{bit_and, bit_or}
-use Rattle.std.specs.Int.{bit_at}
+use Rattle.std.specs.Int.{bit_at, trailing_zeros}
+use Rattle.std.specs.Int.Count.{trailing_of_zero}
 use Rattle.eh_list.specs.Bytes.{zeros, length-zeros}
 use Rattle.eh_bus.specs.Guards.{inserted, RiseFrom}
 use Rattle.eh_bus.specs.Memory.{guard_hit, stays_guarded}
-use Rattle.stack_guards.specs.Flags.{flagged, flag_in, flags_of, AreFlags, IsClear, Cleared, Released}
+use Rattle.stack_guards.specs.Flags.{flagged, flag_in, flags_of, AreFlags, IsClear, Cleared, Released, AreFree, AreOff}
 use Rattle.stack_guards.specs.declared.guards.TheConstants.{HOMES, HOME_NUMBERS, HOME_SIZE, HOME_WORDS, NUMBERS, NUMBER_BITS}
 use Rattle.eh_bus.specs.declared.map.TheConstants.{STACK_END, STACK_START, STACK_WORDS}
 
@@ -388,3 +389,64 @@ released_on old mid new low at end l h r s = record { off = λ i p q. off i p q 
 -- nothing is released where no word is named
 pub released_nowhere : (numbers : List ℕ) (low end : ℕ) → end ≤ low → Released numbers numbers low end
 released_nowhere numbers low end h = record { off = λ i l b. absurd (omega arith); rest = λ i o. refl }
+
+-- ---- runs of words
+
+run_word : (a k : ℕ) (flags : List Bool) → a % 4 ≡ 0 → STACK_START ≤ a
+    → guard_hit (flagged STACK_START flags) (a + 4 * k) 4 ≡ cond (get_or flags ((a - STACK_START) / 4 + k) false) (Some (a + 4 * k - (a + 4 * k) % 4)) None
+run_word a k flags e l =
+    let i : (a + 4 * k - STACK_START) / 4 ≡ (a - STACK_START) / 4 + k = omega arith in
+    rw i at (stack_hit (a + 4 * k) 4 flags (omega arith) (omega arith) (omega arith))
+
+pub free_off : (a count : ℕ) (flags : List Bool) → a % 4 ≡ 0 → STACK_START ≤ a → a < STACK_END → AreOff flags ((a - STACK_START) / 4) count → AreFree (flagged STACK_START flags) a count
+free_off a count flags e l h o = record {
+  low = l;
+  below = h;
+  high = omega (arith, o.within);
+  free = λ k b. run_word a k flags e l ∙ rw (o.off k b) refl;
+}
+
+is_off : (g : ℕ) (b : Bool) → cond b (Some g) None ≡ None → b ≡ false
+is_off g false q = refl
+is_off g true q = absurd (cc)
+
+pub off_free : (a count : ℕ) (flags : List Bool) → a % 4 ≡ 0 → AreFree (flagged STACK_START flags) a count → AreOff flags ((a - STACK_START) / 4) count
+off_free a count flags e f = record {
+  within = omega (arith, f.low, f.high);
+  off = λ k b. is_off (a + 4 * k - (a + 4 * k) % 4) (get_or flags ((a - STACK_START) / 4 + k) false) (sym (run_word a k flags e f.low) ∙ f.free k b);
+}
+
+-- a flag is a bit of what is left of its number, shifted down to an earlier one
+rest_flag : (numbers : List ℕ) (i k : ℕ) → i % NUMBER_BITS + k < NUMBER_BITS → get_or (flags_of numbers) (i + k) false ≡ (bit_at (get_or numbers (i / NUMBER_BITS) 0 / 2 ^ (i % NUMBER_BITS)) k == 1)
+rest_flag numbers i k h =
+    let at : (i + k) / NUMBER_BITS ≡ i / NUMBER_BITS = omega arith in
+    let of : (i + k) % NUMBER_BITS ≡ i % NUMBER_BITS + k = omega arith in
+    flag_at numbers (i + k) ∙ rw (at, of) (sym (ap (λ (n : ℕ). n % 2 == 1) (shr-shr (get_or numbers (i / NUMBER_BITS) 0) (i % NUMBER_BITS) k)))
+
+-- the lowest bit that is set tells of those below it
+record Lowest (m t : ℕ) : Type 0 where
+  below : (k : ℕ) → k < t → bit_at m k ≡ 0
+  set : t < 64 → bit_at m t ≡ 1
+
+lowest : (m : ℕ) → m < 2 ^ 64 → Lowest m (trailing_zeros w64 m)
+lowest zero h = record { below = λ k l. bit_at-zero k; set = λ l. absurd (omega (arith, trailing_of_zero 64)) }
+lowest (suc n) h = let t = bit_at-trailing_zeros w64 (suc n) (omega arith) h in record { below = t.2; set = λ l. t.1 }
+
+pub bits_zero : (m count : ℕ) → m < 2 ^ 64 → count ≤ trailing_zeros w64 m → (k : ℕ) → k < count → bit_at m k ≡ 0
+bits_zero m count f t k b = (lowest m f).below k (omega arith)
+
+pub bits_not_zero : (m count : ℕ) → m < 2 ^ 64 → count ≤ 64 → trailing_zeros w64 m < count → ((k : ℕ) → k < count → bit_at m k ≡ 0) → ⊥
+bits_not_zero m count f l t z = let on = (lowest m f).set (omega arith) in let off = z (trailing_zeros w64 m) t in omega (arith, on, off)
+
+-- flags of one number, by the bits of what is left of it
+pub bits_off : (numbers : List ℕ) (i count : ℕ) → i < STACK_WORDS → count ≤ NUMBER_BITS - i % NUMBER_BITS
+    → ((k : ℕ) → k < count → bit_at (get_or numbers (i / NUMBER_BITS) 0 / 2 ^ (i % NUMBER_BITS)) k ≡ 0)
+    → AreOff (flags_of numbers) i count
+bits_off numbers i count l h z = record { within = omega arith; off = λ k b. rest_flag numbers i k (omega arith) ∙ rw (z k b) refl }
+
+pub off_bits : (numbers : List ℕ) (i count : ℕ) → count ≤ NUMBER_BITS - i % NUMBER_BITS → AreOff (flags_of numbers) i count
+    → (k : ℕ) → k < count → bit_at (get_or numbers (i / NUMBER_BITS) 0 / 2 ^ (i % NUMBER_BITS)) k ≡ 0
+off_bits numbers i count h o k b =
+    let f = sym (rest_flag numbers i k (omega arith)) ∙ o.off k b in
+    let n = eqb-false (bit_at (get_or numbers (i / NUMBER_BITS) 0 / 2 ^ (i % NUMBER_BITS)) k) 1 f in
+    omega (arith, n, bit_at-lt (get_or numbers (i / NUMBER_BITS) 0 / 2 ^ (i % NUMBER_BITS)) k)

@@ -1,7 +1,9 @@
 -- Guarded words kept as one bit for each word of the stack, 64 of them in a number.
-use Rattle.std.specs.Prelude.{◌≡◌, ◌⊎◌, ℕ, ◌+◌, ◌*◌, ◌/◌, ◌%◌, ◌<◌, ◌≤◌, Bool, true, false, ◌==◌, nat_lt, List, [], ◌∷◌, length, map, slice_index, slice_index_or, if◌then◌else◌}
+use Rattle.std.specs.Prelude.{◌≡◌, ◌⊎◌, ℕ, ◌+◌, ◌*◌, ◌/◌, ◌%◌, ◌<◌, ◌≤◌, Bool, true, false, ◌==◌, nat_lt, List, [], ◌∷◌, length, map, slice_index, slice_index_or, if◌then◌else◌, None}
 use Rattle.std.specs.Int.{bit_at}
 use Rattle.std.specs.List.{range_with_len}
+use Rattle.eh_bus.specs.Memory.{guard_hit}
+use Rattle.eh_bus.specs.declared.map.TheConstants.{STACK_END, STACK_START, STACK_WORDS}
 use Rattle.stack_guards.specs.declared.guards.TheConstants.{HOMES, HOME_NUMBERS, NUMBERS, NUMBER_BITS}
 
 -- the addresses of the words that are flagged, the first word at low
@@ -43,3 +45,15 @@ pub record Cleared (old new : List ℕ) (from end : ℕ) : Type 0 where
 pub record Released (old new : List ℕ) (low end : ℕ) : Type 0 where
   pub off : (i : ℕ) → low ≤ i → i < end → slice_index_or (flags_of new) i false ≡ false
   pub rest : (i : ℕ) → ((i < low) ⊎ (end ≤ i)) → slice_index_or (flags_of new) i false ≡ slice_index_or (flags_of old) i false
+
+-- so many words of the stack from the one at `a` on, and none of them is guarded
+pub record AreFree (guards : List ℕ) (a count : ℕ) : Type 0 where
+  pub low : STACK_START ≤ a
+  pub below : a < STACK_END
+  pub high : a + 4 * count ≤ STACK_END
+  pub free : (k : ℕ) → k < count → guard_hit guards (a + 4 * k) 4 ≡ None
+
+-- the same by their flags, the first word being flag `i`
+pub record AreOff (flags : List Bool) (i count : ℕ) : Type 0 where
+  pub within : i + count ≤ STACK_WORDS
+  pub off : (k : ℕ) → k < count → slice_index_or flags (i + k) false ≡ false

@@ -4,7 +4,7 @@ ghost use Rattle.std.specs.Int.{bit_at};
 ghost use Rattle.eh_list.specs.Bytes.{zeros};
 ghost use Rattle.eh_bus.specs.Memory.{guard_hit, stays_guarded};
 ghost use Rattle.eh_bus.specs.Guards.{inserted};
-ghost use Rattle.stack_guards.specs.Flags.{flagged, flags_of, AreFlags, IsClear, Cleared, Released};
+ghost use Rattle.stack_guards.specs.Flags.{flagged, flags_of, AreFlags, IsClear, Cleared, Released, AreFree, AreOff};
 
 use eh_bus::map::{STACK_END, STACK_SIZE, STACK_START, STACK_WORDS};
 use std::alloc::{AllocError, Global};
@@ -30,7 +30,7 @@ pub(crate) const HOME_NUMBERS: usize = NUMBERS / HOMES;
 
 /// The guarded words: a bit for each word of the stack, the lowest bit of a number for the lowest address.
 ///
-/// A test reads one bit and a guard sets one. A release clears numbers whole, in each home from the lowest that may have a bit up to
+/// A test reads one bit and a guard sets one, and a run of words is tested at once where one number has their bits. A release clears numbers whole, in each home from the lowest that may have a bit up to
 /// that of its address, so a push and the return that releases it cost a step for each 64 words that lie between, and
 /// never the whole stack, nor more where another home has guards.
 #[derive(Drop)]
@@ -71,6 +71,16 @@ impl Guards {
         ensures { result ≡ guard_hit self.now a n }
     {
         hit_in(&self.numbers, a, n)
+    }
+
+    /// Whether the `count` words from `a` on are words of the stack, and none of them is guarded.
+    #[inline(always)]
+    pub fn are_free(&self, a: u32, count: usize) -> bool
+        requires { a % 4 ≡ 0 }
+        ensures yes { result ≡ true → AreFree self.now a count }
+        ensures no { result ≡ false → AreFree self.now a count → ⊥ }
+    {
+        free_in(&self.numbers, a, count)
     }
 
     /// Guards the word at `a`.
@@ -126,6 +136,76 @@ fn flag(numbers: &[u64], i: usize) -> bool
     ensures { result ≡ slice_index_or (flags_of numbers.now) i false }
 {
     i < STACK_WORDS && (numbers[i / NUMBER_BITS] >> (i % NUMBER_BITS)) % 2 == 1
+}
+
+/// Whether these words are of the stack and have no guard, by their bits.
+#[inline(always)]
+fn free_in(numbers: &[u64], a: u32, count: usize) -> bool
+    requires whole { length numbers.now ≡ NUMBERS }
+    requires aligned { a % 4 ≡ 0 }
+    ensures yes { result ≡ true → AreFree (flagged STACK_START (flags_of numbers.now)) a count }
+    ensures no { result ≡ false → AreFree (flagged STACK_START (flags_of numbers.now)) a count → ⊥ }
+{
+    // an address below the stack gets a place behind the last word
+    let first = (a.wrapping_sub(STACK_START) / 4) as usize;
+    first < STACK_WORDS && all_off(numbers, first, count)
+}
+
+/// Whether the bits of so many words are off. Those of a short run lie in one number as a rule, and are tested at once.
+#[inline(always)]
+fn all_off(numbers: &[u64], i: usize, count: usize) -> bool
+    requires whole { length numbers.now ≡ NUMBERS }
+    requires inside { i < STACK_WORDS }
+    ensures yes { result ≡ true → AreOff (flags_of numbers.now) i count }
+    ensures no { result ≡ false → AreOff (flags_of numbers.now) i count → ⊥ }
+{
+    if count <= NUMBER_BITS - i % NUMBER_BITS {
+        off_in_number(numbers, i, count)
+    } else {
+        off_by_word(numbers, i, count)
+    }
+}
+
+/// The same where their bits lie in one number.
+#[inline(always)]
+fn off_in_number(numbers: &[u64], i: usize, count: usize) -> bool
+    requires whole { length numbers.now ≡ NUMBERS }
+    requires inside { i < STACK_WORDS }
+    requires short { count ≤ NUMBER_BITS - i % NUMBER_BITS }
+    ensures yes { result ≡ true → AreOff (flags_of numbers.now) i count }
+    ensures no { result ≡ false → AreOff (flags_of numbers.now) i count → ⊥ }
+{
+    lowest_off(numbers[i / NUMBER_BITS] >> (i % NUMBER_BITS), count)
+}
+
+/// Whether the lowest bits of a number are off.
+#[inline(always)]
+#[tactic(auto, using(crate::proofs::FlagLemmas::bits_zero))]
+fn lowest_off(number: u64, count: usize) -> bool
+    requires { count ≤ NUMBER_BITS }
+    ensures yes { result ≡ true → (k : ℕ) → k < count → bit_at number k ≡ 0 }
+    ensures no { result ≡ false → ((k : ℕ) → k < count → bit_at number k ≡ 0) → ⊥ }
+{
+    count <= number.trailing_zeros() as usize
+}
+
+/// The same, one word after the other.
+#[inline(never)]
+fn off_by_word(numbers: &[u64], i: usize, count: usize) -> bool
+    requires whole { length numbers.now ≡ NUMBERS }
+    requires inside { i < STACK_WORDS }
+    ensures yes { result ≡ true → AreOff (flags_of numbers.now) i count }
+    ensures no { result ≡ false → AreOff (flags_of numbers.now) i count → ⊥ }
+{
+    if count > STACK_WORDS - i {
+        return false;
+    }
+    for k in 0..count {
+        if flag(numbers, i + k) {
+            return false;
+        }
+    }
+    true
 }
 
 /// Sets the bit of the word at `a`.
