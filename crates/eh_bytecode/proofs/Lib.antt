@@ -1,5 +1,7 @@
 pub mod CodesLaws
 pub mod Cursor
+pub mod Taking
+pub mod TakenCodes
 pub mod Numbers
 pub mod Lists
 pub mod Unwinds

@@ -11,7 +11,6 @@ use Rattle.eh_word.specs.Words.{has_more, base_128, uleb128_front, uleb128_of, p
 use Rattle.unwind_codes.specs.declared.code.Code.TheVariants.{RaiseLong}
 use Rattle.unwind_codes.specs.Table.{code_front}
 use Rattle.unwind_codes.proofs.Table.{long, long_by}
-use Rattle.unwind_codes.proofs.CutSteps.{front_within}
 
 take_four : (xs : List ℕ) → take 4 (take 5 xs) ≡ take 4 xs
 take_four [] = refl
@@ -70,19 +69,6 @@ five_enough xs =
 pub long_by_five : (xs front : List ℕ) → front ≡ take 5 xs → code_front 0xB2 xs ≡ long_by (result_ok (uleb128_of front 0))
 unfolding uleb128_of
 long_by_five xs front e = long 0xB2 xs refl ∙ ap (λ r. long_by (result_ok r)) (sym (five_enough xs) ∙ ap uleb128_front (sym e) ∙ placed (uleb128_front front))
-  where
-    placed : (r : Result (ℕ × ℕ) WordFault) → r ≡ placed_at 0 r
-    placed (Ok found) = λ i. Ok (found.0, (let e : found.1 ≡ 0 + found.1 = omega arith in e) i)
-    placed (Err fault) = refl
-
--- a number has no more bytes than there are
-pub size_small : (front : List ℕ) (n size : ℕ) → Ok (n, size) ≡ uleb128_of front 0 → size ≤ length front
-unfolding uleb128_of
-size_small front n size e =
-    let is : code_front 0xB2 front ≡ Some (RaiseLong n, 1 + size) =
-    long 0xB2 front refl ∙ ap (λ r. long_by (result_ok r)) (placed (uleb128_front front) ∙ sym e) in
-    let bounds = front_within 0xB2 front (RaiseLong n) (1 + size) is in
-    omega (arith, bounds.1)
   where
     placed : (r : Result (ℕ × ℕ) WordFault) → r ≡ placed_at 0 r
     placed (Ok found) = λ i. Ok (found.0, (let e : found.1 ≡ 0 + found.1 = omega arith in e) i)

@@ -59,12 +59,11 @@ started segments r s codes left e f =
     let none : length codes - length left ≡ 0 = omega (arith, ap length f) in
     ap (λ p. runs segments s (cut_from p left)) none ∙ ap (λ l. runs segments s (cut_from 0 l)) f ∙ ap (λ s. runs segments s (cut codes)) e
 
-pub bad_answer : (segments : List Segment) (s : Unwinding) (old : Vrs) (codes left : List ℕ) (w : Result (List ℕ) UnwindEnd) (m n : ℕ) →
-    runs segments s (cut_from (length codes - length left) left) ≡ w → None ≡ front left → 0 < length left → m ≡ length codes → n ≡ length left →
-    (BadCode (m - n), old) ≡ answer old w
-bad_answer segments s old codes left w m n to_do none some e f =
-    let place : m - n ≡ length codes - length left = omega arith in
-    ap (λ p. (BadCode p, old)) place ∙ ap (answer old) (sym (on_bad segments s (length codes - length left) left none some) ∙ to_do)
+pub bad_answer : (segments : List Segment) (s : Unwinding) (old : Vrs) (codes left : List ℕ) (w : Result (List ℕ) UnwindEnd) (place : ℕ) →
+    runs segments s (cut_from (length codes - length left) left) ≡ w → None ≡ front left → 0 < length left → place ≡ length codes - length left →
+    (BadCode place, old) ≡ answer old w
+bad_answer segments s old codes left w place to_do none some at =
+    ap (λ p. (BadCode p, old)) at ∙ ap (answer old) (sym (on_bad segments s (length codes - length left) left none some) ∙ to_do)
 
 pub end_answer : (segments : List Segment) (s : Unwinding) (old : Vrs) (place : ℕ) (left : List ℕ) (w : Result (List ℕ) UnwindEnd) (code : Code) (size : ℕ) (end : UnwindEnd) →
     runs segments s (cut_from place left) ≡ w → Some (code, size) ≡ front left → after segments s (effect code) ≡ Ends (Err end) → (end, old) ≡ answer old w

@@ -1,5 +1,5 @@
 -- The code bytes of an entry (IHI 0038, "The compact model").
-use Rattle.std.specs.Prelude.{ℕ, ◌/◌, ◌%◌, ◌^◌, ◌==◌, ◌||◌, not, Bool, nat_lt, if◌then◌else◌, List, [], ◌∷◌, length, Option, None, Result, Ok, Err}
+use Rattle.std.specs.Prelude.{ℕ, ◌/◌, ◌%◌, ◌^◌, ◌==◌, ◌-◌, ◌||◌, not, Bool, nat_lt, if◌then◌else◌, List, [], ◌∷◌, length, drop, Option, Some, None, Result, Ok, Err}
 use Rattle.byteorder.specs.Endian.{little_number}
 use Rattle.unwind_codes.specs.declared.code.Code.{Code}
 use Rattle.unwind_codes.specs.declared.words.TheConstants.{COMPACT_MARK, MOST_PERSONALITY}
@@ -43,3 +43,8 @@ table_codes bytes = codes_of_words (words_in bytes)
 abbrev pub front : List ℕ → Option (Code × ℕ)
 front [] = None
 front (first ∷ more) = code_front first more
+
+-- a code whose first byte was taken before is taken from the bytes after it; where none was found they stay as they are
+abbrev pub taken_after : Option (Code × ℕ) → List ℕ → Option Code × List ℕ
+taken_after None bytes = (None, bytes)
+taken_after (Some found) bytes = (Some found.0, drop (found.1 - 1) bytes)

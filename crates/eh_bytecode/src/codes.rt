@@ -1,10 +1,10 @@
 //! The code bytes of an entry (IHI 0038, "The compact model"), lent from where they stand. docs/unwind-bytecode.md states where
 //! they stand.
-ghost use Rattle.std.specs.Prelude.{◌≡◌, ◌+◌, ◌-◌, ◌*◌, ◌/◌, ◌%◌, ◌^◌, ◌<◌, ◌≤◌, ◌==◌, ◌++◌, [], List, ℕ, length, take, drop, IfSome};
+ghost use Rattle.std.specs.Prelude.{◌≡◌, ◌+◌, ◌-◌, ◌*◌, ◌/◌, ◌%◌, ◌^◌, ◌<◌, ◌≤◌, ◌==◌, ◌++◌, [], List, ℕ, length, take, drop, ◌∷◌, IfSome, MatchOption};
 ghost use Rattle.std.specs.Iterator.{YieldsFirst, item_count};
 ghost use Rattle.unwind_codes.specs.Bytes.{IsCode};
 ghost use Rattle.unwind_codes.specs.Table.{code_front};
-ghost use Rattle.eh_bytecode.specs.Codes.{inline_codes, table_codes, front};
+ghost use Rattle.eh_bytecode.specs.Codes.{inline_codes, table_codes, taken_after, turned};
 
 use eh_word::uleb128;
 use std::marker::Model;
@@ -48,24 +48,26 @@ impl<'a> Model for Codes<'a> {
 
 impl<'a> Codes<'a> {
     /// The code bytes of an entry in the second word of an index row.
+    #[inline(always)]
     pub fn inline(word: u32) -> Result<Codes<'a>, CodesFault>
         ensures { result ≡ inline_codes word }
     {
         let word = word.to_be_bytes();
-        if word[0] < COMPACT_TOP {
-            Err(CodesFault::Generic)
-        } else if word[0] > COMPACT_TOP {
-            Err(CodesFault::Reserved)
-        } else {
+        if word[0] == COMPACT_TOP {
             Ok(Codes {
                 word,
                 given: 1,
                 further: &[],
             })
+        } else if word[0] < COMPACT_TOP {
+            Err(CodesFault::Generic)
+        } else {
+            Err(CodesFault::Reserved)
         }
     }
 
     /// The code bytes of an entry in the exception table, whose bytes begin with those of its first word, the lowest byte first.
+    #[inline(always)]
     pub fn table(bytes: &'a [u8]) -> Result<Codes<'a>, CodesFault>
         ensures { result ≡ table_codes bytes.now }
     {
@@ -73,18 +75,18 @@ impl<'a> Codes<'a> {
             return Err(CodesFault::Short);
         };
         let word = [*d, *c, *b, *a];
-        if word[0] < COMPACT_TOP {
-            return Err(CodesFault::Generic);
-        }
-        if word[0] > COMPACT_TOP + MOST_PERSONALITY {
-            return Err(CodesFault::Reserved);
-        }
         if word[0] == COMPACT_TOP {
             return Ok(Codes {
                 word,
                 given: 1,
                 further: &more[..0],
             });
+        }
+        if word[0] < COMPACT_TOP {
+            return Err(CodesFault::Generic);
+        }
+        if word[0] > COMPACT_TOP + MOST_PERSONALITY {
+            return Err(CodesFault::Reserved);
         }
         let size = 4 * word[1] as usize;
         if more.len() < size {
@@ -142,77 +144,83 @@ impl<'a> Codes<'a> {
         (bytes, count)
     }
 
-    /// The code that begins with `10110010`, in front of these bytes.
-    fn long_raise(&self) -> Option<(Code, usize)>
-        ensures code { result ≡ code_front RAISE_LONG self.now }
-        ensures fits { IfSome result (λ found. IsCode found.0) }
+    /// Takes the rest of a code that begins with `10110010`.
+    #[inline(never)]
+    fn take_long_raise(&mut self) -> Option<Code>
+        ensures code { (result, self.new) ≡ taken_after (code_front RAISE_LONG self.old) self.old }
+        ensures fits { IfSome result IsCode }
     {
         let (bytes, count) = self.five();
         match uleb128(&bytes[..count], 0) {
-            Ok((words, size)) => Some((Code::RaiseLong(words), 1 + size)),
+            Ok((words, size)) => {
+                self.skip_bytes(size);
+                Some(Code::RaiseLong(words))
+            }
             Err(_) => None,
         }
     }
 
-    /// The code that begins with `1000iiii`, in front of these bytes.
-    #[tactic(auto, using(unwind_codes::proofs::Table::table))]
-    fn mask(mut self, first: u8) -> Option<(Code, usize)>
+    /// Takes the rest of a code that begins with `1000iiii`.
+    fn take_mask(&mut self, first: u8) -> Option<Code>
         requires low { POP_MASK ≤ first }
         requires high { first < RESTORE }
-        ensures code { result ≡ code_front first self.entry }
-        ensures fits { IfSome result (λ found. IsCode found.0) }
+        ensures code { (result, self.new) ≡ taken_after (code_front first self.old) self.old }
+        ensures fits { IfSome result IsCode }
     {
+        if first / 2 % 2 == 1 {
+            return None;
+        }
         let next = self.next()?;
         if first == POP_MASK && next == 0 {
-            Some((Code::Refuse, 2))
-        } else if first / 2 % 2 == 1 {
-            None
+            Some(Code::Refuse)
         } else {
             let mask = u16::from(first % 16) * 256 + u16::from(next);
-            Some((Code::PopMask(mask), 2))
+            Some(Code::PopMask(mask))
         }
     }
 
-    /// The code that begins with `10110001`, in front of these bytes.
-    #[tactic(auto, using(unwind_codes::proofs::Table::table))]
-    fn low_mask(mut self) -> Option<(Code, usize)>
-        ensures code { result ≡ code_front POP_LOW self.entry }
-        ensures fits { IfSome result (λ found. IsCode found.0) }
-    {
-        let next = self.next()?;
-        if next == 0 || next > 15 {
-            None
-        } else {
-            Some((Code::PopLow(next), 2))
-        }
-    }
-
-    /// The code at the front and how many bytes it has; None where no code begins there.
-    #[tactic(auto, using(unwind_codes::proofs::Table::table))]
-    pub(crate) fn front(&self) -> Option<(Code, usize)>
-        ensures code { result ≡ front self.now }
-        ensures fits { IfSome result (λ found. IsCode found.0) }
+    /// Takes the rest of a code that begins with `10110001`.
+    #[inline(never)]
+    fn take_low_mask(&mut self) -> Option<Code>
+        ensures code { (result, self.new) ≡ taken_after (code_front POP_LOW self.old) self.old }
+        ensures fits { IfSome result IsCode }
     {
         let mut after = self.again();
-        let first = after.next()?;
-        if first < LOWER {
-            Some((Code::Raise(first % 64), 1))
-        } else if first < POP_MASK {
-            Some((Code::Lower(first % 64), 1))
-        } else if first < RESTORE {
-            after.mask(first)
-        } else if first < POP_RANGE {
-            restore(first)
+        let next = after.next()?;
+        if next == 0 || next > 15 {
+            return None;
+        }
+        *self = after;
+        Some(Code::PopLow(next))
+    }
+
+    /// Takes the rest of a code whose first byte was taken, and answers the code. None where that byte and these begin no code; then
+    /// nothing is taken.
+    #[inline(always)]
+    pub(crate) fn take_code(&mut self, first: u8) -> Option<Code>
+        ensures code { (result, self.new) ≡ taken_after (code_front first self.old) self.old }
+        ensures fits { IfSome result IsCode }
+    {
+        if first < POP_RANGE {
+            if first < LOWER {
+                Some(Code::Raise(first % 64))
+            } else if first < POP_MASK {
+                Some(Code::Lower(first % 64))
+            } else if first < RESTORE {
+                self.take_mask(first)
+            } else {
+                restore(first)
+            }
         } else if first < POP_RANGE_AND_LR {
-            Some((Code::PopRange(first % 8), 1))
+            Some(Code::PopRange(first % 8))
         } else if first < FINISH {
-            Some((Code::PopRangeAndLr(first % 8), 1))
+            Some(Code::PopRangeAndLr(first % 8))
         } else if first == FINISH {
-            Some((Code::Finish, 1))
+            Some(Code::Finish)
         } else if first == POP_LOW {
-            after.low_mask()
+            self.take_low_mask()
         } else if first == RAISE_LONG {
-            after.long_raise()
+            self.take_long_raise()
         } else {
             None
         }
@@ -229,19 +237,34 @@ impl<'a> Codes<'a> {
 }
 
 /// The code `1001nnnn`: neither the stack pointer nor pc.
-#[tactic(auto, using(unwind_codes::proofs::Table::table))]
-fn restore(first: u8) -> Option<(Code, usize)>
+fn restore(first: u8) -> Option<Code>
     requires low { RESTORE ≤ first }
     requires high { first < POP_RANGE }
-    ensures code { (after : List ℕ) → result ≡ code_front first after }
-    ensures fits { IfSome result (λ found. IsCode found.0) }
+    ensures code { (after : List ℕ) → (result, after) ≡ taken_after (code_front first after) after }
+    ensures fits { IfSome result IsCode }
 {
     let register = first % 16;
     if register == 13 || register == 15 {
         None
     } else {
-        Some((Code::Restore(register), 1))
+        Some(Code::Restore(register))
     }
+}
+
+/// The first byte of the words further on, and the bytes after it; None where there is no word.
+#[inline(never)]
+fn next_word<'a>(further: &'a [u8]) -> Option<(u8, Codes<'a>)>
+    ensures { MatchOption result (turned further.now ≡ []) (λ first. turned further.now ≡ first.0 ∷ first.1) }
+{
+    let [a, b, c, d, more @ ..] = further else {
+        return None;
+    };
+    let codes = Codes {
+        word: [*d, *c, *b, *a],
+        given: 1,
+        further: more,
+    };
+    Some((*d, codes))
 }
 
 impl<'a> Iterator for Codes<'a> {
@@ -251,14 +274,12 @@ impl<'a> Iterator for Codes<'a> {
 
     ghost remaining = { item_count (λ s. s) };
 
+    #[inline(always)]
     fn next(&mut self) -> Option<u8> {
         if self.given == 4 {
-            let [a, b, c, d, more @ ..] = self.further else {
-                return None;
-            };
-            self.word = [*d, *c, *b, *a];
-            self.given = 0;
-            self.further = more;
+            let (byte, codes) = next_word(self.further)?;
+            *self = codes;
+            return Some(byte);
         }
         let byte = self.word[self.given];
         self.given += 1;

@@ -86,6 +86,7 @@ fn next_register(list: u16, k: u8) -> u8
 }
 
 /// Loads the registers of a list from address `a` on. No time goes to those that it doesn't have.
+#[inline(always)]
 #[tactic(auto, using(thumb_core::proofs::Listed::listed_all, thumb_core::proofs::Listed::listed_more, thumb_core::proofs::Listed::listed_none))]
 fn load_list<B: Bus>(list: u16, a: u32, r: &mut [u32; 16], bus: &B) -> Result<u32, BusFault>
     requires { bit_at list 13 ≡ 0 }
@@ -115,6 +116,7 @@ pub(crate) fn range(last: u8) -> u16
 }
 
 impl Unwinding {
+    #[inline(always)]
     fn begin(vrs: &Vrs) -> Unwinding
         ensures { result ≡ begins vrs.now.r }
     {
@@ -126,6 +128,7 @@ impl Unwinding {
     }
 
     /// Pops the registers of a list without the stack pointer, the lowest first.
+    #[inline(always)]
     fn pop<B: Bus>(&mut self, list: u16, bus: &B) -> Next
         requires { bit_at list 13 ≡ 0 }
         ensures { pops self.old (listed list) (load_words (B.memory bus.now).segments self.old.vsp (loads_from 0 (listed list)) self.old.r) ≡ step_of result self.new }
@@ -141,38 +144,49 @@ impl Unwinding {
     }
 
     /// Does what a code says.
+    #[inline(always)]
     fn apply<B: Bus>(&mut self, code: Code, bus: &B) -> Next
         requires { IsCode code }
         ensures { after (B.memory bus.now).segments self.old (effect code) ≡ step_of result self.new }
     {
-        match code {
-            Code::Raise(words) => self.vsp = self.vsp.wrapping_add(4 * u32::from(words) + 4),
-            Code::Lower(words) => self.vsp = self.vsp.wrapping_sub(4 * u32::from(words) + 4),
+        let list = match code {
+            Code::PopMask(mask) => 16 * mask,
+            Code::PopRange(last) => range(last),
+            Code::PopRangeAndLr(last) => range(last) + 0x4000,
+            Code::PopLow(mask) => u16::from(mask),
+            Code::Raise(words) => {
+                self.vsp = self.vsp.wrapping_add(4 * u32::from(words) + 4);
+                return Next::Goes;
+            }
+            Code::Lower(words) => {
+                self.vsp = self.vsp.wrapping_sub(4 * u32::from(words) + 4);
+                return Next::Goes;
+            }
             Code::RaiseLong(words) => {
                 let by = words.wrapping_mul(4).wrapping_add(LONG_LEAST);
                 self.vsp = self.vsp.wrapping_add(by);
+                return Next::Goes;
             }
-            Code::Restore(register) => self.vsp = self.r[register as usize],
-            Code::PopMask(mask) => return self.pop(16 * mask, bus),
-            Code::PopRange(last) => return self.pop(range(last), bus),
-            Code::PopRangeAndLr(last) => return self.pop(range(last) + 0x4000, bus),
-            Code::PopLow(mask) => return self.pop(u16::from(mask), bus),
+            Code::Restore(register) => {
+                self.vsp = self.r[register as usize];
+                return Next::Goes;
+            }
             Code::Refuse => return Next::Stops(UnwindEnd::Refused),
             Code::Finish => return Next::Finishes,
-        }
-        Next::Goes
+        };
+        self.pop(list, bus)
     }
 
-    /// The registers of the caller.
-    fn finish(&self) -> [u32; 16]
-        ensures { result ≡ finished self.now }
+    /// Gives a frame the registers of its caller.
+    #[inline(always)]
+    fn finish(&self, vrs: &mut Vrs)
+        ensures { vrs.new.r ≡ finished self.now }
     {
-        let mut r = self.r;
+        vrs.r = self.r;
         if !self.popped_pc {
-            r[15] = r[14];
+            vrs.r[15] = self.r[14];
         }
-        r[13] = self.vsp;
-        r
+        vrs.r[13] = self.vsp;
     }
 }
 
@@ -183,16 +197,16 @@ pub fn unwind<B: Bus>(codes: &Codes, vrs: &mut Vrs, bus: &B) -> UnwindEnd
 {
     let mut state = Unwinding::begin(vrs);
     let mut left = codes.again();
-    while !left.is_empty() {
-        let Some((code, size)) = left.front() else {
-            return UnwindEnd::BadCode(codes.len() - left.len());
+    while let Some(first) = left.next() {
+        let Some(code) = left.take_code(first) else {
+            return UnwindEnd::BadCode(codes.len() - left.len() - 1);
         };
         match state.apply(code, bus) {
-            Next::Goes => left.skip_bytes(size),
+            Next::Goes => {}
             Next::Finishes => break,
             Next::Stops(end) => return end,
         }
     }
-    vrs.r = state.finish();
+    state.finish(vrs);
     UnwindEnd::Finished
 }

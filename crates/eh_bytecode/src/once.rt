@@ -48,8 +48,8 @@ pub fn pops_once(codes: &Codes) -> bool
 {
     let mut seen = [false; 16];
     let mut left = codes.again();
-    while !left.is_empty() {
-        let Some((code, size)) = left.front() else {
+    while let Some(first) = left.next() {
+        let Some(code) = left.take_code(first) else {
             return true;
         };
         let Some(list) = list_of(code) else {
@@ -58,7 +58,6 @@ pub fn pops_once(codes: &Codes) -> bool
         if !mark(&mut seen, list) {
             return false;
         }
-        left.skip_bytes(size);
     }
     true
 }

@@ -241,12 +241,12 @@ pub fn summarise(codes: &Codes) -> Result<Recipe, RecipeFault>
 {
     let mut sum = Sum::begin();
     let mut left = codes.again();
-    while !left.is_empty() {
-        let Some((code, size)) = left.front() else {
+    while let Some(first) = left.next() {
+        let Some(code) = left.take_code(first) else {
             return Err(RecipeFault::BadCode);
         };
         match sum.add(code) {
-            Summed::Goes => left.skip_bytes(size),
+            Summed::Goes => {}
             Summed::Finishes => break,
             Summed::Stops(fault) => return Err(fault),
         }

@@ -1,4 +1,4 @@
-use Rattle.std.proofs.Common.{◌≡◌, ℕ, ◌/◌, ◌^◌, ◌<◌, ◌≤◌, ap, ◌∙◌, sym, arith}
+use Rattle.std.proofs.Common.{ℕ, ◌/◌, ◌^◌, ◌<◌, ap, ◌∙◌, sym, arith}
 use Rattle.std.proofs.Math.Nat.{div-le_self}
 use Rattle.eh_bytecode.proofs.Next.{none_left, next_of}
 use Rattle.eh_bytecode.proofs.frame.next_register.Goals as goal

@@ -4,22 +4,19 @@ use Rattle.unwind_codes.specs.Meaning.{effect}
 use Rattle.eh_bytecode.proofs.Unwinds.{as_list, code_range, code_range_and_lr, code_low}
 use Rattle.eh_bytecode.proofs.Lists.{mask_listed, low_listed, range_listed, range_and_lr_listed}
 use Rattle.eh_bytecode.proofs.frame.Unwinding.apply.Goals as goal
+use Rattle.eh_bytecode.proofs.frame.Unwinding.apply.Goals.{in-PopMask, in-PopRange, in-PopRangeAndLr, in-PopLow}
 
-pub returns-in-PopMask : goal.returns-in-PopMask
-returns-in-PopMask g c = as_list _ _ c.args.code _ _ _ (ap effect c.in-PopMask.is) (mask_listed c.in-PopMask.mask) c.pop.ensures
-
-pub returns-in-PopRange : goal.returns-in-PopRange
-returns-in-PopRange g c =
-    as_list _ _ c.args.code _ _ _ (ap effect c.in-PopRange.is)
-    (range_listed c.in-PopRange.last (code_range c.args.code c.in-PopRange.last c.requires c.in-PopRange.is) ∙ ap listed (sym c.range.ensures)) c.pop-in-PopRange.ensures
-
-pub returns-in-PopRangeAndLr : goal.returns-in-PopRangeAndLr
-returns-in-PopRangeAndLr g c =
-    as_list _ _ c.args.code _ _ _ (ap effect c.in-PopRangeAndLr.is)
-    (range_and_lr_listed c.in-PopRangeAndLr.last (code_range_and_lr c.args.code c.in-PopRangeAndLr.last c.requires c.in-PopRangeAndLr.is) ∙ ap (λ n. listed (n + 0x4000)) (sym c.range-in-PopRangeAndLr.ensures))
-    c.pop-in-PopRangeAndLr.ensures
-
-pub returns-in-PopLow : goal.returns-in-PopLow
-returns-in-PopLow g c =
-    as_list _ _ c.args.code _ _ _ (ap effect c.in-PopLow.is)
-    (low_listed c.in-PopLow.mask (code_low c.args.code c.in-PopLow.mask c.requires c.in-PopLow.is) ∙ ap listed (sym c.from-in-PopLow.ensures)) c.pop-in-PopLow.ensures
+pub returns : goal.returns
+returns g c = elim c.match-code.branch [
+  | in-PopMask w ↦ as_list _ _ c.args.code _ _ _ (ap effect w.in-PopMask.is) (mask_listed w.in-PopMask.mask ∙ ap listed (sym w.list-is)) c.pop.ensures
+  | in-PopRange w ↦
+      as_list _ _ c.args.code _ _ _ (ap effect w.in-PopRange.is)
+      (range_listed w.in-PopRange.last (code_range c.args.code w.in-PopRange.last c.requires w.in-PopRange.is) ∙ ap listed (sym w.range-list.ensures) ∙ ap listed (sym w.list-is)) c.pop.ensures
+  | in-PopRangeAndLr w ↦
+      as_list _ _ c.args.code _ _ _ (ap effect w.in-PopRangeAndLr.is)
+      (range_and_lr_listed w.in-PopRangeAndLr.last (code_range_and_lr c.args.code w.in-PopRangeAndLr.last c.requires w.in-PopRangeAndLr.is) ∙ ap (λ n. listed (n + 0x4000)) (sym w.range.ensures) ∙ ap listed (sym w.list-is))
+      c.pop.ensures
+  | in-PopLow w ↦
+      as_list _ _ c.args.code _ _ _ (ap effect w.in-PopLow.is)
+      (low_listed w.in-PopLow.mask (code_low c.args.code w.in-PopLow.mask c.requires w.in-PopLow.is) ∙ ap listed (sym w.from-list.ensures) ∙ ap listed (sym w.list-is)) c.pop.ensures
+]
