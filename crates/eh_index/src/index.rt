@@ -15,6 +15,9 @@ use elf_image::image::Image;
 use std::marker::Model;
 use unwind_codes::row::{Entry, EntryBody, PREL31_LIMIT, ROW_SIZE};
 
+/// How many times longer each step of a search from a row outwards is than the one before it.
+const STEP_GROWTH: u32 = 16;
+
 /// The exception index of an image, which contracts see as that image: its rows are accepted, and rise.
 #[derive(Drop)]
 pub struct Index<'i, 'a> {
@@ -85,17 +88,19 @@ fn count(image: &Image) -> u32
     (bytes.len() / ROW_SIZE as usize) as u32
 }
 
-/// How many of the rows begin at the address or below it, by halving.
+/// How many of the rows begin at the address or below it, by halving those from `low` to below `high`: the ones before them do, and
+/// the ones after them don't.
 #[tactic(auto, using(crate::proofs::Search::rises))]
-fn rows_up_to(image: &Image, count: u32, site: u32) -> u32
-    requires count { count ≡ entry_count image.now }
+fn rows_between(image: &Image, mut low: u32, mut high: u32, site: u32) -> u32
     requires accepted { index_refusal image.now ≡ None }
-    ensures within { result ≤ count }
+    requires ordered { low ≤ high }
+    requires within { high ≤ entry_count image.now }
+    requires low_ones { (k : ℕ) → k < low → (entry_at image.now k).start ≤ site }
+    requires high_ones { (k : ℕ) → high ≤ k → k < entry_count image.now → site < (entry_at image.now k).start }
+    ensures within { result ≤ entry_count image.now }
     ensures below { (k : ℕ) → k < result → (entry_at image.now k).start ≤ site }
     ensures above { (k : ℕ) → result ≤ k → k < entry_count image.now → site < (entry_at image.now k).start }
 {
-    let mut low = 0;
-    let mut high = count;
     while low < high {
         let middle = low + (high - low) / 2;
         if start_at(image, middle) <= site {
@@ -105,6 +110,44 @@ fn rows_up_to(image: &Image, count: u32, site: u32) -> u32
         }
     }
     low
+}
+
+/// How many of the rows begin at the address or below it, by halving.
+fn rows_up_to(image: &Image, count: u32, site: u32) -> u32
+    requires count { count ≡ entry_count image.now }
+    requires accepted { index_refusal image.now ≡ None }
+    ensures within { result ≤ count }
+    ensures below { (k : ℕ) → k < result → (entry_at image.now k).start ≤ site }
+    ensures above { (k : ℕ) → result ≤ k → k < entry_count image.now → site < (entry_at image.now k).start }
+{
+    rows_between(image, 0, count, site)
+}
+
+/// How many of the rows begin at the address or below it. Looks at a row and at rows on one side of it, in steps that grow, until
+/// rows on both sides of the address are known, and halves those between.
+#[tactic(auto, using(crate::proofs::Search::rises))]
+fn rows_near(image: &Image, count: u32, site: u32, near: u32) -> u32
+    requires count { count ≡ entry_count image.now }
+    requires accepted { index_refusal image.now ≡ None }
+    ensures within { result ≤ count }
+    ensures below { (k : ℕ) → k < result → (entry_at image.now k).start ≤ site }
+    ensures above { (k : ℕ) → result ≤ k → k < entry_count image.now → site < (entry_at image.now k).start }
+{
+    let mut low = 0;
+    let mut high = count;
+    let mut probe = near;
+    let mut step = 1u32;
+    while low <= probe && probe < high {
+        if start_at(image, probe) <= site {
+            low = probe + 1;
+            probe = probe.wrapping_add(step);
+        } else {
+            high = probe;
+            probe = probe.wrapping_sub(step);
+        }
+        step = step.wrapping_mul(STEP_GROWTH);
+    }
+    rows_between(image, low, high, site)
 }
 
 impl<'i, 'a> Index<'i, 'a> {
@@ -163,6 +206,21 @@ impl<'i, 'a> Index<'i, 'a> {
             None
         } else {
             Some(entry_at(self.image, count - 1))
+        }
+    }
+
+    /// The same entry, sought from a row on outwards: few rows are read where the entry's row is close to it, and in the worst case
+    /// about as many as `find` reads. `near` is any number; best it is the row of the entry that was found last. The second of the
+    /// result is the row of this one.
+    pub fn find_near(&self, site: u32, near: u32) -> (Option<Entry>, u32)
+        ensures covering { result.0 ≡ covering (entries_of self.now) site }
+        ensures stands { IfSome result.0 (IsEntry self.now) }
+    {
+        let rows = rows_near(self.image, count(self.image), site, near);
+        if rows == 0 {
+            (None, 0)
+        } else {
+            (Some(entry_at(self.image, rows - 1)), rows - 1)
         }
     }
 

@@ -1,6 +1,6 @@
 use Rattle.std.proofs.Common.{ℕ, ◌-◌, ◌<◌, ◌≤◌}
 use Rattle.eh_index.specs.Rows.{entry_at, entry_count}
-use Rattle.eh_index.proofs.index.rows_up_to.Given as goal
+use Rattle.eh_index.proofs.index.rows_between.Given as goal
 
 abbrev pub invariant-loop-low : goal.invariant-loop-low
 invariant-loop-low l = record {
