@@ -1,5 +1,5 @@
 -- Frames that are passed by what the entry said of the one before.
-use Rattle.std.proofs.Common.{◌≡◌, ℕ, List, [], ◌∷◌, refl, sym, ◌∙◌, ap, arith, cond, nat_eq, IfSome, Option, Some, None, Result, Ok, Err, Bool, true, false}
+use Rattle.std.proofs.Common.{◌≡◌, ℕ, List, [], ◌∷◌, refl, ◌∙◌, ap, arith, cond, nat_eq, Option, Some, None, Result, Ok, Err, Bool, true, false}
 use Rattle.std.specs.Prelude.{◌&&◌}
 use Rattle.std.proofs.lemmas.Bool.Decides.{nat_tests}
 use Rattle.elf_image.specs.Image.{Image}
@@ -20,7 +20,7 @@ use Rattle.eh_phase.specs.declared.phase2.Entered.{Entered}
 use Rattle.eh_phase.specs.declared.phase2.Entered.TheVariants as enters
 use Rattle.eh_phase.specs.Firsts.{first_some, or_next}
 use Rattle.eh_phase.specs.Verdict.{Meeting, verdict_of, in_scope}
-use Rattle.eh_phase.specs.Phases.{Frame, found_by, entered_item, entered_by, spec_entered, vrs_of, from_address, is_goal}
+use Rattle.eh_phase.specs.Phases.{Frame, found_by, entered_item, entered_by, spec_entered, vrs_of, from_address}
 use Rattle.eh_phase.specs.Frames.{Stack, covered_at, outer}
 use Rattle.eh_phase.specs.Calls.{cursor_of, frame_at}
 use Rattle.eh_phase.specs.Passed.{unless, said_by, said_at, enters_by, enters_at, IsQuiet}
@@ -165,11 +165,3 @@ pub stays_quiet : (g : Goal) (image : Image) (f : Frame) (codes : List ℕ) → 
 stays_quiet g image f codes h k same apart =
     let q = quiet_at g 0 image f codes h in
     quiet_covered g image k q.here codes (ap (covered_at image) same ∙ q.covered) (quiet_items g f k q.here.descs same apart q.nothing) q.same
-
--- what is kept of a frame that was passed
-pub kept_if : {A : Type 0} (P : A → Type 0) (next : ℕ) (here : A) (r : Option A) → r ≡ cond (nat_eq next 0) (Some here) None → (next ≡ 0 → P here) → IfSome r P
-kept_if P next here r e h = by_test (nat_eq next 0) refl e
-  where
-    by_test : (b : Bool) → nat_eq next 0 ≡ b → r ≡ cond b (Some here) None → IfSome r P
-    by_test true z e = let none : next ≡ 0 = grind (arith, nat_tests) in rw e (h none)
-    by_test false z e = rw e tt

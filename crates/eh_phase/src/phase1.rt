@@ -1,12 +1,12 @@
 //! Phase 1: the search for a frame that stops a thrown object (docs/phases.md, "Phase 1").
-ghost use Rattle.std.specs.Prelude.{◌≡◌, IfSome, IfOk, IfErr, Ok, Err};
+ghost use Rattle.std.specs.Prelude.{◌≡◌};
 ghost use Rattle.eh_phase.specs.Phases.{found_by, phase1};
 ghost use Rattle.eh_phase.specs.Frames.{frames_of};
 ghost use Rattle.eh_phase.specs.Calls.{frame_at, meeting, stack_of};
 ghost use Rattle.eh_phase.specs.Passed.{said_at};
 
 use crate::verdict::{Thrown, Verdict, verdict_of};
-use crate::walk::{Covered, Cursor, Tables, covered_at, outer};
+use crate::walk::{Covered, Cursor, Tables, covered_at, go_out};
 use eh_bus::bus::Bus;
 use eh_bytecode::{Codes, Vrs};
 use eh_match::Match;
@@ -79,30 +79,6 @@ fn silent_codes<'a, B: Bus>(
     }
 }
 
-/// A frame at a site that says nothing is passed; the last one that was passed answers for one at its site.
-fn pass<'a, B: Bus>(
-    t: &Tables<'_, 'a>,
-    bus: &B,
-    what: &Thrown,
-    site: u32,
-    last: Option<Passed<'a>>,
-) -> Result<Passed<'a>, Verdict>
-    requires { let m = meeting t.now.index t.now.types.now (B.memory bus.now).segments what.now in IfSome last (λ p. said_at m t.now.index p.site ≡ Ok p.codes) }
-    ensures passed { let m = meeting t.now.index t.now.types.now (B.memory bus.now).segments what.now in IfOk result (λ p. said_at m t.now.index site ≡ Ok p.codes) }
-    ensures site { IfOk result (λ p. p.site ≡ site) }
-    ensures said { let m = meeting t.now.index t.now.types.now (B.memory bus.now).segments what.now in IfErr result (λ v. said_at m t.now.index site ≡ Err v) }
-{
-    if let Some(passed) = last {
-        if passed.site == site {
-            return Ok(passed);
-        }
-    }
-    match silent_codes(t, bus, what, site) {
-        Ok(codes) => Ok(Passed { site, codes }),
-        Err(said) => Err(said),
-    }
-}
-
 /// Phase 1, from registers and the address at which their frame stands: the first frame outwards whose descriptors say something
 /// decides. Frames above `limit` aren't looked at: the throw would leave a cleanup. Takes no memory, and keeps one frame.
 pub fn search<B: Bus>(
@@ -121,16 +97,23 @@ pub fn search<B: Bus>(
         site,
         innermost: true,
     };
-    let mut last = None;
+    let mut here = match silent_codes(t, bus, what, site) {
+        Ok(codes) => Passed { site, codes },
+        Err(said) => return found_by(&cursor, said),
+    };
     loop {
-        let here = match pass(t, bus, what, cursor.site, last) {
-            Ok(here) => here,
-            Err(said) => return found_by(&cursor, said),
-        };
-        match outer(&here.codes, bus, limit, &cursor) {
-            Err(cause) => return Found::Terminate(cause),
-            Ok(next) => cursor = next,
+        if let Some(cause) = go_out(&here.codes, bus, limit, &mut cursor) {
+            return Found::Terminate(cause);
         }
-        last = Some(here);
+        if here.site == cursor.site {
+            continue;
+        }
+        match silent_codes(t, bus, what, cursor.site) {
+            Ok(codes) => here = Passed {
+                site: cursor.site,
+                codes,
+            },
+            Err(said) => return found_by(&cursor, said),
+        }
     }
 }

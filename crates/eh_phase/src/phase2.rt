@@ -1,14 +1,14 @@
 //! Phase 2: the landing pad that is entered next (docs/phases.md, "Phase 2").
-ghost use Rattle.std.specs.Prelude.{◌≡◌, ◌&&◌, ◌==◌, not, if◌then◌else◌, Some, None, IfSome, IfOk, IfErr, Ok, Err};
+ghost use Rattle.std.specs.Prelude.{◌≡◌, ◌&&◌, not, None};
 ghost use Rattle.eh_phase.specs.Firsts.{first_some};
 ghost use Rattle.eh_phase.specs.Phases.{stands_at, is_goal, spec_entered, entered_by, entered_item, from_address, phase2};
 ghost use Rattle.eh_phase.specs.Frames.{frames_of};
 ghost use Rattle.eh_phase.specs.Calls.{frame_at, stack_of};
-ghost use Rattle.eh_phase.specs.Passed.{enters_at, IsQuiet};
+ghost use Rattle.eh_phase.specs.Passed.{enters_at};
 
 use crate::phase1::Passed;
 use crate::verdict::is_in_scope;
-use crate::walk::{Covered, Cursor, Tables, covered_at, outer};
+use crate::walk::{Covered, Cursor, Tables, covered_at, go_out};
 use eh_bus::bus::Bus;
 use eh_bytecode::{Codes, Vrs};
 use eh_desc::{Desc, DescFault, DescKind, Descs};
@@ -171,40 +171,6 @@ fn quiet_codes<'a>(
     }
 }
 
-/// A frame that enters nothing is passed; the last one that was passed answers for one at its site, but for the barrier's own frame.
-fn pass<'a>(
-    t: &Tables<'_, 'a>,
-    goal: &Goal,
-    next: u32,
-    cursor: &Cursor,
-    last: Option<Passed<'a>>,
-) -> Result<Passed<'a>, Entered>
-    requires quiet { IfSome last (λ p. IsQuiet goal.now t.now.index p.site p.codes) }
-    ensures passed { IfOk result (λ p. enters_at goal.now next t.now.index (frame_at cursor.now) ≡ Ok p.codes) }
-    ensures quiet { IfOk result (λ p. next ≡ 0 → IsQuiet goal.now t.now.index p.site p.codes) }
-    ensures entered { IfErr result (λ e. enters_at goal.now next t.now.index (frame_at cursor.now) ≡ Err e) }
-{
-    if let Some(passed) = last {
-        if passed.site == cursor.site && next == 0 && cursor.vrs.r[13] != goal.sp {
-            return Ok(passed);
-        }
-    }
-    match quiet_codes(t, goal, next, cursor) {
-        Ok(codes) => Ok(Passed {
-            site: cursor.site,
-            codes,
-        }),
-        Err(entered) => Err(entered),
-    }
-}
-
-/// A frame that was passed, to be kept for the next one: not where only its descriptors from one on were looked at.
-fn kept(here: Passed<'_>, next: u32) -> Option<Passed<'_>>
-    ensures { result ≡ (if next == 0 then Some here.entry else None) }
-{
-    if next == 0 { Some(here) } else { None }
-}
-
 /// Phase 2, from registers and the address at which their frame stands, to a barrier: the first cleanup in scope on the way, or the
 /// barrier. In the first frame only the descriptors from the one at `next` on count; all of them for 0, none for an address that no
 /// descriptor of its has. Takes no memory, and keeps one frame.
@@ -224,17 +190,24 @@ pub fn advance<B: Bus>(
         innermost: true,
     };
     let mut next = next;
-    let mut last = None;
+    let mut here = match quiet_codes(t, goal, next, &cursor) {
+        Ok(codes) => Passed { site, codes },
+        Err(entered) => return entered,
+    };
     loop {
-        let here = match pass(t, goal, next, &cursor, last) {
-            Ok(here) => here,
-            Err(entered) => return entered,
-        };
-        match outer(&here.codes, bus, None, &cursor) {
-            Err(cause) => return Entered::Terminate(cause),
-            Ok(further) => cursor = further,
+        if let Some(cause) = go_out(&here.codes, bus, None, &mut cursor) {
+            return Entered::Terminate(cause);
         }
-        last = kept(here, next);
+        if next == 0 && here.site == cursor.site && cursor.vrs.r[13] != goal.sp {
+            continue;
+        }
         next = 0;
+        match quiet_codes(t, goal, 0, &cursor) {
+            Ok(codes) => here = Passed {
+                site: cursor.site,
+                codes,
+            },
+            Err(entered) => return entered,
+        }
     }
 }

@@ -1,5 +1,5 @@
 //! The walk over frames, of which it keeps one (docs/phases.md, "Frames").
-ghost use Rattle.std.specs.Prelude.{◌≡◌, Some, option_copied};
+ghost use Rattle.std.specs.Prelude.{◌≡◌, Some, None, Ok, Err, MatchBool, MatchOption, option_copied};
 ghost use Rattle.unwind_codes.specs.Cut.{cut};
 ghost use Rattle.eh_bytecode.specs.Meaning.{unwound};
 ghost use Rattle.eh_phase.specs.Frames.{codes_of, covered_at, is_no_frame, is_above, caller_of, caller_at, checked, outer, site_of};
@@ -84,14 +84,26 @@ fn site_of(vrs: &Vrs) -> u32
     (back - back % 2).wrapping_sub(2)
 }
 
+/// Unwinds the registers of a frame to those that codes give, where they finish, and answers whether they do.
+#[inline(always)]
+fn unwinds<B: Bus>(codes: &Codes, bus: &B, vrs: &mut Vrs) -> bool
+    ensures { let caller = caller_of (unwound (B.memory bus.now).segments vrs.old.r (cut codes.now)) in MatchBool result (caller ≡ Some vrs.new) (caller ≡ None) }
+{
+    match unwind(codes, vrs, bus) {
+        UnwindEnd::Finished => true,
+        UnwindEnd::Refused | UnwindEnd::BadCode(_) | UnwindEnd::Unreadable(_) => false,
+    }
+}
+
 /// The registers that codes give of those of a frame, where they finish.
 fn caller<B: Bus>(codes: &Codes, bus: &B, vrs: &Vrs) -> Option<Vrs>
     ensures { result ≡ caller_of (unwound (B.memory bus.now).segments vrs.now.r (cut codes.now)) }
 {
     let mut next = *vrs;
-    match unwind(codes, &mut next, bus) {
-        UnwindEnd::Finished => Some(next),
-        UnwindEnd::Refused | UnwindEnd::BadCode(_) | UnwindEnd::Unreadable(_) => None,
+    if unwinds(codes, bus, &mut next) {
+        Some(next)
+    } else {
+        None
     }
 }
 
@@ -107,39 +119,45 @@ pub fn caller_at<B: Bus>(t: &Tables, bus: &B, from: &Vrs, site: u32) -> Option<V
     }
 }
 
-/// Registers as those of the frame outside one whose stack pointer is `sp`, or the cause by which they are none.
-fn checked(end: u32, limit: Option<u32>, innermost: bool, sp: u32, next: Vrs) -> Result<Vrs, Cause>
-    ensures { result ≡ checked end limit innermost sp (Some next) }
+/// The cause by which registers are none of the frame outside one whose stack pointer is `sp`.
+#[inline(always)]
+fn refusal(end: u32, limit: Option<u32>, innermost: bool, sp: u32, next: &Vrs) -> Option<Cause>
+    ensures { let frame = checked end limit innermost sp (Some next.now) in MatchOption result (frame ≡ Ok next.now) (λ cause. frame ≡ Err cause) }
 {
     if is_no_frame(end, innermost, sp, next.r[13]) {
-        Err(Cause::CannotUnwind)
+        Some(Cause::CannotUnwind)
     } else if is_above(limit, next.r[13]) {
-        Err(Cause::LeavesCleanup)
+        Some(Cause::LeavesCleanup)
     } else if next.r[15] == NO_CALLER {
-        Err(Cause::NoHandler)
+        Some(Cause::NoHandler)
     } else {
-        Ok(next)
+        None
     }
 }
 
-/// The frame outside one with these codes, or the cause by which there is none.
+/// Goes to the frame outside one with these codes, or gives the cause by which there is none. Then the walk ends, and its frame plays no
+/// further part.
+#[inline(always)]
 #[tactic(auto, unfolding(crate::specs::Frames::outer))]
-pub(crate) fn outer<B: Bus>(
+pub(crate) fn go_out<B: Bus>(
     codes: &Codes,
     bus: &B,
     limit: Option<u32>,
-    cursor: &Cursor,
-) -> Result<Cursor, Cause>
-    ensures { result ≡ cursor_of (outer (stack_of (B.memory bus.now)) limit cursor.now.innermost codes.now cursor.now.vrs.r) }
+    cursor: &mut Cursor,
+) -> Option<Cause>
+    ensures { let next = cursor_of (outer (stack_of (B.memory bus.now)) limit cursor.old.innermost codes.now cursor.old.vrs.r) in
+        MatchOption result (next ≡ Ok cursor.new) (λ cause. next ≡ Err cause) }
 {
-    let Some(next) = caller(codes, bus, &cursor.vrs) else {
-        return Err(Cause::CannotUnwind);
-    };
+    let sp = cursor.vrs.r[13];
+    if !unwinds(codes, bus, &mut cursor.vrs) {
+        return Some(Cause::CannotUnwind);
+    }
     let (_, end) = bus.home();
-    let vrs = checked(end, limit, cursor.innermost, cursor.vrs.r[13], next)?;
-    Ok(Cursor {
-        site: site_of(&vrs),
-        vrs,
-        innermost: false,
-    })
+    let cause = refusal(end, limit, cursor.innermost, sp, &cursor.vrs);
+    if cause.is_some() {
+        return cause;
+    }
+    cursor.site = site_of(&cursor.vrs);
+    cursor.innermost = false;
+    None
 }

@@ -1,5 +1,4 @@
 use Rattle.std.proofs.Common.{◌≡◌, Ok}
-use Rattle.std.specs.Prelude.{IfSome}
 use Rattle.eh_phase.specs.Phases.{phase1}
 use Rattle.eh_phase.specs.Frames.{frames_of}
 use Rattle.eh_phase.specs.Calls.{meeting, stack_of}
@@ -7,13 +6,14 @@ use Rattle.eh_phase.specs.Passed.{said_at}
 use Rattle.eh_phase.proofs.Steps.{Searches, height_of}
 use Rattle.eh_phase.proofs.phase1.search.Given as goal
 
-abbrev pub invariant-loop-here : goal.invariant-loop-here
-invariant-loop-here g l =
+abbrev pub invariant-loop-cause : goal.invariant-loop-cause
+invariant-loop-cause g l =
     let segments = (g.B.Bus.memory l.bus).segments in
     let stack = stack_of (g.B.Bus.memory l.bus) in
     let m = meeting l.t.index l.t.types.now segments l.what in
     Searches m l.t.index stack l.limit (phase1 m (frames_of l.t.index stack l.limit l.fn.site l.from.r)) l.cursor
-    × IfSome l.last (λ p. said_at m l.t.index p.site ≡ Ok p.codes)
+    × (l.here.site ≡ l.cursor.site)
+    × (said_at m l.t.index l.here.site ≡ Ok l.here.codes)
 
-abbrev pub decreases-loop-here : goal.decreases-loop-here
-decreases-loop-here g l = height_of (stack_of (g.B.Bus.memory l.bus)) l.cursor
+abbrev pub decreases-loop-cause : goal.decreases-loop-cause
+decreases-loop-cause g l = height_of (stack_of (g.B.Bus.memory l.bus)) l.cursor

@@ -1,35 +1,69 @@
-use Rattle.std.proofs.Common.{rules, ◌≡◌, None, Ok, Err}
-use Rattle.eh_phase.specs.Frames.{outer}
+use Rattle.std.proofs.Common.{rules, ◌≡◌, ℕ, subst, true, None, Ok, Err}
+use Rattle.eh_phase.specs.declared.walk.Cursor.{Cursor}
+use Rattle.eh_phase.specs.Phases.{phase2}
+use Rattle.eh_phase.specs.Frames.{frames_of, outer}
 use Rattle.eh_phase.specs.Calls.{stack_of, cursor_of, frame_at}
-use Rattle.eh_phase.specs.declared.phase1.Passed.{Passed}
-use Rattle.eh_phase.specs.Passed.{enters_at, IsQuiet}
-use Rattle.eh_phase.proofs.Steps.{lower}
-use Rattle.eh_phase.proofs.Passing.{quiet_entered, quiet_ended, quiet_on, kept_if}
+use Rattle.eh_phase.specs.Passed.{enters_at}
+use Rattle.eh_phase.proofs.Steps.{Advances, lower}
+use Rattle.eh_phase.proofs.Passing.{quiet_entered, quiet_ended, quiet_on, stays_quiet}
 use Rattle.eh_phase.proofs.phase2.advance.Goals as goal
 
 pub returns-in-Err : goal.returns-in-Err
 returns-in-Err g c =
-    let k : enters_at c.args.goal.now c.loop-here.next c.args.t.now.index (frame_at c.loop-here.cursor) ≡ Err c.in-Err.entered = search rules in
-    quiet_entered _ _ _ _ _ c.loop-here.cursor _ c.loop-here.invariant.0 k
-
-pub returns-in-Err-outer : goal.returns-in-Err-outer
-returns-in-Err-outer g c =
     let stack = stack_of (g.B.Bus.memory c.args.bus.now) in
-    let k : enters_at c.args.goal.now c.loop-here.next c.args.t.now.index (frame_at c.loop-here.cursor) ≡ Ok c.in-Ok.here.codes = search rules in
-    let o : cursor_of (outer stack None c.loop-here.cursor.innermost c.in-Ok.here.codes c.loop-here.cursor.vrs.r) ≡ Err c.in-Err-outer.cause = search rules in
-    quiet_ended _ _ _ stack _ c.loop-here.cursor _ _ c.loop-here.invariant.0 k o
+    let first : Cursor = record { vrs = c.args.from.now; site = c.args.site; innermost = true } in
+    let s : Advances c.args.goal.now c.args.next c.args.t.now.index stack (phase2 c.args.goal.now c.args.next (frames_of c.args.t.now.index stack None c.args.site c.args.from.now.r)) first = search rules in
+    let k : enters_at c.args.goal.now c.args.next c.args.t.now.index (frame_at first) ≡ Err c.in-Err.entered = search rules in
+    quiet_entered _ _ _ stack _ first _ s k
 
-pub loop-here-smaller : goal.loop-here-smaller
-loop-here-smaller g c =
+pub loop-cause-init : goal.loop-cause-init
+loop-cause-init g c =
     let stack = stack_of (g.B.Bus.memory c.args.bus.now) in
-    let o : cursor_of (outer stack None c.loop-here.cursor.innermost c.in-Ok.here.codes c.loop-here.cursor.vrs.r) ≡ Ok c.in-Ok-outer.further = search rules in
-    lower stack _ _ c.loop-here.cursor c.in-Ok-outer.further o
+    let first : Cursor = record { vrs = c.args.from.now; site = c.args.site; innermost = true } in
+    let s : Advances c.args.goal.now c.args.next c.args.t.now.index stack (phase2 c.args.goal.now c.args.next (frames_of c.args.t.now.index stack None c.args.site c.args.from.now.r)) first = search rules in
+    let k : enters_at c.args.goal.now c.args.next c.args.t.now.index (frame_at first) ≡ Ok c.in-Ok.codes = search rules in
+    (s, k, λ e. stays_quiet c.args.goal.now c.args.t.now.index (frame_at first) c.in-Ok.codes (subst (λ (n : ℕ). enters_at c.args.goal.now n c.args.t.now.index (frame_at first) ≡ Ok c.in-Ok.codes) e k))
 
-pub loop-here-preserved : goal.loop-here-preserved
-loop-here-preserved g c =
+pub returns-in-Some : goal.returns-in-Some
+returns-in-Some g c =
     let stack = stack_of (g.B.Bus.memory c.args.bus.now) in
-    let k : enters_at c.args.goal.now c.loop-here.next c.args.t.now.index (frame_at c.loop-here.cursor) ≡ Ok c.in-Ok.here.codes = search rules in
-    let o : cursor_of (outer stack None c.loop-here.cursor.innermost c.in-Ok.here.codes c.loop-here.cursor.vrs.r) ≡ Ok c.in-Ok-outer.further = search rules in (
-      quiet_on _ _ _ stack _ c.loop-here.cursor c.in-Ok-outer.further _ c.loop-here.invariant.0 k o,
-      kept_if (λ (p : Passed). IsQuiet c.args.goal.now c.args.t.now.index p.site p.codes) c.loop-here.next c.in-Ok.here _ c.kept-last.ensures c.in-Ok.ensures.quiet,
-    )
+    let o : cursor_of (outer stack None c.loop-cause.cursor.innermost c.loop-cause.here.codes c.loop-cause.cursor.vrs.r) ≡ Err c.in-Some.cause = c.in-Some.ensures in
+    quiet_ended _ _ _ stack _ c.loop-cause.cursor _ _ c.loop-cause.invariant.0 c.loop-cause.invariant.1 o
+
+pub loop-cause-smaller-then-cursor-goal : goal.loop-cause-smaller-then-cursor-goal
+loop-cause-smaller-then-cursor-goal g c =
+    let stack = stack_of (g.B.Bus.memory c.args.bus.now) in
+    let o : cursor_of (outer stack None c.loop-cause.cursor.innermost c.loop-cause.here.codes c.loop-cause.cursor.vrs.r) ≡ Ok c.go_out.new.cursor = c.in_default.ensures in
+    lower stack _ _ c.loop-cause.cursor c.go_out.new.cursor o
+
+pub loop-cause-preserved-then-cursor-goal : goal.loop-cause-preserved-then-cursor-goal
+loop-cause-preserved-then-cursor-goal g c =
+    let stack = stack_of (g.B.Bus.memory c.args.bus.now) in
+    let o : cursor_of (outer stack None c.loop-cause.cursor.innermost c.loop-cause.here.codes c.loop-cause.cursor.vrs.r) ≡ Ok c.go_out.new.cursor = c.in_default.ensures in
+    let s = quiet_on c.args.goal.now c.loop-cause.next c.args.t.now.index stack _ c.loop-cause.cursor c.go_out.new.cursor _ c.loop-cause.invariant.0 c.loop-cause.invariant.1 o in
+    let z : c.loop-cause.next ≡ 0 = search rules in
+    let q = c.loop-cause.invariant.2 z in
+    let k : enters_at c.args.goal.now 0 c.args.t.now.index (frame_at c.go_out.new.cursor) ≡ Ok c.loop-cause.here.codes = q (frame_at c.go_out.new.cursor) (search rules) (search rules) in
+    rw z (s, k, λ e. q)
+
+pub loop-cause-smaller : goal.loop-cause-smaller
+loop-cause-smaller g c =
+    let stack = stack_of (g.B.Bus.memory c.args.bus.now) in
+    let o : cursor_of (outer stack None c.loop-cause.cursor.innermost c.loop-cause.here.codes c.loop-cause.cursor.vrs.r) ≡ Ok c.go_out.new.cursor = c.in_default.ensures in
+    lower stack _ _ c.loop-cause.cursor c.go_out.new.cursor o
+
+pub loop-cause-preserved : goal.loop-cause-preserved
+loop-cause-preserved g c =
+    let stack = stack_of (g.B.Bus.memory c.args.bus.now) in
+    let o : cursor_of (outer stack None c.loop-cause.cursor.innermost c.loop-cause.here.codes c.loop-cause.cursor.vrs.r) ≡ Ok c.go_out.new.cursor = c.in_default.ensures in
+    let s = quiet_on c.args.goal.now c.loop-cause.next c.args.t.now.index stack _ c.loop-cause.cursor c.go_out.new.cursor _ c.loop-cause.invariant.0 c.loop-cause.invariant.1 o in
+    let k : enters_at c.args.goal.now 0 c.args.t.now.index (frame_at c.go_out.new.cursor) ≡ Ok c.in-Ok-quiet_codes.codes = search rules in
+    (s, k, λ e. stays_quiet c.args.goal.now c.args.t.now.index (frame_at c.go_out.new.cursor) c.in-Ok-quiet_codes.codes k)
+
+pub returns-in-Err-quiet_codes : goal.returns-in-Err-quiet_codes
+returns-in-Err-quiet_codes g c =
+    let stack = stack_of (g.B.Bus.memory c.args.bus.now) in
+    let o : cursor_of (outer stack None c.loop-cause.cursor.innermost c.loop-cause.here.codes c.loop-cause.cursor.vrs.r) ≡ Ok c.go_out.new.cursor = c.in_default.ensures in
+    let s = quiet_on c.args.goal.now c.loop-cause.next c.args.t.now.index stack _ c.loop-cause.cursor c.go_out.new.cursor _ c.loop-cause.invariant.0 c.loop-cause.invariant.1 o in
+    let k : enters_at c.args.goal.now 0 c.args.t.now.index (frame_at c.go_out.new.cursor) ≡ Err c.in-Err-quiet_codes.entered = search rules in
+    quiet_entered _ _ _ stack _ c.go_out.new.cursor _ s k

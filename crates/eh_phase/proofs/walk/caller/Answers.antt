@@ -1,5 +1,0 @@
-use Rattle.eh_phase.proofs.Unwound.{finished}
-use Rattle.eh_phase.proofs.walk.caller.Goals as goal
-
-pub returns-in-Finished : goal.returns-in-Finished
-returns-in-Finished g c = finished _ _ _ _ c.in-Finished.ensures
