@@ -1,13 +1,13 @@
 -- Pages: cells and addresses, and what stands in the segments that pages make.
 use Rattle.std.proofs.Common.{◌≡◌, ℕ, zero, suc, ◌+◌, ◌-◌, ◌*◌, ◌/◌, ◌%◌, ◌^◌, ◌<◌, ◌≤◌, ◌⊎◌, inl, inr, Bool, true, false, not, cond, if◌then◌else◌, ◌==◌, ◌&&◌, nat_lt, List, [], ◌∷◌, ◌++◌, length, get_or, map, take, drop, set, Option, Some, None, Ok, Err, refl, sym, ap, ◌∙◌, arith, le-leb}
-use Rattle.std.proofs.lemmas.List.{get_or-map, length-map, get_or_default, length-set, get_or-set_same, get_or-set_other, same_lists, get_or-drop}
+use Rattle.std.proofs.lemmas.List.{get_or-map, length-map, get_or_default, length-set, get_or-set_same, get_or-set_other, same_lists, get_or-drop, at_drop_more}
 use Rattle.std.proofs.lemmas.Grind.{same_number_lists}
 use Rattle.std.proofs.lemmas.Bool.{and_parts, le-ltb, leb-true, ltb-true, ltb-false, eqb-true, eqb-false}
 use Rattle.std.specs.Prelude.{IsTrue, IfSome}
 use Rattle.byteorder.specs.Endian.{little_number, little_bytes}
 use Rattle.byteorder.specs.Numbers.{length-bytes_low_first}
 use Rattle.eh_bus.specs.Segment.{Segment, holds, number_at, with_number_at}
-use Rattle.eh_bus.specs.Memory.{Memory, fault_in, number_in, written, store, run_fault, first_fault, load_fault, fetch_fault, store_fault, is_closed, is_open_word, guard_hit}
+use Rattle.eh_bus.specs.Memory.{Memory, fault_in, number_in, written, store, store_run, run_fault, run_written, first_fault, load_fault, fetch_fault, store_fault, is_closed, is_open_word, guard_hit}
 use Rattle.eh_bus.specs.Map.{AreApart, AreSegments}
 use Rattle.eh_bus.specs.Place.{IsPlace, IsWidth}
 use Rattle.bus_memories.specs.Pages.{Pages, ArePages, AreOwned, AreUsed, CanStore, PagesMake, HasPage, ArePageNumbers, cell_in, cell_of, byte_at_cell, owner_at_cell, byte_of, owner_of, bytes_from, segment_at, segments_at, covers, spans, IsSpan, IsOpen, IsCode, cell_at}
@@ -17,6 +17,7 @@ use Rattle.bus_memories.specs.declared.paged.Found.{Found}
 use Rattle.eh_bus.specs.declared.fault.BusFault.{BusFault}
 use Rattle.eh_bus.specs.declared.fault.BusFault.TheVariants.{Unmapped, Unaligned, SavedSlot, Protected, NotExecutable}
 use Rattle.eh_bus.specs.declared.map.TheConstants.{PAGE_SIZE, POOL_END, POOL_START, STACK_START}
+use Rattle.stack_guards.specs.Flags.{AreFree}
 use Rattle.eh_bus.proofs.AccessLaws.{passes, fault_some, load_fault_none}
 use Rattle.eh_bus.proofs.Kept.{kept}
 use Rattle.bus_memories.proofs.Places.{by_holding, unread, unwritten}
@@ -162,6 +163,12 @@ record InSpan (s : Span) (a n : ℕ) : Type 0 where
 
 in_span : (s : Span) (a n : ℕ) → spans s a n ≡ true → InSpan s a n
 in_span s a n h = let p = and_parts _ _ h in record { low = leb-true _ _ p.0; high = leb-true _ _ p.1 }
+
+-- each word of words that lie in a span lies in it
+word_spans : (s : Span) (a n k : ℕ) → spans s a (4 * n) ≡ true → k < n → spans s (a + 4 * k) 4 ≡ true
+word_spans s a n k h l =
+    let i = in_span s a (4 * n) h in
+    rw (le-leb s.start (a + 4 * k) (omega (arith, i.low)), le-leb (a + 4 * k - s.start + 4) s.size (omega (arith, i.low, i.high, l))) refl
 
 pub span_covers : (places : List (Option ℕ)) (parts : List Part) (s : Span) (d : Part) (a n : ℕ) → IsSpan places parts s → spans s a n ≡ true → covers (get_or parts s.part d) a n ≡ true
 span_covers places parts s d a n x h = let i = in_span s a n h in covering (get_or parts s.part d) a n (omega (arith, i.low, x.low d)) (omega (arith, i.low, i.high, x.low d, x.high d))
@@ -511,9 +518,56 @@ run_aligned gs ss a (w ∷ ws) e h = go (fault_in (λ s. store_fault 4 gs s a) 4
     go (Some x) f e = absurd (cc)
     go None f e = fault_some 4 a (λ s. store_fault 4 gs s a) ss (a % 4 ≡ 0) (λ s q. eqb-true (a % 4) 0 (passes 4 gs s a q).aligned) f
 
+-- ---- runs in a span
+
+-- each word of a run in a span can be stored at its place from the cell of the first on
+pub near_word : (p : Pages) (parts : List Part) (s : Span) (a n k : ℕ) → a % 4 ≡ 0 → ArePages p → AreOwned (owner_of p) parts → IsSpan p.places parts s → spans s a (4 * n) ≡ true → k < n
+    → CanStore 4 p parts (a + 4 * k) s.part (s.at + (a - s.start) + 4 * k)
+near_word p parts s a n k e x own near h l =
+    let i = in_span s a (4 * n) h in
+    let at : s.at + (a + 4 * k - s.start) ≡ s.at + (a - s.start) + 4 * k = omega (arith, i.low) in
+    let t : (a + 4 * k) % 4 ≡ 0 = omega (arith, e) in
+    rw at at (near_can 4 p parts s (a + 4 * k) (inr (inr refl)) x own near (word_spans s a n k h l) (rw t refl))
+
+-- and so can all of them where no word is guarded
+pub near_run : (p : Pages) (parts : List Part) (s : Span) (gs : List ℕ) (a n k : ℕ) (words : List ℕ) → a % 4 ≡ 0 → a + 4 * n < 2 ^ 32 → ArePages p → AreOwned (owner_of p) parts → IsSpan p.places parts s
+    → IsOpen parts s → spans s a (4 * n) ≡ true → ((j : ℕ) → j < n → guard_hit gs (a + 4 * j) 4 ≡ None) → k + length words ≡ n
+    → run_fault gs (segments_at (byte_of p) parts) (a + 4 * k) words ≡ None
+near_run p parts s gs a n k [] e f x own near o h g l = refl
+near_run p parts s gs a n k (w ∷ ws) e f x own near o h g l =
+    let m : k < n = omega (arith, l) in
+    let t : (a + 4 * k) % 4 ≡ 0 = omega (arith, e) in
+    let here = near_store 4 gs p parts s (a + 4 * k) _ (near_word p parts s a n k e x own near h m) o (word_spans s a n k h m) (rw t refl) (g k m) in
+    let next : (a + 4 * k + 4) % 2 ^ 32 ≡ a + 4 * (k + 1) = omega (arith, f, m) in
+    rw (here, next) (near_run p parts s gs a n (k + 1) ws e f x own near o h g (omega (arith, l)))
+
+pub near_run_free : (p : Pages) (parts : List Part) (s : Span) (gs : List ℕ) (a : ℕ) (words : List ℕ) → a % 4 ≡ 0 → AreFree gs a (length words) → ArePages p → AreOwned (owner_of p) parts
+    → IsSpan p.places parts s → IsOpen parts s → spans s a (4 * length words) ≡ true → run_fault gs (segments_at (byte_of p) parts) a words ≡ None
+near_run_free p parts s gs a words e free x own near o h =
+    let z : a + 4 * 0 ≡ a = omega arith in
+    rw z at (near_run p parts s gs a (length words) 0 words e (omega (arith, free.high)) x own near o h free.free (omega arith))
+
+-- one word more of a run
+pub near_stored : (p new : Pages) (parts : List Part) (s : Span) (a at k : ℕ) (words : List ℕ) → a % 4 ≡ 0 → a + 4 * length words < 2 ^ 32 → PagesMake p parts (segments_at (byte_of p) parts)
+    → IsSpan p.places parts s → spans s a (4 * length words) ≡ true → k < length words → at ≡ s.at + (a - s.start) + 4 * k → new ≡ with_cell p 4 at (get_or words k 0)
+    → PagesMake new parts (segments_at (byte_of new) parts)
+    × (run_written (segments_at (byte_of new) parts) (a + 4 * (k + 1)) (drop (k + 1) words) ≡ run_written (segments_at (byte_of p) parts) (a + 4 * k) (drop k words))
+near_stored p new parts s a at k words e f stand near h l i n =
+    let v = get_or words k 0 in
+    let can = near_word p parts s a (length words) k e stand.sound stand.owned near h l in
+    let m = pages_stored 4 p new parts (a + 4 * k) s.part at v stand.sound stand.used stand.owned stand.mapped (rw i can) n in
+    let next : (a + 4 * k + 4) % 2 ^ 32 ≡ a + 4 * (k + 1) = omega (arith, f, l) in
+    let run : run_written (segments_at (byte_of p) parts) (a + 4 * k) (drop k words) ≡ run_written (written 4 (segments_at (byte_of p) parts) (a + 4 * k) v) ((a + 4 * k + 4) % 2 ^ 32) (drop (k + 1) words) =
+    at_drop_more (run_written (segments_at (byte_of p) parts) (a + 4 * k)) words k 0 l in
+    (record { sound = m.sound; used = m.used; owned = m.owned; mapped = rw m.made m.mapped; made = refl }, rw m.made (sym (rw next at run)))
+
 pub is_store : (n : ℕ) (ss new : List Segment) (guards : List ℕ) (home : ℕ × ℕ) (a v : ℕ) → fault_in (λ s. store_fault n guards s a) n ss a ≡ None → new ≡ written n ss a v
     → (Ok tt, record { segments = new; guards = guards; home = home }) ≡ store n (record { segments = ss; guards = guards; home = home }) a v
 is_store n ss new guards home a v e w = rw (e, w) refl
+
+pub is_run : (ss new : List Segment) (guards : List ℕ) (home : ℕ × ℕ) (a : ℕ) (words : List ℕ) → run_fault guards ss a words ≡ None → new ≡ run_written ss a words
+    → (Ok tt, record { segments = new; guards = guards; home = home }) ≡ store_run (record { segments = ss; guards = guards; home = home }) a words
+is_run ss new guards home a words e w = rw (e, w) refl
 
 pub is_refused : (n : ℕ) (m : Memory) (a v : ℕ) (fault : BusFault) → fault_in (λ s. store_fault n m.guards s a) n m.segments a ≡ Some fault → (Err fault, m) ≡ store n m a v
 is_refused n m a v fault e = rw e refl

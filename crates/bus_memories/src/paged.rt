@@ -1,5 +1,5 @@
 //! The memory that is kept in pages, found by their number in constant time. docs/memory-map.md states its rules.
-ghost use Rattle.std.specs.Prelude.{◌≡◌, ℕ, List, ◌+◌, ◌-◌, ◌*◌, ◌%◌, ◌^◌, ◌<◌, ◌≤◌, length, drop, Option, Some, None, IfOk, IfErr, OnOk, All, ◌==◌, ◌++◌, ◌∷◌, [], IfSome, IfNone, slice_index_or, true};
+ghost use Rattle.std.specs.Prelude.{◌≡◌, ℕ, List, ◌+◌, ◌-◌, ◌*◌, ◌%◌, ◌^◌, ◌<◌, ◌≤◌, length, drop, Option, Some, None, IfOk, IfErr, OnOk, All, ◌==◌, ◌++◌, ◌∷◌, [], IfSome, IfNone, slice_index_or, true, false};
 ghost use Rattle.byteorder.specs.Endian.{little_number};
 ghost use Rattle.eh_bus.specs.Segment.{Segment, AreBytes};
 ghost use Rattle.eh_bus.specs.Built.{CanBuild, GivesImage, built, segment_of, zeros_at};
@@ -8,7 +8,8 @@ ghost use Rattle.eh_bus.specs.Place.{IsPlace, IsWidth};
 ghost use Rattle.eh_bus.specs.Memory.{fault_in, number_in, load_fault, store_fault, fetch_fault, store, store_run, run_fault, run_written, written, host_store};
 ghost use Rattle.eh_bus.specs.Map.{AreApart, AreSegments, flat_home};
 ghost use Rattle.eh_bus.specs.Guards.{AreGuards, AreGuards-prop};
-ghost use Rattle.bus_memories.specs.Pages.{ArePages, AreOwned, AreUsed, cell_of, byte_of, owner_of, CanStore, Lays, PagesMake, segments_at, covers, IsSpan, IsOpen, IsCode, HasPage, IsPage, ArePageNumbers};
+ghost use Rattle.bus_memories.specs.Pages.{ArePages, AreOwned, AreUsed, cell_of, byte_of, owner_of, CanStore, Lays, PagesMake, segments_at, covers, spans, IsSpan, IsOpen, IsCode, HasPage, IsPage, ArePageNumbers};
+ghost use Rattle.stack_guards.specs.Flags.{AreFree};
 ghost use Rattle.eh_bus.specs.declared.fault.BusFault.{BusFault as Fault};
 ghost use Rattle.eh_bus.specs.declared.fault.BusFault.TheVariants.{Unmapped};
 
@@ -324,6 +325,38 @@ fn run_write(pages: &mut Pages, parts: &[Part], near: &Span, a: u32, words: &[u3
     }
 }
 
+/// Whether the words of a run lie in the span, and are words of the stack of which none is guarded.
+#[inline(always)]
+fn is_near_run(near: &Span, guards: &Guards, a: u32, count: usize) -> bool
+    ensures aligned { result ≡ true → a % 4 ≡ 0 }
+    ensures free { result ≡ true → AreFree guards.now a count }
+    ensures within { result ≡ true → spans near.now a (4 * count) ≡ true }
+    ensures no { result ≡ false → a % 4 ≡ 0 → AreFree guards.now a count → spans near.now a (4 * count) ≡ false }
+{
+    if a % 4 != 0 || !guards.are_free(a, count) {
+        return false;
+    }
+    near.covers(a, 4 * count as u32)
+}
+
+/// Stores the words of a run that lies in the span, one after the other from the cell of the first.
+#[inline(always)]
+fn write_near(pages: &mut Pages, parts: &[Part], near: &Span, a: u32, words: &[u32])
+    requires aligned { a % 4 ≡ 0 }
+    requires high { a + 4 * length words.now ≤ STACK_END }
+    requires within { spans near.now a (4 * length words.now) ≡ true }
+    requires stand { PagesMake pages.old parts.now (segments_at (byte_of pages.old) parts.now) }
+    requires near { IsSpan pages.old.places parts.now near.now }
+    ensures made { PagesMake pages.new parts.now (run_written (segments_at (byte_of pages.old) parts.now) a words.now) }
+    ensures places { pages.new.places ≡ pages.old.places }
+{
+    let mut at = near.cell(a);
+    for word in words {
+        pages.store32(at, *word);
+        at += 4;
+    }
+}
+
 /// Pages and the segments that stand in them.
 #[derive(Drop)]
 struct Laid {
@@ -535,8 +568,21 @@ impl PagedBus {
         Ok(())
     }
 
-    /// Stores words upwards, or none of them.
+    /// Stores words upwards, or none of them. A run in the span of the stack with no guarded word needs no look-up of its words.
     fn put_run(&mut self, a: u32, words: &[u32]) -> Result<(), BusFault>
+        ensures { (result, memory_of self.new) ≡ store_run (memory_of self.old) a words.now }
+    {
+        if is_near_run(&self.stack, &self.guards, a, words.len()) {
+            write_near(&mut self.pages, &self.parts, &self.stack, a, words);
+            return Ok(());
+        }
+        self.put_each(a, words)
+    }
+
+    /// The same, where each word is looked up.
+    #[cold]
+    #[inline(never)]
+    fn put_each(&mut self, a: u32, words: &[u32]) -> Result<(), BusFault>
         ensures { (result, memory_of self.new) ≡ store_run (memory_of self.old) a words.now }
     {
         if let Some(fault) = run_fault(
