@@ -1,5 +1,5 @@
 -- Guarded words as flags, and the flags as bits of numbers.
-use Rattle.std.proofs.Common.{◌≡◌, ℕ, zero, suc, ◌+◌, ◌-◌, ◌*◌, ◌/◌, ◌%◌, ◌^◌, ◌<◌, ◌≤◌, ◌⊎◌, inl, inr, Bool, true, false, ◌==◌, ◌&&◌, ◌||◌, nat_le, nat_lt, min, cond, replicate, List, [], ◌∷◌, length, get_or, set, filter, Some, None, refl, sym, ◌∙◌, arith, ap, w64}
+use Rattle.std.proofs.Common.{◌≡◌, ℕ, zero, suc, ◌+◌, ◌-◌, ◌*◌, ◌/◌, ◌%◌, ◌^◌, ◌<◌, ◌≤◌, ◌⊎◌, inl, inr, Bool, true, false, ◌==◌, ◌&&◌, ◌||◌, nat_le, nat_lt, min, max, cond, replicate, List, [], ◌∷◌, length, get_or, set, filter, Some, None, refl, sym, ◌∙◌, arith, ap, w64}
 use Rattle.std.proofs.lemmas.List.{length-replicate, get_or-replicate, length-set, get_or-set_same, get_or-set_other, get_or_past, ext_get_or}
 use Rattle.std.proofs.lemmas.List.FromFn.{length-map-range_with_len, get_or-map-range_with_len}
 use Rattle.std.proofs.lemmas.Nat.Bits.{bit_at-zero, bit_at-lt, bit_at-trailing_zeros, bit_at_set_same, bit_at_set_other, bit_at_and, bit_at_mask_inside, bit_at_mask_below, ones_shl}
@@ -11,7 +11,7 @@ use Rattle.std.specs.Int.Count.{trailing_of_zero}
 use Rattle.eh_list.specs.Bytes.{zeros, length-zeros}
 use Rattle.eh_bus.specs.Guards.{inserted, RiseFrom}
 use Rattle.eh_bus.specs.Memory.{guard_hit, stays_guarded}
-use Rattle.stack_guards.specs.Flags.{flagged, flag_in, flags_of, AreFlags, IsClear, Cleared, Released, AreFree, AreOff}
+use Rattle.stack_guards.specs.Flags.{flagged, flag_in, flags_of, AreFlags, AreKept, IsClear, Cleared, Released, AreFree, AreOff}
 use Rattle.stack_guards.specs.declared.guards.TheConstants.{HOMES, HOME_NUMBERS, HOME_SIZE, HOME_WORDS, NUMBERS, NUMBER_BITS}
 use Rattle.eh_bus.specs.declared.map.TheConstants.{STACK_END, STACK_START, STACK_WORDS}
 
@@ -389,6 +389,21 @@ released_on old mid new low at end l h r s = record { off = λ i p q. off i p q 
 -- nothing is released where no word is named
 pub released_nowhere : (numbers : List ℕ) (low end : ℕ) → end ≤ low → Released numbers numbers low end
 released_nowhere numbers low end h = record { off = λ i l b. absurd (omega arith); rest = λ i o. refl }
+
+-- nothing is released where all homes that are passed are empty
+pub empty_released : (numbers clear : List ℕ) (empty first last : ℕ) → AreKept numbers clear empty → last ≤ HOMES → last ≤ max first empty
+    → Released numbers numbers (HOME_WORDS * first) (HOME_WORDS * last)
+empty_released numbers clear empty first last k w h = record { off = λ i l b. off i l b; rest = λ i o. refl }
+  where
+    off : (i : ℕ) → HOME_WORDS * first ≤ i → i < HOME_WORDS * last → get_or (flags_of numbers) i false ≡ false
+    off i l b =
+        let home = i / HOME_WORDS in
+        let c = (k.flags).each home (omega arith) in
+        let e = k.none home (omega arith) in
+        clear_flag numbers home HOME_NUMBERS i (rw e at c) (omega arith) (omega arith)
+
+pub all_empty : (home : ℕ) → home < HOMES → get_or (replicate HOMES HOME_NUMBERS) home 0 ≡ HOME_NUMBERS
+all_empty home h = get_or-replicate HOMES home HOME_NUMBERS 0 h
 
 -- ---- runs of words
 

@@ -31,6 +31,11 @@ pub record AreFlags (numbers clear : List ℕ) : Type 0 where
   pub homes : length clear ≡ HOMES
   pub each : (home : ℕ) → home < HOMES → IsClear numbers home (slice_index clear home)
 
+-- the same, and so many of the lowest homes have no bit
+pub record AreKept (numbers clear : List ℕ) (empty : ℕ) : Type 0 where
+  pub flags : AreFlags numbers clear
+  pub none : (home : ℕ) → home < empty → slice_index clear home ≡ HOME_NUMBERS
+
 -- the bits from those of the number `from` up to those before the word `end` are cleared, and the others as they were
 pub record Cleared (old new : List ℕ) (from end : ℕ) : Type 0 where
   pub clear : (k : ℕ) → from ≤ k → k < end / NUMBER_BITS → slice_index new k ≡ 0

@@ -4,7 +4,7 @@ ghost use Rattle.std.specs.Int.{bit_at};
 ghost use Rattle.eh_list.specs.Bytes.{zeros};
 ghost use Rattle.eh_bus.specs.Memory.{guard_hit, stays_guarded};
 ghost use Rattle.eh_bus.specs.Guards.{inserted};
-ghost use Rattle.stack_guards.specs.Flags.{flagged, flags_of, AreFlags, IsClear, Cleared, Released, AreFree, AreOff};
+ghost use Rattle.stack_guards.specs.Flags.{flagged, flags_of, AreFlags, AreKept, IsClear, Cleared, Released, AreFree, AreOff};
 
 use eh_bus::map::{STACK_END, STACK_SIZE, STACK_START, STACK_WORDS};
 use std::alloc::{AllocError, Global};
@@ -38,29 +38,32 @@ pub struct Guards {
     numbers: Vec<u64>,
     /// Of each home, how many of its lowest numbers have no bit.
     clear: [usize; HOMES],
+    /// How many of the lowest homes have no bit, as far as is known.
+    empty: usize,
 }
 
 impl Model for Guards {
     ghost use Rattle.std.specs.Prelude.{ℕ, List};
-    ghost use Rattle.stack_guards.specs.Flags.{flagged, flags_of, AreFlags};
+    ghost use Rattle.stack_guards.specs.Flags.{flagged, flags_of, AreKept};
     ghost use Rattle.eh_bus.specs.declared.map.TheConstants.{STACK_START};
 
     ghost Value = { List ℕ };
 
     ghost view = { λ g. flagged STACK_START (flags_of g.numbers.items) };
 
-    ghost invariant = { λ g. AreFlags g.numbers.items g.clear };
+    ghost invariant = { λ g. AreKept g.numbers.items g.clear g.empty };
 }
 
 impl Guards {
     /// No word is guarded. The room for all of them is taken here.
-    #[tactic(auto, using(crate::proofs::FlagLemmas::none_flagged, crate::proofs::FlagLemmas::clear_are))]
+    #[tactic(auto, using(crate::proofs::FlagLemmas::none_flagged, crate::proofs::FlagLemmas::clear_are, crate::proofs::FlagLemmas::all_empty))]
     pub fn new(alloc: Global) -> Result<Self, AllocError>
         ensures { IfOk result (λ g. g ≡ []) }
     {
         Ok(Guards {
             numbers: clear_numbers(alloc, NUMBERS)?,
             clear: [HOME_NUMBERS; HOMES],
+            empty: HOMES,
         })
     }
 
@@ -90,7 +93,7 @@ impl Guards {
         requires high { a < STACK_END }
         ensures { self.new ≡ inserted a self.old }
     {
-        guard_word(&mut self.numbers, &mut self.clear, a);
+        guard_word(&mut self.numbers, &mut self.clear, &mut self.empty, a);
     }
 
     /// Takes the guard from the words below `a` of the home that begins at `low` and of the homes above it.
@@ -100,7 +103,7 @@ impl Guards {
         requires starts { (low - STACK_START) % HOME_SIZE ≡ 0 }
         ensures { (high : ℕ) → self.new ≡ filter (stays_guarded (low, high) a) self.old }
     {
-        release(&mut self.numbers, &mut self.clear, low, a);
+        release(&mut self.numbers, &mut self.clear, &mut self.empty, low, a);
     }
 }
 
@@ -209,13 +212,13 @@ fn off_by_word(numbers: &[u64], i: usize, count: usize) -> bool
 }
 
 /// Sets the bit of the word at `a`.
-fn guard_word(numbers: &mut [u64], clear: &mut [usize], a: u32)
-    requires flags { AreFlags numbers.old clear.old }
+fn guard_word(numbers: &mut [u64], clear: &mut [usize], empty: &mut usize, a: u32)
+    requires flags { AreKept numbers.old clear.old empty.old }
     requires aligned { a % 4 ≡ 0 }
     requires low { STACK_START ≤ a }
     requires high { a < STACK_END }
     ensures set { flagged STACK_START (flags_of numbers.new) ≡ inserted a (flagged STACK_START (flags_of numbers.old)) }
-    ensures flags { AreFlags numbers.new clear.new }
+    ensures flags { AreKept numbers.new clear.new empty.new }
 {
     let i = ((a - STACK_START) / 4) as usize;
     set_bit(numbers, i);
@@ -224,6 +227,7 @@ fn guard_word(numbers: &mut [u64], clear: &mut [usize], a: u32)
     let lowest = number % HOME_NUMBERS;
     if lowest < clear[home] {
         clear[home] = lowest;
+        *empty = home.min(*empty);
     }
 }
 
@@ -250,14 +254,14 @@ fn words_below(a: u32) -> usize
 
 /// Clears the bits of the words below `a` from the home on that begins at `low`.
 ///
-/// The homes above that of `a` have no word below it, and those between `low` and it are clear as a rule: a test passes each.
-fn release(numbers: &mut [u64], clear: &mut [usize], low: u32, a: u32)
-    requires flags { AreFlags numbers.old clear.old }
+/// The homes above that of `a` have no word below it, and those between `low` and it are empty as a rule: one test passes them.
+fn release(numbers: &mut [u64], clear: &mut [usize], empty: &mut usize, low: u32, a: u32)
+    requires flags { AreKept numbers.old clear.old empty.old }
     requires inside { STACK_START ≤ low }
     requires below { low < STACK_END }
     requires starts { (low - STACK_START) % HOME_SIZE ≡ 0 }
     ensures kept { (high : ℕ) → flagged STACK_START (flags_of numbers.new) ≡ filter (stays_guarded (low, high) a) (flagged STACK_START (flags_of numbers.old)) }
-    ensures flags { AreFlags numbers.new clear.new }
+    ensures flags { AreKept numbers.new clear.new empty.new }
 {
     let first = ((low - STACK_START) / HOME_SIZE) as usize;
     let end = words_below(a);
@@ -265,32 +269,69 @@ fn release(numbers: &mut [u64], clear: &mut [usize], low: u32, a: u32)
     if last < first {
         return;
     }
-    for home in first..last {
-        pass(numbers, clear, home);
-    }
+    pass_below(numbers, clear, empty, first, last);
     if last < HOMES {
         clear[last] = release_in(numbers, clear[last], last, end);
     }
 }
 
-/// Clears all bits of a home, which has none as a rule.
+/// Clears all bits of the homes from `first` up to `last`, which have none as a rule.
 #[inline(always)]
+fn pass_below(
+    numbers: &mut [u64],
+    clear: &mut [usize],
+    empty: &mut usize,
+    first: usize,
+    last: usize,
+)
+    requires flags { AreKept numbers.old clear.old empty.old }
+    requires rises { first ≤ last }
+    requires within { last ≤ HOMES }
+    ensures released { Released numbers.old numbers.new (HOME_WORDS * first) (HOME_WORDS * last) }
+    ensures flags { AreKept numbers.new clear.new empty.new }
+{
+    if first.max(*empty) < last {
+        pass_each(numbers, clear, first, last);
+        if first <= *empty {
+            *empty = last;
+        }
+    }
+}
+
+/// The same, one home after the other.
+#[cold]
+#[inline(never)]
+fn pass_each(numbers: &mut [u64], clear: &mut [usize], first: usize, last: usize)
+    requires flags { AreFlags numbers.old clear.old }
+    requires rises { first ≤ last }
+    requires within { last ≤ HOMES }
+    ensures released { Released numbers.old numbers.new (HOME_WORDS * first) (HOME_WORDS * last) }
+    ensures flags { AreFlags numbers.new clear.new }
+    ensures passed { (home : ℕ) → first ≤ home → home < last → slice_index clear.new home ≡ HOME_NUMBERS }
+    ensures others { (home : ℕ) → ((home < first) ⊎ (last ≤ home)) → slice_index clear.new home ≡ slice_index clear.old home }
+{
+    for home in first..last {
+        pass(numbers, clear, home);
+    }
+}
+
+/// Clears all bits of a home.
 fn pass(numbers: &mut [u64], clear: &mut [usize], home: usize)
     requires home { home < HOMES }
     requires flags { AreFlags numbers.old clear.old }
     ensures released { Released numbers.old numbers.new (HOME_WORDS * home) (HOME_WORDS * (home + 1)) }
     ensures flags { AreFlags numbers.new clear.new }
+    ensures passed { slice_index clear.new home ≡ HOME_NUMBERS }
+    ensures others { (other : ℕ) → other ≢ home → slice_index clear.new other ≡ slice_index clear.old other }
 {
     if clear[home] < HOME_NUMBERS {
-        empty(numbers, home, clear[home]);
+        clear_home(numbers, home, clear[home]);
         clear[home] = HOME_NUMBERS;
     }
 }
 
-/// Clears all bits of a home.
-#[cold]
-#[inline(never)]
-fn empty(numbers: &mut [u64], home: usize, clear: usize)
+/// Makes the numbers of a home 0, of which so many are.
+fn clear_home(numbers: &mut [u64], home: usize, clear: usize)
     requires home { home < HOMES }
     requires whole { length numbers.old ≡ NUMBERS }
     requires clear { IsClear numbers.old home clear }
@@ -312,6 +353,7 @@ fn release_in(numbers: &mut [u64], clear: usize, home: usize, end: usize) -> usi
     requires clear { IsClear numbers.old home clear }
     ensures released { Released numbers.old numbers.new (HOME_WORDS * home) end }
     ensures clear { IsClear numbers.new home result }
+    ensures empty { clear ≡ HOME_NUMBERS → result ≡ HOME_NUMBERS }
     ensures others { (k : ℕ) → k / HOME_NUMBERS ≢ home → slice_index numbers.new k ≡ slice_index numbers.old k }
 {
     let first = HOME_NUMBERS * home;
