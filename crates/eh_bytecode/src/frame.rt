@@ -3,7 +3,6 @@
 ghost use Rattle.std.specs.Prelude.{◌≡◌, ◌+◌, ◌-◌, ◌*◌, ◌/◌, ◌%◌, ◌^◌, ◌<◌, ◌≤◌, ◌==◌, length, IfOk, IfErr, Ok, Err};
 ghost use Rattle.std.specs.Int.{bit_at};
 ghost use Rattle.thumb_core.specs.Words.{load_words, loads_from, listed};
-ghost use Rattle.thumb_core.proofs.Listed.{listed_from};
 ghost use Rattle.unwind_codes.specs.Bytes.{IsCode};
 ghost use Rattle.unwind_codes.specs.Cut.{cut};
 ghost use Rattle.unwind_codes.specs.Meaning.{effect};
@@ -69,25 +68,8 @@ fn address_of(fault: BusFault) -> u32
     }
 }
 
-/// The lowest register of a list from number `k` on, or 16 where there is none.
-#[inline(always)]
-fn next_register(list: u16, k: u8) -> u8
-    requires { k ≤ 16 }
-    ensures within { (k ≤ result) × (result ≤ 16) }
-    ensures rest { listed_from k list ≡ listed_from result list }
-    ensures listed { result < 16 → bit_at list result ≡ 1 }
-{
-    let above = u32::from(list) >> k;
-    if above == 0 {
-        16
-    } else {
-        k + above.trailing_zeros() as u8
-    }
-}
-
 /// Loads the registers of a list from address `a` on. No time goes to those that it doesn't have.
 #[inline(always)]
-#[tactic(auto, using(thumb_core::proofs::Listed::listed_all, thumb_core::proofs::Listed::listed_more, thumb_core::proofs::Listed::listed_none))]
 fn load_list<B: Bus>(list: u16, a: u32, r: &mut [u32; 16], bus: &B) -> Result<u32, BusFault>
     requires { bit_at list 13 ≡ 0 }
     ensures bytes { IfOk result (λ n. n ≡ 4 * length (listed list)) }
@@ -95,14 +77,15 @@ fn load_list<B: Bus>(list: u16, a: u32, r: &mut [u32; 16], bus: &B) -> Result<u3
     ensures fault { IfErr result (λ fault. load_words (B.memory bus.now).segments a (loads_from 0 (listed list)) r.old ≡ Err fault) }
 {
     let mut at = 0;
-    let mut k = next_register(list, 0);
-    while k < 16 {
+    let mut rest = u32::from(list);
+    while rest != 0 {
+        let k = rest.trailing_zeros();
         match bus.load32(a.wrapping_add(at)) {
             Ok(word) => r[k as usize] = word,
             Err(fault) => return Err(fault),
         }
         at += 4;
-        k = next_register(list, k + 1);
+        rest &= !(1 << k);
     }
     Ok(at)
 }
