@@ -1,12 +1,11 @@
 -- The items from an address on, one by one.
-use Rattle.std.proofs.Common.{◌≡◌, ℕ, List, [], ◌∷◌, refl, ◌∙◌, Option, None, true, false, Bool, cond, Result}
+use Rattle.std.proofs.Common.{◌≡◌, ℕ, List, [], ◌∷◌, refl, ◌∙◌, Option, Some, None, true, false, Bool, cond, Result}
 use Rattle.std.specs.Prelude.{◌&&◌, not, ◌==◌}
-use Rattle.std.specs.Option.{is_some}
 use Rattle.eh_desc.specs.declared.descriptor.Desc.{Desc}
 use Rattle.eh_desc.specs.declared.descriptor.DescFault.{DescFault}
 use Rattle.eh_phase.specs.Firsts.{first_some}
 use Rattle.eh_phase.specs.Phases.{stands_at, from_descriptor, from_address}
-use Rattle.eh_phase.proofs.First.{first_past, first_here}
+use Rattle.eh_phase.proofs.First.{first_past, first_gives}
 
 -- what is left to look at, where the items may still stand in front of the address
 abbrev pub left : Bool → ℕ → List (Result Desc DescFault) → List (Result Desc DescFault)
@@ -44,9 +43,9 @@ pub left_on : {B : Type 0} (f : Result Desc DescFault → Option B) (before : Bo
     → (before && not (stands_at at i)) ≡ false → f i ≡ None → first_some f (left before at (i ∷ more)) ≡ first_some f (left false at more)
 left_on f before at i more e k = begun f before at i more e ∙ first_past f i more k
 
-pub left_here : {B : Type 0} (f : Result Desc DescFault → Option B) (before : Bool) (at : ℕ) (i : Result Desc DescFault) (more : List (Result Desc DescFault))
-    → (before && not (stands_at at i)) ≡ false → is_some (f i) ≡ true → first_some f (left before at (i ∷ more)) ≡ f i
-left_here f before at i more e k = begun f before at i more e ∙ first_here f i more k
+pub left_gives : {B : Type 0} (f : Result Desc DescFault → Option B) (before : Bool) (at : ℕ) (i : Result Desc DescFault) (more : List (Result Desc DescFault)) (x : B)
+    → (before && not (stands_at at i)) ≡ false → f i ≡ Some x → first_some f (left before at (i ∷ more)) ≡ Some x
+left_gives f before at i more x e k = begun f before at i more e ∙ first_gives f i more x k
 
 pub left_none : {B : Type 0} (f : Result Desc DescFault → Option B) (before : Bool) (at : ℕ) → first_some f (left before at []) ≡ None
 unfolding from_descriptor first_some

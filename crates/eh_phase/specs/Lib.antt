@@ -7,3 +7,4 @@ pub mod Cleanups
 pub mod Laws
 pub mod FirstLanding
 pub mod Passed
+pub mod Landings

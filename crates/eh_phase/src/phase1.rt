@@ -6,7 +6,7 @@ ghost use Rattle.eh_phase.specs.Calls.{frame_at, meeting, stack_of};
 ghost use Rattle.eh_phase.specs.Passed.{said_at};
 
 use crate::verdict::{Thrown, Verdict, verdict_of};
-use crate::walk::{Covered, Cursor, Tables, covered_at, go_out};
+use crate::walk::{Covered, Cursor, NO_ROW, Tables, covered_near, go_out};
 use eh_bus::bus::Bus;
 use eh_bytecode::{Codes, Vrs};
 use eh_match::Match;
@@ -60,17 +60,20 @@ pub struct Passed<'a> {
     pub codes: Codes<'a>,
 }
 
-/// The codes of a frame at a site whose descriptors say nothing, or what they say; what isn't covered can't be unwound.
+/// The codes of a frame at a site whose descriptors say nothing, or what they say; what isn't covered can't be unwound. The entry is
+/// sought from a row on, which becomes its own.
+#[inline(never)]
 #[tactic(auto, unfolding(crate::specs::Passed::said_at))]
 fn silent_codes<'a, B: Bus>(
     t: &Tables<'_, 'a>,
     bus: &B,
     what: &Thrown,
     site: u32,
+    near: &mut u32,
 ) -> Result<Codes<'a>, Verdict>
     ensures { result ≡ said_at (meeting t.now.index t.now.types.now (B.memory bus.now).segments what.now) t.now.index site }
 {
-    let Some(Covered { codes, descs }) = covered_at(&t.index, site) else {
+    let Some(Covered { codes, descs }) = covered_near(&t.index, site, near) else {
         return Err(Verdict::Terminate(Cause::CannotUnwind));
     };
     match verdict_of(t, bus, what, site, descs) {
@@ -97,7 +100,8 @@ pub fn search<B: Bus>(
         site,
         innermost: true,
     };
-    let mut here = match silent_codes(t, bus, what, site) {
+    let mut near = NO_ROW;
+    let mut here = match silent_codes(t, bus, what, site, &mut near) {
         Ok(codes) => Passed { site, codes },
         Err(said) => return found_by(&cursor, said),
     };
@@ -108,7 +112,7 @@ pub fn search<B: Bus>(
         if here.site == cursor.site {
             continue;
         }
-        match silent_codes(t, bus, what, cursor.site) {
+        match silent_codes(t, bus, what, cursor.site, &mut near) {
             Ok(codes) => here = Passed {
                 site: cursor.site,
                 codes,

@@ -1,14 +1,15 @@
 //! Phase 2: the landing pad that is entered next (docs/phases.md, "Phase 2").
-ghost use Rattle.std.specs.Prelude.{◌≡◌, ◌&&◌, not, None};
+ghost use Rattle.std.specs.Prelude.{◌≡◌, ◌&&◌, not, None, Ok, Err, MatchResult, option_map};
 ghost use Rattle.eh_phase.specs.Firsts.{first_some};
-ghost use Rattle.eh_phase.specs.Phases.{stands_at, is_goal, spec_entered, entered_by, entered_item, from_address, phase2};
+ghost use Rattle.eh_phase.specs.Landings.{lands};
+ghost use Rattle.eh_phase.specs.Phases.{Frame, stands_at, is_goal, spec_entered, entered_by, entered_item, from_address, phase2};
 ghost use Rattle.eh_phase.specs.Frames.{frames_of};
 ghost use Rattle.eh_phase.specs.Calls.{frame_at, stack_of};
 ghost use Rattle.eh_phase.specs.Passed.{enters_at};
 
 use crate::phase1::Passed;
 use crate::verdict::is_in_scope;
-use crate::walk::{Covered, Cursor, Tables, covered_at, go_out};
+use crate::walk::{Covered, Cursor, NO_ROW, Tables, covered_near, go_out};
 use eh_bus::bus::Bus;
 use eh_bytecode::{Codes, Vrs};
 use eh_desc::{Desc, DescFault, DescKind, Descs};
@@ -49,7 +50,47 @@ pub enum Entered {
     Terminate(Cause),
 }
 
+/// What a phase 2 enters in a frame, but for the frame's registers and site.
+#[derive(Clone, Copy)]
+pub enum Landing {
+    /// A cleanup, with the address of the descriptor after its own.
+    Cleanup { pad: u32, next: u32 },
+    /// The barrier, a catch.
+    Catch { pad: u32 },
+    /// The barrier, a specification with a landing pad.
+    Spec { pad: u32 },
+    /// The barrier, a specification without one.
+    Unexpected,
+    /// There is no way to the barrier.
+    Terminate(Cause),
+}
+
+/// What is entered in a frame, with its registers and site.
+fn enter(cursor: &Cursor, landing: Landing) -> Entered
+    ensures { result ≡ lands (frame_at cursor.now) landing }
+{
+    match landing {
+        Landing::Cleanup { pad, next } => Entered::Cleanup {
+            vrs: cursor.vrs,
+            pad,
+            next,
+            site: cursor.site,
+        },
+        Landing::Catch { pad } => Entered::Catch {
+            vrs: cursor.vrs,
+            pad,
+        },
+        Landing::Spec { pad } => Entered::Spec {
+            vrs: cursor.vrs,
+            pad,
+        },
+        Landing::Unexpected => Entered::Unexpected,
+        Landing::Terminate(cause) => Entered::Terminate(cause),
+    }
+}
+
 /// Whether a descriptor is the barrier.
+#[inline(always)]
 fn is_goal(goal: &Goal, cursor: &Cursor, at: u32) -> bool
     ensures { result ≡ is_goal goal.now (frame_at cursor.now) at }
 {
@@ -57,42 +98,36 @@ fn is_goal(goal: &Goal, cursor: &Cursor, at: u32) -> bool
 }
 
 /// What a barrier that is a specification enters.
-fn spec_entered(cursor: &Cursor, pad: Option<u32>) -> Entered
-    ensures { result ≡ spec_entered (frame_at cursor.now) pad }
+#[inline(always)]
+fn spec_landing(pad: Option<u32>) -> Landing
+    ensures { (f : Frame) → lands f result ≡ spec_entered f pad }
 {
     match pad {
-        None => Entered::Unexpected,
-        Some(pad) => Entered::Spec {
-            vrs: cursor.vrs,
-            pad,
-        },
+        None => Landing::Unexpected,
+        Some(pad) => Landing::Spec { pad },
     }
 }
 
 /// What a descriptor in scope enters.
-fn entered_by(goal: &Goal, cursor: &Cursor, desc: &Desc) -> Option<Entered>
-    ensures { result ≡ entered_by goal.now (frame_at cursor.now) desc.now desc.now.kind }
+#[inline(always)]
+fn landing_by(goal: &Goal, cursor: &Cursor, desc: &Desc) -> Option<Landing>
+    ensures { option_map (lands (frame_at cursor.now)) result ≡ entered_by goal.now (frame_at cursor.now) desc.now desc.now.kind }
 {
     match desc.kind {
-        DescKind::Cleanup { pad } => Some(Entered::Cleanup {
-            vrs: cursor.vrs,
+        DescKind::Cleanup { pad } => Some(Landing::Cleanup {
             pad,
             next: desc.next,
-            site: cursor.site,
         }),
         DescKind::Catch { pad, .. } => {
             if is_goal(goal, cursor, desc.at) {
-                Some(Entered::Catch {
-                    vrs: cursor.vrs,
-                    pad,
-                })
+                Some(Landing::Catch { pad })
             } else {
                 None
             }
         }
         DescKind::Spec { pad, .. } => {
             if is_goal(goal, cursor, desc.at) {
-                Some(spec_entered(cursor, pad))
+                Some(spec_landing(pad))
             } else {
                 None
             }
@@ -101,22 +136,24 @@ fn entered_by(goal: &Goal, cursor: &Cursor, desc: &Desc) -> Option<Entered>
 }
 
 /// What an item of a list of descriptors enters.
-fn entered_item(goal: &Goal, cursor: &Cursor, item: Result<Desc, DescFault>) -> Option<Entered>
-    ensures { result ≡ entered_item goal.now (frame_at cursor.now) item }
+#[inline(always)]
+fn landing_of(goal: &Goal, cursor: &Cursor, item: &Result<Desc, DescFault>) -> Option<Landing>
+    ensures { option_map (lands (frame_at cursor.now)) result ≡ entered_item goal.now (frame_at cursor.now) item.now }
 {
     match item {
         Ok(desc) => {
-            if is_in_scope(&desc, cursor.site) {
-                entered_by(goal, cursor, &desc)
+            if is_in_scope(desc, cursor.site) {
+                landing_by(goal, cursor, desc)
             } else {
                 None
             }
         }
-        Err(_) => Some(Entered::Terminate(Cause::CannotUnwind)),
+        Err(_) => Some(Landing::Terminate(Cause::CannotUnwind)),
     }
 }
 
 /// Whether an item stands at an address; what can't be read stands at each.
+#[inline(always)]
 fn stands_at(item: &Result<Desc, DescFault>, at: u32) -> bool
     ensures { result ≡ stands_at at item.now }
 {
@@ -127,6 +164,7 @@ fn stands_at(item: &Result<Desc, DescFault>, at: u32) -> bool
 }
 
 /// Whether the items that are looked at begin after an item, where they haven't begun in front of it.
+#[inline(always)]
 fn is_before(before: bool, item: &Result<Desc, DescFault>, at: u32) -> bool
     ensures { result ≡ (before && not (stands_at at item.now)) }
 {
@@ -134,9 +172,10 @@ fn is_before(before: bool, item: &Result<Desc, DescFault>, at: u32) -> bool
 }
 
 /// What the descriptors of a frame enter, from the one at an address on; all of them for 0.
-#[tactic(auto, using(crate::proofs::After::left_past, crate::proofs::After::left_here, crate::proofs::After::left_none))]
-fn entered_in(goal: &Goal, from: u32, cursor: &Cursor, descs: Descs) -> Option<Entered>
-    ensures { result ≡ first_some (entered_item goal.now (frame_at cursor.now)) (from_address from descs.entry) }
+#[inline(always)]
+#[tactic(auto, using(crate::proofs::After::left_past, crate::proofs::After::left_gives, crate::proofs::After::left_none))]
+fn landing_in(goal: &Goal, from: u32, cursor: &Cursor, descs: Descs) -> Option<Landing>
+    ensures { option_map (lands (frame_at cursor.now)) result ≡ first_some (entered_item goal.now (frame_at cursor.now)) (from_address from descs.entry) }
 {
     let mut before = from != 0;
     for item in descs {
@@ -144,29 +183,32 @@ fn entered_in(goal: &Goal, from: u32, cursor: &Cursor, descs: Descs) -> Option<E
         if before {
             continue;
         }
-        let entered = entered_item(goal, cursor, item);
-        if entered.is_some() {
-            return entered;
+        if let Some(landing) = landing_of(goal, cursor, &item) {
+            return Some(landing);
         }
     }
     None
 }
 
-/// The codes of a frame whose descriptors from one on enter nothing, or what they enter; what isn't covered can't be unwound.
+/// The codes of a frame whose descriptors from one on enter nothing, or what they enter; what isn't covered can't be unwound. The entry
+/// is sought from a row on, which becomes its own.
+#[inline(never)]
 #[tactic(auto, unfolding(crate::specs::Passed::enters_at))]
 fn quiet_codes<'a>(
     t: &Tables<'_, 'a>,
     goal: &Goal,
     next: u32,
     cursor: &Cursor,
-) -> Result<Codes<'a>, Entered>
-    ensures { result ≡ enters_at goal.now next t.now.index (frame_at cursor.now) }
+    near: &mut u32,
+) -> Result<Codes<'a>, Landing>
+    ensures { let enters = enters_at goal.now next t.now.index (frame_at cursor.now) in
+        MatchResult result (λ codes. enters ≡ Ok codes) (λ landing. enters ≡ Err (lands (frame_at cursor.now) landing)) }
 {
-    let Some(Covered { codes, descs }) = covered_at(&t.index, cursor.site) else {
-        return Err(Entered::Terminate(Cause::CannotUnwind));
+    let Some(Covered { codes, descs }) = covered_near(&t.index, cursor.site, near) else {
+        return Err(Landing::Terminate(Cause::CannotUnwind));
     };
-    match entered_in(goal, next, cursor, descs) {
-        Some(entered) => Err(entered),
+    match landing_in(goal, next, cursor, descs) {
+        Some(landing) => Err(landing),
         None => Ok(codes),
     }
 }
@@ -190,9 +232,10 @@ pub fn advance<B: Bus>(
         innermost: true,
     };
     let mut next = next;
-    let mut here = match quiet_codes(t, goal, next, &cursor) {
+    let mut near = NO_ROW;
+    let mut here = match quiet_codes(t, goal, next, &cursor, &mut near) {
         Ok(codes) => Passed { site, codes },
-        Err(entered) => return entered,
+        Err(landing) => return enter(&cursor, landing),
     };
     loop {
         if let Some(cause) = go_out(&here.codes, bus, None, &mut cursor) {
@@ -202,12 +245,12 @@ pub fn advance<B: Bus>(
             continue;
         }
         next = 0;
-        match quiet_codes(t, goal, 0, &cursor) {
+        match quiet_codes(t, goal, 0, &cursor, &mut near) {
             Ok(codes) => here = Passed {
                 site: cursor.site,
                 codes,
             },
-            Err(entered) => return entered,
+            Err(landing) => return enter(&cursor, landing),
         }
     }
 }

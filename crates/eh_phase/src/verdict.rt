@@ -30,6 +30,7 @@ pub enum Verdict {
 }
 
 /// Whether a descriptor is in scope at a site.
+#[inline(always)]
 pub(crate) fn is_in_scope(desc: &Desc, site: u32) -> bool
     ensures { result ≡ in_scope site desc.now }
 {
@@ -95,6 +96,7 @@ fn first_hit<B: Bus>(t: &Tables, bus: &B, what: &Thrown, desc: &Desc, count: u32
 }
 
 /// What a descriptor in scope says.
+#[inline(always)]
 fn says<B: Bus>(t: &Tables, bus: &B, what: &Thrown, desc: &Desc) -> Option<Verdict>
     ensures { result ≡ says (meeting t.now.index t.now.types.now (B.memory bus.now).segments what.now) desc.now }
 {
@@ -117,6 +119,7 @@ fn says<B: Bus>(t: &Tables, bus: &B, what: &Thrown, desc: &Desc) -> Option<Verdi
 }
 
 /// What a descriptor says at a site, or the fault that ends a list of them.
+#[inline(always)]
 fn heard<B: Bus>(
     t: &Tables,
     bus: &B,
@@ -139,6 +142,7 @@ fn heard<B: Bus>(
 }
 
 /// The verdict of a frame: what the first of its descriptors in scope says that says something.
+#[inline(always)]
 #[tactic(auto, using(crate::proofs::First::first_past, crate::proofs::First::first_here, crate::proofs::First::first_none), unfolding(crate::specs::Verdict::verdict_of))]
 pub(crate) fn verdict_of<B: Bus>(
     t: &Tables,

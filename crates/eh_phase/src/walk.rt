@@ -1,8 +1,8 @@
 //! The walk over frames, of which it keeps one (docs/phases.md, "Frames").
-ghost use Rattle.std.specs.Prelude.{◌≡◌, Some, None, Ok, Err, MatchBool, MatchOption, option_copied};
+ghost use Rattle.std.specs.Prelude.{◌≡◌, Some, None, Ok, Err, MatchBool, MatchOption};
 ghost use Rattle.unwind_codes.specs.Cut.{cut};
 ghost use Rattle.eh_bytecode.specs.Meaning.{unwound};
-ghost use Rattle.eh_phase.specs.Frames.{codes_of, covered_at, is_no_frame, is_above, caller_of, caller_at, checked, outer, site_of};
+ghost use Rattle.eh_phase.specs.Frames.{covered_by, covered_at, is_no_frame, is_above, caller_of, caller_at, checked, outer, site_of};
 ghost use Rattle.eh_phase.specs.Calls.{stack_of, cursor_of};
 
 use eh_bus::bus::Bus;
@@ -12,6 +12,9 @@ use eh_index::{Entry, EntryBody, Index};
 use eh_types::TypeGraph;
 use guest_gates::NO_CALLER;
 use thumb_core::ends::Cause;
+
+/// The row from which an entry is sought where none was found yet: no index has so many.
+pub(crate) const NO_ROW: u32 = u32::MAX;
 
 /// What the phases read of an image: its index with the descriptors after it, and its graph of types.
 #[derive(Drop)]
@@ -37,36 +40,66 @@ pub struct Cursor {
     pub innermost: bool,
 }
 
-/// The codes of an entry with the bytes of its table; None where it can't be unwound, or its codes can't be read.
-fn codes_of<'a>(entry: &Entry, table: Option<&'a [u8]>) -> Option<Codes<'a>>
-    ensures { result ≡ codes_of entry.now.body (option_copied table.entry) }
+/// The codes and the descriptors of an entry. None where there is none, where it can't be unwound, and where its codes can't be read.
+#[inline(always)]
+fn covered_by<'a>(index: &Index<'_, 'a>, entry: Option<Entry>) -> Option<Covered<'a>>
+    ensures { result ≡ covered_by index.now entry }
 {
+    let entry = entry?;
     match entry.body {
         EntryBody::CantUnwind => None,
-        EntryBody::Inline(word) => Codes::inline(word).ok(),
-        EntryBody::Table(_) => Codes::table(table?).ok(),
+        EntryBody::Inline(word) => {
+            let Ok(codes) = Codes::inline(word) else {
+                return None;
+            };
+            Some(Covered {
+                codes,
+                descs: Descs::none(),
+            })
+        }
+        EntryBody::Table(address) => {
+            let bytes = index.table(&entry)?;
+            let Ok(codes) = Codes::table(bytes) else {
+                return None;
+            };
+            let descs = Descs::after_codes(entry.start, address, bytes);
+            Some(Covered { codes, descs })
+        }
     }
 }
 
 /// The codes and the descriptors of a site. None where no entry covers it, where the entry can't be unwound, and where its codes
 /// can't be read.
 #[tactic(auto, unfolding(crate::specs::Frames::covered_at))]
-pub(crate) fn covered_at<'a>(index: &Index<'_, 'a>, site: u32) -> Option<Covered<'a>>
+fn covered_at<'a>(index: &Index<'_, 'a>, site: u32) -> Option<Covered<'a>>
     ensures { result ≡ covered_at index.now site }
 {
-    let entry = index.find(site)?;
-    let table = index.table(&entry);
-    let codes = codes_of(&entry, table)?;
-    let descs = Descs::of_table(&entry, table);
-    Some(Covered { codes, descs })
+    covered_by(index, index.find(site))
 }
 
+/// The same, sought from a row on outwards: best the one that was found last, and any number else. It becomes the row of the site.
+#[inline(always)]
+#[tactic(auto, unfolding(crate::specs::Frames::covered_at))]
+pub(crate) fn covered_near<'a>(
+    index: &Index<'_, 'a>,
+    site: u32,
+    near: &mut u32,
+) -> Option<Covered<'a>>
+    ensures { result ≡ covered_at index.now site }
+{
+    let (entry, row) = index.find_near(site, *near);
+    *near = row;
+    covered_by(index, entry)
+}
+
+#[inline(always)]
 fn is_no_frame(end: u32, innermost: bool, sp: u32, next: u32) -> bool
     ensures { result ≡ is_no_frame end innermost sp next }
 {
     next < sp || (!innermost && next == sp) || end < next
 }
 
+#[inline(always)]
 fn is_above(limit: Option<u32>, sp: u32) -> bool
     ensures { result ≡ is_above limit sp }
 {
@@ -77,6 +110,7 @@ fn is_above(limit: Option<u32>, sp: u32) -> bool
 }
 
 /// The address of the call by its return address.
+#[inline(always)]
 fn site_of(vrs: &Vrs) -> u32
     ensures { result ≡ site_of vrs.now.r }
 {

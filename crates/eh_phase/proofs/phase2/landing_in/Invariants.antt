@@ -3,7 +3,7 @@ use Rattle.eh_phase.specs.Firsts.{first_some}
 use Rattle.eh_phase.specs.Phases.{entered_item, from_address}
 use Rattle.eh_phase.specs.Calls.{frame_at}
 use Rattle.eh_phase.proofs.After.{left}
-use Rattle.eh_phase.proofs.phase2.entered_in.Given as goal
+use Rattle.eh_phase.proofs.phase2.landing_in.Given as goal
 
 abbrev pub invariant-loop-item : goal.invariant-loop-item
 invariant-loop-item l =

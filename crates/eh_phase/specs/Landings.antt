@@ -1,0 +1,13 @@
+-- What phase 2 enters in a frame, without and with the frame's registers and site.
+use Rattle.eh_phase.specs.declared.phase2.Landing.{Landing}
+use Rattle.eh_phase.specs.declared.phase2.Landing.TheVariants as landing
+use Rattle.eh_phase.specs.declared.phase2.Entered.{Entered}
+use Rattle.eh_phase.specs.declared.phase2.Entered.TheVariants as enters
+use Rattle.eh_phase.specs.Phases.{Frame, vrs_of}
+
+abbrev pub lands : Frame → Landing → Entered
+lands f (landing.Cleanup pad next) = enters.Cleanup (vrs_of f) pad next f.site
+lands f (landing.Catch pad) = enters.Catch (vrs_of f) pad
+lands f (landing.Spec pad) = enters.Spec (vrs_of f) pad
+lands f landing.Unexpected = enters.Unexpected
+lands f (landing.Terminate cause) = enters.Terminate cause
