@@ -1,5 +1,5 @@
 -- What a decode cache has of an address is what is fetched there, where its halfwords stand.
-use Rattle.std.proofs.Common.{◌≡◌, ℕ, ◌<◌, List, length, Option, Some, None, slice_index_or, slice_set, sym, subst, ◌∙◌, inl, inr}
+use Rattle.std.proofs.Common.{◌≡◌, ℕ, ◌<◌, List, length, true, slice_index_or, slice_set, sym, subst, ◌∙◌, inl, inr}
 use Rattle.std.proofs.lemmas.Bool.{cases_eq}
 use Rattle.std.proofs.lemmas.List.{get_or-set_same, get_or-set_other}
 use Rattle.eh_bus.specs.Memory.{Memory}
@@ -23,18 +23,18 @@ is_fetched p m a line of same stand = record {
 }
 
 pub is_of_line : (p : Program) (m : Memory) (a : ℕ) (h : Halfwords) (at : Fetched) (round : ℕ) → IsFetched p a m at → HasHalfwords m a h
-    → IsOfLine p (record { address = a; halfwords = h; fetched = at; confirmed = round })
-is_of_line p m a h at round is stand = record {
+    → IsLine p (record { address = a; halfwords = h; fetched = at; confirmed = round; is_kept = true })
+is_of_line p m a h at round is stand = λ e. record {
   pair = is_pair m a h stand;
   decoded = sym (by_halfwords (profile_in p) m a h stand) ∙ is.there;
   range = is.range;
   roles = is.roles;
 }
 
-pub set_line : (p : Program) (lines : List (Option CacheLine)) (n : ℕ) (line : CacheLine) → n < length lines → ((k : ℕ) → k < LINES → IsLine p (slice_index_or lines k None)) → IsOfLine p line
-    → (k : ℕ) → k < LINES → IsLine p (slice_index_or (slice_set lines n (Some line)) k None)
-set_line p lines n line within old of k below = elim (cases_eq k n) [
-  | inl same ↦ subst (λ (j : ℕ). IsLine p (slice_index_or (slice_set lines n (Some line)) j None)) (sym same)
-      (subst (λ (o : Option CacheLine). IsLine p o) (sym (get_or-set_same lines n (Some line) None within)) of)
-  | inr other ↦ subst (λ (o : Option CacheLine). IsLine p o) (sym (get_or-set_other lines n k (Some line) None other)) (old k below)
+pub set_line : (p : Program) (lines : List CacheLine) (n : ℕ) (line : CacheLine) → n < length lines → ((k : ℕ) (d : CacheLine) → k < LINES → IsLine p (slice_index_or lines k d)) → IsLine p line
+    → (k : ℕ) (d : CacheLine) → k < LINES → IsLine p (slice_index_or (slice_set lines n line) k d)
+set_line p lines n line within old of k d below = elim (cases_eq k n) [
+  | inl same ↦ subst (λ (j : ℕ). IsLine p (slice_index_or (slice_set lines n line) j d)) (sym same)
+      (subst (λ (o : CacheLine). IsLine p o) (sym (get_or-set_same lines n line d within)) of)
+  | inr other ↦ subst (λ (o : CacheLine). IsLine p o) (sym (get_or-set_other lines n k line d other)) (old k d below)
 ]

@@ -1,5 +1,5 @@
 -- What was confirmed stands fast as long as no gate of the runtime is done.
-use Rattle.std.proofs.Common.{◌≡◌, ℕ, ◌+◌, ◌%◌, ◌^◌, ◌<◌, nat_le, nat_lt, Bool, true, false, not, ◌==◌, List, [], ◌∷◌, length, Option, Some, None, Result, Ok, Err, slice_index, slice_index_or, slice_set, cond, if◌then◌else◌, refl, sym, ap, subst, ◌∙◌, inl, inr, arith}
+use Rattle.std.proofs.Common.{◌≡◌, ℕ, ◌+◌, ◌%◌, ◌^◌, ◌<◌, ◌≤◌, nat_le, nat_lt, Bool, true, false, not, ◌==◌, List, [], ◌∷◌, length, Option, Some, None, Result, Ok, Err, slice_index, slice_index_or, slice_set, cond, if◌then◌else◌, refl, sym, ap, subst, ◌∙◌, inl, inr, arith}
 use Rattle.std.proofs.lemmas.Bool.{cases_eq}
 use Rattle.std.proofs.lemmas.List.{get_or-set_same, get_or-set_other}
 use Rattle.eh_bus.specs.Segment.{Segment, holds}
@@ -25,9 +25,9 @@ use Rattle.eh_gates.specs.declared.state.Core.{Core}
 use Rattle.eh_gates.specs.State.{State, state_of, reg}
 use Rattle.machines_agree.specs.two_machines.Program.{Program, profile_in}
 use Rattle.machines_agree.specs.two_machines.Machine.{Passed, reguarded, saved_words, tested, stepped, checked, passed}
-use Rattle.eh_machine.specs.Cached.{StandFast, IsOfRound, IsRoundsLine, IsConfirmed, IsCountedLine, IsCounting}
+use Rattle.eh_machine.specs.Cached.{StandFast, IsLine, IsOfRound, IsConfirmed, IsCounting}
 use Rattle.eh_machine.specs.Passes.{Passes}
-use Rattle.eh_machine.specs.declared.decode_cache.TheConstants.{LINES}
+use Rattle.eh_machine.specs.declared.decode_cache.TheConstants.{LINES, FIRST_ROUND, NO_ROUND}
 use Rattle.eh_machine.specs.declared.decode_cache.CacheLine.{CacheLine}
 use Rattle.eh_machine.specs.declared.decode_cache.DecodeCache.{DecodeCache}
 
@@ -85,50 +85,50 @@ stand_fast m a h one two has = record { always = λ m' p. record { first = fixed
 pub stands_at : (round : ℕ) (m : Memory) (a : ℕ) (line : CacheLine) → IsOfRound round m line → line.confirmed ≡ round → line.address ≡ a → HasHalfwords m a line.halfwords
 stands_at round m a line of e same = subst (λ (x : ℕ). HasHalfwords m x line.halfwords) same ((of.stands e).always m (map_refl m.segments))
 
-pub set_confirmed : (round : ℕ) (m : Memory) (lines : List (Option CacheLine)) (n : ℕ) (line : CacheLine) → n < length lines
-    → ((k : ℕ) → k < LINES → IsRoundsLine round m (slice_index_or lines k None)) → IsOfRound round m line
-    → (k : ℕ) → k < LINES → IsRoundsLine round m (slice_index_or (slice_set lines n (Some line)) k None)
-set_confirmed round m lines n line within old of k below = elim (cases_eq k n) [
-  | inl same ↦ subst (λ (j : ℕ). IsRoundsLine round m (slice_index_or (slice_set lines n (Some line)) j None)) (sym same)
-      (subst (λ (o : Option CacheLine). IsRoundsLine round m o) (sym (get_or-set_same lines n (Some line) None within)) of)
-  | inr other ↦ subst (λ (o : Option CacheLine). IsRoundsLine round m o) (sym (get_or-set_other lines n k (Some line) None other)) (old k below)
+pub set_confirmed : (round : ℕ) (m : Memory) (lines : List CacheLine) (n : ℕ) (line : CacheLine) → n < length lines
+    → ((k : ℕ) (d : CacheLine) → k < LINES → IsOfRound round m (slice_index_or lines k d)) → IsOfRound round m line
+    → (k : ℕ) (d : CacheLine) → k < LINES → IsOfRound round m (slice_index_or (slice_set lines n line) k d)
+set_confirmed round m lines n line within old of k d below = elim (cases_eq k n) [
+  | inl same ↦ subst (λ (j : ℕ). IsOfRound round m (slice_index_or (slice_set lines n line) j d)) (sym same)
+      (subst (λ (o : CacheLine). IsOfRound round m o) (sym (get_or-set_same lines n line d within)) of)
+  | inr other ↦ subst (λ (o : CacheLine). IsOfRound round m o) (sym (get_or-set_other lines n k line d other)) (old k d below)
 ]
+
+-- a line of which nothing was kept
+pub empty_is_unkept : (p : Program) (line : CacheLine) → line.is_kept ≡ false → IsLine p line
+empty_is_unkept p line e = λ f. absurd (cc)
+
+pub empty_is_of_round : (m : Memory) (line : CacheLine) → line.confirmed ≡ NO_ROUND → IsOfRound FIRST_ROUND m line
+empty_is_of_round m line e = record { within = omega (arith, e); kept = λ f. absurd (omega (arith, e, f)); stands = λ f. absurd (omega (arith, e, f)) }
 
 -- the map stays, and so does what was confirmed
 pub stays : (m n : Memory) (cache : DecodeCache) → SameMap m.segments n.segments → IsConfirmed m cache → IsConfirmed n cache
-stays m n cache p is = record { begun = is.begun; lines = λ k below. go (slice_index_or cache.lines k None) (is.lines k below) }
+stays m n cache p is = record { begun = is.begun; lines = λ k d below. go (slice_index_or cache.lines k d) (is.lines k d below) }
   where
-    go : (o : Option CacheLine) → IsRoundsLine cache.round m o → IsRoundsLine cache.round n o
-    go None x = tt
-    go (Some line) x = record { within = x.within; stands = λ e. record { always = λ m' q. (x.stands e).always m' (map_trans _ _ _ p q) } }
+    go : (line : CacheLine) → IsOfRound cache.round m line → IsOfRound cache.round n line
+    go line x = record { within = x.within; kept = x.kept; stands = λ e. record { always = λ m' q. (x.stands e).always m' (map_trans _ _ _ p q) } }
 
 -- rounds are counted whatever the memory
 pub counting : (m : Memory) (cache : DecodeCache) → IsConfirmed m cache → IsCounting cache
-counting m cache is = record { begun = is.begun; lines = λ k below. go (slice_index_or cache.lines k None) (is.lines k below) }
-  where
-    go : (o : Option CacheLine) → IsRoundsLine cache.round m o → IsCountedLine cache.round o
-    go None x = tt
-    go (Some line) x = x.within
+counting m cache is = record { begun = is.begun; lines = λ k d below. (is.lines k d below).within }
 
 -- no line is of the next round
-next_line : (n : Memory) (round next : ℕ) (o : Option CacheLine) → next ≡ round + 1 → IsCountedLine round o → IsRoundsLine next n o
-next_line n round next None e x = tt
-next_line n round next (Some line) e x = record { within = omega (arith, x, e); stands = λ f. absurd (omega (arith, x, e, f)) }
+next_line : (n : Memory) (round next : ℕ) (line : CacheLine) → next ≡ round + 1 → line.confirmed ≤ round → IsOfRound next n line
+next_line n round next line e x = record { within = omega (arith, x, e); kept = λ f. absurd (omega (arith, x, e, f)); stands = λ f. absurd (omega (arith, x, e, f)) }
 
 pub counts_on : (old new : DecodeCache) → new.lines ≡ old.lines → new.round ≡ old.round + 1 → IsCounting old → IsCounting new
 counts_on old new same e is = record {
   begun = omega (arith, e);
-  lines = λ k below. rw same (go (slice_index_or old.lines k None) (is.lines k below));
+  lines = λ k d below. rw same (go (slice_index_or old.lines k d) (is.lines k d below));
 }
   where
-    go : (o : Option CacheLine) → IsCountedLine old.round o → IsCountedLine new.round o
-    go None x = tt
-    go (Some line) x = omega (arith, x, e)
+    go : (line : CacheLine) → line.confirmed ≤ old.round → line.confirmed ≤ new.round
+    go line x = omega (arith, x, e)
 
 pub next_round : (n : Memory) (old new : DecodeCache) → new.lines ≡ old.lines → new.round ≡ old.round + 1 → IsCounting old → IsConfirmed n new
 next_round n old new same e is = record {
   begun = omega (arith, e);
-  lines = λ k below. rw same (next_line n old.round new.round (slice_index_or old.lines k None) e (is.lines k below));
+  lines = λ k d below. rw same (next_line n old.round new.round (slice_index_or old.lines k d) e (is.lines k d below));
 }
 
 -- ---- an instruction up to its gate keeps the map

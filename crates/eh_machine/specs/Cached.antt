@@ -1,5 +1,5 @@
 -- What a decode cache holds: of each line what is so of the program, whatever the memory holds now.
-use Rattle.std.specs.Prelude.{◌≡◌, ℕ, ◌<◌, ◌≤◌, Option, Some, None, slice_index_or}
+use Rattle.std.specs.Prelude.{◌≡◌, ℕ, ◌<◌, ◌≤◌, Some, true, slice_index_or}
 use Rattle.thumb_isa.specs.Range.{InRange}
 use Rattle.thumb_isa.specs.Rows.{decoded_for}
 use Rattle.thumb_core.specs.Step.{instr_of}
@@ -20,12 +20,11 @@ pub record IsOfLine (p : Program) (line : CacheLine) : Type 0 where
   pub range : InRange line.fetched.instr
   pub roles : HasRoles p line.address line.fetched
 
-abbrev pub IsLine : Program → Option CacheLine → Type 0
-IsLine p None = Unit {0}
-IsLine p (Some line) = IsOfLine p line
+abbrev pub IsLine : Program → CacheLine → Type 0
+IsLine p line = line.is_kept ≡ true → IsOfLine p line
 
 pub record IsCache (p : Program) (cache : DecodeCache) : Type 0 where
-  pub lines : (k : ℕ) → k < LINES → IsLine p (slice_index_or cache.lines k None)
+  pub lines : (k : ℕ) (d : CacheLine) → k < LINES → IsLine p (slice_index_or cache.lines k d)
 
 -- ---- what was confirmed
 
@@ -36,21 +35,14 @@ pub record StandFast (m : Memory) (a : ℕ) (h : Halfwords) : Type 0 where
 -- of a line, by the round and the memory
 pub record IsOfRound (round : ℕ) (m : Memory) (line : CacheLine) : Type 0 where
   pub within : line.confirmed ≤ round
+  pub kept : line.confirmed ≡ round → line.is_kept ≡ true
   pub stands : line.confirmed ≡ round → StandFast m line.address line.halfwords
-
-abbrev pub IsRoundsLine : ℕ → Memory → Option CacheLine → Type 0
-IsRoundsLine round m None = Unit {0}
-IsRoundsLine round m (Some line) = IsOfRound round m line
 
 pub record IsConfirmed (m : Memory) (cache : DecodeCache) : Type 0 where
   pub begun : 0 < cache.round
-  pub lines : (k : ℕ) → k < LINES → IsRoundsLine cache.round m (slice_index_or cache.lines k None)
+  pub lines : (k : ℕ) (d : CacheLine) → k < LINES → IsOfRound cache.round m (slice_index_or cache.lines k d)
 
 -- no line is of a later round, whatever the memory
-abbrev pub IsCountedLine : ℕ → Option CacheLine → Type 0
-IsCountedLine round None = Unit {0}
-IsCountedLine round (Some line) = line.confirmed ≤ round
-
 pub record IsCounting (cache : DecodeCache) : Type 0 where
   pub begun : 0 < cache.round
-  pub lines : (k : ℕ) → k < LINES → IsCountedLine cache.round (slice_index_or cache.lines k None)
+  pub lines : (k : ℕ) (d : CacheLine) → k < LINES → (slice_index_or cache.lines k d).confirmed ≤ cache.round

@@ -2,15 +2,16 @@
 //! (docs/machine.md, "An event").
 ghost use Rattle.std.specs.Prelude.{◌≡◌, ◌<◌, ◌≤◌, true, false, IfSome};
 ghost use Rattle.eh_bus.specs.Memory.{Memory};
-ghost use Rattle.eh_bus.specs.Map.{SameMap};
 ghost use Rattle.machines_agree.specs.two_machines.Program.{Program};
-ghost use Rattle.eh_machine.specs.Cached.{IsCache, IsOfLine, IsConfirmed, IsCounting, IsOfRound, StandFast};
+ghost use Rattle.eh_machine.specs.Cached.{IsCache, IsLine, IsConfirmed, IsCounting, IsOfRound, StandFast};
 ghost use Rattle.eh_machine.specs.Passes.{IsFetched};
+ghost use Rattle.eh_machine.specs.declared.decode_cache.TheConstants.{NO_ROUND};
 
 use crate::pass::Fetched;
 use crate::read_only::stand_fast;
 use code_halfwords::halfwords::{Halfwords, halfwords_at, still_stand};
 use eh_bus::bus::Bus;
+use thumb_isa::instr::Instr;
 
 /// How many lines a cache has.
 pub(crate) const LINES: usize = 4096;
@@ -23,6 +24,8 @@ pub(crate) struct CacheLine {
     fetched: Fetched,
     /// The round in which its halfwords were found to stand fast; 0 where they were not.
     confirmed: u32,
+    /// Whether it is the line of something that was fetched; the others are never confirmed, so an event needn't ask.
+    is_kept: bool,
 }
 
 /// What was fetched last at the addresses of each line. What is kept holds of the program whatever the memory holds: a line is taken only where
@@ -30,7 +33,7 @@ pub(crate) struct CacheLine {
 /// written, and nothing that was done since changes that.
 #[derive(Drop)]
 pub(crate) struct DecodeCache {
-    lines: [Option<CacheLine>; LINES],
+    lines: [CacheLine; LINES],
     /// Counted from 1.
     round: u32,
 }
@@ -49,6 +52,30 @@ fn line_of(address: u32) -> usize
     (address / 2) as usize % LINES
 }
 
+/// A line of which nothing was kept yet.
+fn empty_line() -> CacheLine
+    ensures kept { result.is_kept ≡ false }
+    ensures confirmed { result.confirmed ≡ NO_ROUND }
+{
+    CacheLine {
+        address: 0,
+        halfwords: Halfwords {
+            first: 0,
+            second: 0,
+        },
+        fetched: Fetched {
+            instr: Instr::Hint { n: 0 },
+            size: 2,
+            lowers: false,
+            is_last: false,
+            is_straight: false,
+            saves: 0,
+        },
+        confirmed: NO_ROUND,
+        is_kept: false,
+    }
+}
+
 impl DecodeCache {
     /// A cache that has nothing yet.
     pub(crate) fn new() -> DecodeCache
@@ -57,21 +84,19 @@ impl DecodeCache {
         ensures counting { IsCounting result }
     {
         DecodeCache {
-            lines: [None; LINES],
+            lines: [empty_line(); LINES],
             round: FIRST_ROUND,
         }
     }
 
-    /// The line of an address, where it has what was fetched there.
+    /// The line of an address, where it is of that address.
     #[inline(always)]
     fn line(&self, address: u32) -> Option<&CacheLine>
         ensures address { IfSome result (λ line. line.now.address ≡ address) }
-        ensures cache { (p : Program) → IsCache p self.now → IfSome result (λ line. IsOfLine p line.now) }
+        ensures cache { (p : Program) → IsCache p self.now → IfSome result (λ line. IsLine p line.now) }
         ensures confirmed { (m : Memory) → IsConfirmed m self.now → IfSome result (λ line. IsOfRound self.now.round m line.now) }
     {
-        let Some(line) = &self.lines[line_of(address)] else {
-            return None;
-        };
+        let line = &self.lines[line_of(address)];
         if line.address != address {
             return None;
         }
@@ -86,6 +111,9 @@ impl DecodeCache {
         let Some(line) = self.line(address) else {
             return None;
         };
+        if !line.is_kept {
+            return None;
+        }
         if !still_stand(&line.halfwords, address, bus) {
             return None;
         }
@@ -108,10 +136,10 @@ impl DecodeCache {
 
     /// Puts a line in place of the one that has its number.
     fn put(&mut self, line: CacheLine)
-        ensures cache { (p : Program) → IsCache p self.old → IsOfLine p line → IsCache p self.new }
+        ensures cache { (p : Program) → IsCache p self.old → IsLine p line → IsCache p self.new }
         ensures confirmed { (m : Memory) → IsConfirmed m self.old → IsOfRound self.old.round m line → IsConfirmed m self.new }
     {
-        self.lines[line_of(line.address)] = Some(line);
+        self.lines[line_of(line.address)] = line;
     }
 
     /// This round, for halfwords that stand fast, and else none.
@@ -138,6 +166,7 @@ impl DecodeCache {
             halfwords,
             fetched,
             confirmed,
+            is_kept: true,
         });
     }
 
@@ -150,17 +179,6 @@ impl DecodeCache {
         match self.round.checked_add(1) {
             Some(round) => self.round = round,
             None => *self = DecodeCache::new(),
-        }
-    }
-
-    /// Goes on after an event, which did a gate of the runtime or kept the map of the memory.
-    #[inline(always)]
-    pub(crate) fn go_on(&mut self, is_gate: bool)
-        ensures cache { (p : Program) → IsCache p self.old → IsCache p self.new }
-        ensures confirmed { (m n : Memory) → (is_gate ≡ false → SameMap m.segments n.segments) → IsConfirmed m self.old → IsConfirmed n self.new }
-    {
-        if is_gate {
-            self.doubt();
         }
     }
 }

@@ -1,5 +1,5 @@
 //! One event of the machine (docs/machine.md, "An event").
-ghost use Rattle.std.specs.Prelude.{◌≡◌, false, IfSome, IfOk, IfErr, Err};
+ghost use Rattle.std.specs.Prelude.{◌≡◌, IfSome, IfOk, IfErr, Err};
 ghost use Rattle.eh_bus.specs.Map.{SameMap};
 ghost use Rattle.eh_gates.specs.State.{State, state_of};
 ghost use Rattle.given_input.specs.Given.{OnGiven};
@@ -12,7 +12,7 @@ ghost use Rattle.eh_machine.specs.Follows.{FollowsOnce};
 
 use crate::accepted::{holds, tables};
 use crate::decode_cache::DecodeCache;
-use crate::pass::{Fetched, fast_path, fetch_checked, pass};
+use crate::pass::{Fetched, fast_path, fetch_checked, go_straight, pass};
 use eh_bus::bus::Bus;
 use eh_gates::{Core, Turned, gate};
 use eh_port::{Sink, Source};
@@ -27,13 +27,6 @@ use thumb_core::regs::Stepped;
 #[derive(Drop)]
 pub struct Shared<B> {
     pub bus: B,
-}
-
-/// How an event went, and whether it did a gate of the runtime.
-#[derive(Drop)]
-struct DoneTurn {
-    turned: Turned,
-    is_gate: bool,
 }
 
 /// One event of a run of an accepted image: its instruction is done, and its gate. A trap, an exit and a fault leave registers, globals and
@@ -64,12 +57,13 @@ pub fn turn<B: Bus, I: Source, O: Sink>(
 {
     holds(a);
     match fetch_checked(a, core, &shared.bus) {
-        Ok(at) => turn_at(a, &at, core, shared, events, input, out).turned,
+        Ok(at) => turn_at(a, &at, core, shared, events, input, out),
         Err(end) => Turned::Ended(end),
     }
 }
 
-/// The same by a decode cache, which is kept up, in a memory of which its confirmed lines tell: what was confirmed isn't fetched again.
+/// The same by a decode cache, which is kept up, in a memory of which its confirmed lines tell: what was confirmed isn't fetched again. No event
+/// changes what segments are, so what was confirmed stays so.
 #[inline(always)]
 pub(crate) fn turn_confirmed<B: Bus, I: Source, O: Sink>(
     a: &Accepted,
@@ -97,9 +91,7 @@ pub(crate) fn turn_confirmed<B: Bus, I: Source, O: Sink>(
     let Some(at) = cache.find_confirmed(core.regs.pc) else {
         return turn_unconfirmed(a, cache, core, shared, events, input, out);
     };
-    let turn = turn_at(a, at, core, shared, events, input, out);
-    cache.go_on(turn.is_gate);
-    turn.turned
+    turn_at(a, at, core, shared, events, input, out)
 }
 
 /// What stands at pc, which isn't confirmed: as its line has it, where the memory still gives it, and else fetched.
@@ -150,12 +142,10 @@ fn turn_unconfirmed<B: Bus, I: Source, O: Sink>(
         Err(end) => return Turned::Ended(end),
     };
     cache.keep(core.regs.pc, at, &mut shared.bus);
-    let turn = turn_at(a, &at, core, shared, events, input, out);
-    cache.go_on(turn.is_gate);
-    turn.turned
+    turn_at(a, &at, core, shared, events, input, out)
 }
 
-/// The event of the instruction `at` pc. Most take the fast path, by tests that are told before they are done; the others are done first.
+/// The event of the instruction `at` pc. Most go straight on, and are not to pay for what the others are asked.
 #[inline(always)]
 fn turn_at<B: Bus, I: Source, O: Sink>(
     a: &Accepted,
@@ -165,26 +155,51 @@ fn turn_at<B: Bus, I: Source, O: Sink>(
     events: &mut Events,
     input: &mut I,
     out: &mut O,
-) -> DoneTurn
+) -> Turned
     requires { IsFetched (program_of a.now) core.old.regs.pc (B.memory shared.old.bus) at.now }
     ensures told { IfSome (I.left input.old) (λ bytes.
         let old : State = state_of core.old (B.memory shared.old.bus) events.old in
         let new : State = state_of core.new (B.memory shared.new.bus) events.new in
-        TurnedOnce (program_of a.now) old bytes result.turned new (I.left input.new) (O.written out.old) (O.written out.new)) }
+        TurnedOnce (program_of a.now) old bytes result new (I.left input.new) (O.written out.old) (O.written out.new)) }
     ensures given { OnGiven (λ bytes left.
         let old : State = state_of core.old (B.memory shared.old.bus) events.old in
         let new : State = state_of core.new (B.memory shared.new.bus) events.new in
-        TurnedOnce (program_of a.now) old bytes result.turned new left (O.written out.old) (O.written out.new)) }
-    ensures faults { CountsFaults (λ end. result.turned ≡ Turned.Ended end) (I.faults input.old) (I.faults input.new) (O.faults out.old) (O.faults out.new) }
-    ensures map { result.is_gate ≡ false → SameMap (B.memory shared.old.bus).segments (B.memory shared.new.bus).segments }
+        TurnedOnce (program_of a.now) old bytes result new left (O.written out.old) (O.written out.new)) }
+    ensures faults { CountsFaults (λ end. result ≡ Turned.Ended end) (I.faults input.old) (I.faults input.new) (O.faults out.old) (O.faults out.new) }
+    ensures map { SameMap (B.memory shared.old.bus).segments (B.memory shared.new.bus).segments }
+{
+    if go_straight(at, core, &mut shared.bus) {
+        return Turned::Went;
+    }
+    turn_by_way(a, at, core, shared, events, input, out)
+}
+
+/// The event of the instruction `at` pc. Most take the fast path, by tests that are told before they are done; the others are done first.
+#[inline(always)]
+fn turn_by_way<B: Bus, I: Source, O: Sink>(
+    a: &Accepted,
+    at: &Fetched,
+    core: &mut Core,
+    shared: &mut Shared<B>,
+    events: &mut Events,
+    input: &mut I,
+    out: &mut O,
+) -> Turned
+    requires { IsFetched (program_of a.now) core.old.regs.pc (B.memory shared.old.bus) at.now }
+    ensures told { IfSome (I.left input.old) (λ bytes.
+        let old : State = state_of core.old (B.memory shared.old.bus) events.old in
+        let new : State = state_of core.new (B.memory shared.new.bus) events.new in
+        TurnedOnce (program_of a.now) old bytes result new (I.left input.new) (O.written out.old) (O.written out.new)) }
+    ensures given { OnGiven (λ bytes left.
+        let old : State = state_of core.old (B.memory shared.old.bus) events.old in
+        let new : State = state_of core.new (B.memory shared.new.bus) events.new in
+        TurnedOnce (program_of a.now) old bytes result new left (O.written out.old) (O.written out.new)) }
+    ensures faults { CountsFaults (λ end. result ≡ Turned.Ended end) (I.faults input.old) (I.faults input.new) (O.faults out.old) (O.faults out.new) }
+    ensures map { SameMap (B.memory shared.old.bus).segments (B.memory shared.new.bus).segments }
 {
     let ahead = look_ahead(at.instr, &core.regs);
-    // most instructions, and they are not to pay for what the others go on to
     if fast_path(at, ahead, core, &mut shared.bus) {
-        return DoneTurn {
-            turned: Turned::Went,
-            is_gate: false,
-        };
+        return Turned::Went;
     }
     slow_path(a, at, ahead, core, shared, events, input, out)
 }
@@ -200,50 +215,35 @@ fn slow_path<B: Bus, I: Source, O: Sink>(
     events: &mut Events,
     input: &mut I,
     out: &mut O,
-) -> DoneTurn
+) -> Turned
     requires fetched { IsFetched (program_of a.now) core.old.regs.pc (B.memory shared.old.bus) at.now }
     requires told { IsAhead at.now.instr core.old.regs ahead }
     ensures told { IfSome (I.left input.old) (λ bytes.
         let old : State = state_of core.old (B.memory shared.old.bus) events.old in
         let new : State = state_of core.new (B.memory shared.new.bus) events.new in
-        TurnedOnce (program_of a.now) old bytes result.turned new (I.left input.new) (O.written out.old) (O.written out.new)) }
+        TurnedOnce (program_of a.now) old bytes result new (I.left input.new) (O.written out.old) (O.written out.new)) }
     ensures given { OnGiven (λ bytes left.
         let old : State = state_of core.old (B.memory shared.old.bus) events.old in
         let new : State = state_of core.new (B.memory shared.new.bus) events.new in
-        TurnedOnce (program_of a.now) old bytes result.turned new left (O.written out.old) (O.written out.new)) }
-    ensures faults { CountsFaults (λ end. result.turned ≡ Turned.Ended end) (I.faults input.old) (I.faults input.new) (O.faults out.old) (O.faults out.new) }
-    ensures map { result.is_gate ≡ false → SameMap (B.memory shared.old.bus).segments (B.memory shared.new.bus).segments }
+        TurnedOnce (program_of a.now) old bytes result new left (O.written out.old) (O.written out.new)) }
+    ensures faults { CountsFaults (λ end. result ≡ Turned.Ended end) (I.faults input.old) (I.faults input.new) (O.faults out.old) (O.faults out.new) }
+    ensures map { SameMap (B.memory shared.old.bus).segments (B.memory shared.new.bus).segments }
 {
     let pc = core.regs.pc;
     let what = match pass(a, at, ahead, core, &mut shared.bus) {
         Ok(what) => what,
-        Err(end) => return DoneTurn {
-            turned: Turned::Ended(end),
-            is_gate: false,
-        },
+        Err(end) => return Turned::Ended(end),
     };
     let Stepped::Gate(number) = what else {
-        return DoneTurn {
-            turned: Turned::Went,
-            is_gate: false,
-        };
+        return Turned::Went;
     };
     if number > INPUT_GATE {
         let next = core.regs.pc;
         core.regs.pc = pc;
-        return DoneTurn {
-            turned: gate(&tables(a), number, next, core, &mut shared.bus, events),
-            is_gate: true,
-        };
+        return gate(&tables(a), number, next, core, &mut shared.bus, events);
     }
     match given_input::gate(number, pc, &mut core.regs, input, out) {
-        None => DoneTurn {
-            turned: Turned::Went,
-            is_gate: false,
-        },
-        Some(end) => DoneTurn {
-            turned: Turned::Ended(end),
-            is_gate: false,
-        },
+        None => Turned::Went,
+        Some(end) => Turned::Ended(end),
     }
 }

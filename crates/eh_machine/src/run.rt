@@ -51,7 +51,9 @@ impl<'a, B: Bus> Machine<'a, B> {
         let accepted = self.accepted;
         holds(accepted);
         let mut cache = DecodeCache::new();
-        while self.left > 0 {
+        // counted here, so that an event needn't write it to where the machine stands
+        let mut left = self.left;
+        while left > 0 {
             match turn_confirmed(
                 accepted,
                 &mut cache,
@@ -61,13 +63,14 @@ impl<'a, B: Bus> Machine<'a, B> {
                 input,
                 out,
             ) {
-                Turned::Went => self.left -= 1,
+                Turned::Went => left -= 1,
                 Turned::Ended(end) => {
-                    self.left -= 1;
+                    self.left = left - 1;
                     return end;
                 }
             }
         }
+        self.left = left;
         End::Budget
     }
 

@@ -4,6 +4,7 @@ use Rattle.guest_gates.specs.declared.gates.TheConstants.{INPUT_GATE}
 use Rattle.eh_gates.specs.State.{State, state_of}
 use Rattle.machines_agree.specs.two_machines.Checked.{program_of}
 use Rattle.eh_machine.proofs.Events.{end_turned, plain_turned, gate_told, plain_gate_told, given_end, given_plain, given_gate_told, given_gate, as_gate, ok_gate, fault_free, fault_free_went}
+use Rattle.eh_bus.proofs.MapLaws.{map_trans}
 use Rattle.eh_machine.proofs.Confirmed.{passes_map}
 use Rattle.eh_machine.proofs.event.slow_path.Goals as goal
 
@@ -104,13 +105,16 @@ returns-in-Some-clause-given g c =
 -- ---- the map
 
 pub returns-in-Err-clause-map : goal.returns-in-Err-clause-map
-returns-in-Err-clause-map g c = λ e. passes_map (program_of c.args.a.now) _ _ _ _ _ c.in-Err.ensures.passes
+returns-in-Err-clause-map g c = passes_map (program_of c.args.a.now) _ _ _ _ _ c.in-Err.ensures.passes
 
 pub returns-in_default-clause-map : goal.returns-in_default-clause-map
-returns-in_default-clause-map g c = λ e. passes_map (program_of c.args.a.now) _ _ _ _ _ c.in-Ok.ensures.passes
+returns-in_default-clause-map g c = passes_map (program_of c.args.a.now) _ _ _ _ _ c.in-Ok.ensures.passes
 
 pub returns-in-None-clause-map : goal.returns-in-None-clause-map
-returns-in-None-clause-map g c = λ e. passes_map (program_of c.args.a.now) _ _ _ _ _ c.in-Ok.ensures.passes
+returns-in-None-clause-map g c = passes_map (program_of c.args.a.now) _ _ _ _ _ c.in-Ok.ensures.passes
 
 pub returns-in-Some-clause-map : goal.returns-in-Some-clause-map
-returns-in-Some-clause-map g c = λ e. passes_map (program_of c.args.a.now) _ _ _ _ _ c.in-Ok.ensures.passes
+returns-in-Some-clause-map g c = passes_map (program_of c.args.a.now) _ _ _ _ _ c.in-Ok.ensures.passes
+
+pub returns-then-number-gt-INPUT_GATE-clause-map : goal.returns-then-number-gt-INPUT_GATE-clause-map
+returns-then-number-gt-INPUT_GATE-clause-map g c = map_trans _ _ _ (passes_map (program_of c.args.a.now) _ _ _ _ _ c.in-Ok.ensures.passes) c.gate.ensures.map

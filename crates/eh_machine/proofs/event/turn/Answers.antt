@@ -38,4 +38,4 @@ returns-in-Ok-clause-recorded g c =
     let old : State = state_of c.args.core.now (g.B.Bus.memory c.args.shared.now.bus) c.args.events.now in
     let new : State = state_of c.turn_at.new.core (g.B.Bus.memory c.turn_at.new.shared.bus) c.turn_at.new.events in
     follows_once (g.I.Source.left c.args.input.now) (g.I.Source.left c.turn_at.new.input) (g.O.Sink.written c.args.out.now) (g.O.Sink.written c.turn_at.new.out)
-    c.args.a.now old new c.turn_at.result.turned c.holds.ensures.image c.holds.ensures.sound c.turn_at.ensures.told
+    c.args.a.now old new c.turn_at.result c.holds.ensures.image c.holds.ensures.sound c.turn_at.ensures.told

@@ -1,3 +1,7 @@
+use Rattle.std.proofs.Common.{sym, subst}
+use Rattle.eh_bus.specs.Memory.{Memory}
+use Rattle.eh_machine.specs.Cached.{IsConfirmed}
+use Rattle.eh_machine.proofs.Confirmed.{stays}
 use Rattle.eh_gates.specs.State.{State, state_of}
 use Rattle.machines_agree.specs.two_machines.Checked.{program_of}
 use Rattle.eh_machine.proofs.Events.{end_turned, given_end, fault_free_end}
@@ -19,3 +23,7 @@ returns-in-Err-clause-given g c =
 
 pub returns-in-Err-clause-faults : goal.returns-in-Err-clause-faults
 returns-in-Err-clause-faults g c = fault_free_end c.in-Err.end _ _ c.in-Err.ensures.ends.inside
+
+pub returns-clause-confirmed : goal.returns-clause-confirmed
+returns-clause-confirmed g c =
+    stays _ _ _ c.turn_at.ensures.map (subst (λ (m : Memory). IsConfirmed m c.keep.new.self) (sym c.keep.ensures.same) (c.keep.ensures.confirmed c.requires.confirmed))

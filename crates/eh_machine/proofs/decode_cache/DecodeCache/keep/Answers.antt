@@ -1,3 +1,4 @@
+use Rattle.std.proofs.Common.{refl}
 use Rattle.eh_machine.proofs.Cached.{is_of_line}
 use Rattle.eh_machine.proofs.decode_cache.DecodeCache.keep.Goals as goal
 
@@ -9,5 +10,6 @@ pub returns-clause-confirmed : goal.returns-clause-confirmed
 returns-clause-confirmed g c = λ is.
     c.put.ensures.confirmed (g.B.Bus.memory c.args.bus.now) is (record {
       within = c.round_of-confirmed.ensures.within is.begun;
+      kept = λ e. refl;
       stands = λ e. c.stand_fast-is_fast.ensures.fast (c.round_of-confirmed.ensures.fast is.begun e) c.in-Some.ensures;
     })

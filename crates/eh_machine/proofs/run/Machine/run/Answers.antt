@@ -11,8 +11,8 @@ use Rattle.thumb_core.specs.declared.ends.End.{End}
 use Rattle.thumb_core.specs.declared.ends.End.TheVariants.{Budget}
 use Rattle.eh_machine.proofs.run.Machine.run.Goals as goal
 
-pub loop-self-init : goal.loop-self-init
-loop-self-init g c = record {
+pub loop-left-init : goal.loop-left-init
+loop-left-init g c = record {
   progress = starts State End (machine_of (program_of c.args.self.now.accepted.now)) _ _ _ _;
   given = given_starts State End (machine_of (program_of c.args.self.now.accepted.now)) _ _ _;
   input_kept = refl;
@@ -22,15 +22,15 @@ loop-self-init g c = record {
   confirmed = c.new-cache.ensures.confirmed (g.B.Bus.memory c.args.self.now.shared.bus);
 }
 
-pub loop-self-preserved : goal.loop-self-preserved
-loop-self-preserved g c = record {
+pub loop-left-preserved : goal.loop-left-preserved
+loop-left-preserved g c = record {
   progress = run_goes_on (program_of c.args.self.now.accepted.now)
-      _ _ _ _ _ _ _ _ _ _ _ (omega arith) c.loop-self.invariant.progress c.in-Went.ensures.told;
+      _ _ _ _ _ _ _ _ _ _ _ (omega arith) c.loop-left.invariant.progress c.in-Went.ensures.told;
   given = given_goes_on State End (machine_of (program_of c.args.self.now.accepted.now))
-      _ _ _ _ _ _ _ _ (omega arith) c.loop-self.invariant.given c.in-Went.ensures.given;
-  input_kept = c.in-Went.ensures.faults.input.kept (λ e. cc) ∙ c.loop-self.invariant.input_kept;
-  out_kept = c.in-Went.ensures.faults.out.kept (λ e. cc) ∙ c.loop-self.invariant.out_kept;
-  same = c.loop-self.invariant.same;
+      _ _ _ _ _ _ _ _ (omega arith) c.loop-left.invariant.given c.in-Went.ensures.given;
+  input_kept = c.in-Went.ensures.faults.input.kept (λ e. cc) ∙ c.loop-left.invariant.input_kept;
+  out_kept = c.in-Went.ensures.faults.out.kept (λ e. cc) ∙ c.loop-left.invariant.out_kept;
+  same = c.loop-left.invariant.same;
   cache = c.in-Went.ensures.cache;
   confirmed = c.in-Went.ensures.confirmed;
 }
@@ -38,29 +38,29 @@ loop-self-preserved g c = record {
 pub returns-in-Ended-clause-told : goal.returns-in-Ended-clause-told
 returns-in-Ended-clause-told g c =
     run_ends (program_of c.args.self.now.accepted.now)
-    _ _ _ _ _ _ _ _ _ _ _ c.in-Ended.end (omega arith) c.loop-self.invariant.progress c.in-Ended.ensures.told
+    _ _ _ _ _ _ _ _ _ _ _ c.in-Ended.end (omega arith) c.loop-left.invariant.progress c.in-Ended.ensures.told
 
 pub returns-in-Ended-clause-faults : goal.returns-in-Ended-clause-faults
-returns-in-Ended-clause-faults g c = ended_counts c.in-Ended.end _ _ _ _ _ _ c.loop-self.invariant.input_kept c.loop-self.invariant.out_kept c.in-Ended.ensures.faults
+returns-in-Ended-clause-faults g c = ended_counts c.in-Ended.end _ _ _ _ _ _ c.loop-left.invariant.input_kept c.loop-left.invariant.out_kept c.in-Ended.ensures.faults
 
 pub returns-in-Ended-clause-given : goal.returns-in-Ended-clause-given
 returns-in-Ended-clause-given g c =
     given_ends State End (machine_of (program_of c.args.self.now.accepted.now))
-    _ _ _ _ _ _ _ _ c.in-Ended.end (omega arith) c.loop-self.invariant.given c.in-Ended.ensures.given
+    _ _ _ _ _ _ _ _ c.in-Ended.end (omega arith) c.loop-left.invariant.given c.in-Ended.ensures.given
 
 pub returns-in-Ended-clause-recorded : goal.returns-in-Ended-clause-recorded
 returns-in-Ended-clause-recorded g c =
     follows_run _ _ _ _ c.args.self.now.accepted.now c.args.self.now.left _ _ c.in-Ended.end _ c.holds.ensures.image c.holds.ensures.sound
     (run_ends (program_of c.args.self.now.accepted.now)
-    _ _ _ _ _ _ _ _ _ _ _ c.in-Ended.end (omega arith) c.loop-self.invariant.progress c.in-Ended.ensures.told)
+    _ _ _ _ _ _ _ _ _ _ _ c.in-Ended.end (omega arith) c.loop-left.invariant.progress c.in-Ended.ensures.told)
 
 pub returns-clause-told : goal.returns-clause-told
-returns-clause-told g c = run_spent (program_of c.args.self.now.accepted.now) _ _ _ _ _ _ _ _ (omega arith) c.loop-self.invariant.progress
+returns-clause-told g c = run_spent (program_of c.args.self.now.accepted.now) _ _ _ _ _ _ _ _ (omega arith) c.loop-left.invariant.progress
 
 pub returns-clause-given : goal.returns-clause-given
-returns-clause-given g c = given_spent State End (machine_of (program_of c.args.self.now.accepted.now)) _ _ _ _ _ _ (omega arith) c.loop-self.invariant.given
+returns-clause-given g c = given_spent State End (machine_of (program_of c.args.self.now.accepted.now)) _ _ _ _ _ _ (omega arith) c.loop-left.invariant.given
 
 pub returns-clause-recorded : goal.returns-clause-recorded
 returns-clause-recorded g c =
     follows_run _ _ _ _ c.args.self.now.accepted.now c.args.self.now.left _ _ Budget _ c.holds.ensures.image c.holds.ensures.sound
-    (run_spent (program_of c.args.self.now.accepted.now) _ _ _ _ _ _ _ _ (omega arith) c.loop-self.invariant.progress)
+    (run_spent (program_of c.args.self.now.accepted.now) _ _ _ _ _ _ _ _ (omega arith) c.loop-left.invariant.progress)
