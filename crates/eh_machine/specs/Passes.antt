@@ -10,7 +10,7 @@ use Rattle.thumb_core.specs.declared.regs.Regs.{Regs}
 use Rattle.thumb_core.specs.declared.regs.Stepped.{Stepped}
 use Rattle.thumb_core.specs.declared.regs.Stepped.TheVariants.{Done, Gate}
 use Rattle.thumb_core.specs.declared.ends.End.{End}
-use Rattle.step_ahead.specs.Ahead.{branches, pushed, IsFallThrough}
+use Rattle.step_ahead.specs.Ahead.{branches, pushed}
 use Rattle.eh_trace.specs.Trace.{Trace}
 use Rattle.eh_gates.specs.declared.state.Core.{Core}
 use Rattle.eh_gates.specs.State.{state_of}
@@ -23,18 +23,12 @@ use Rattle.machines_agree.specs.two_machines.Machine.{Passed, passed, with_pc_of
 abbrev pub at_of : Fetched → Instr × ℕ
 at_of at = (at.instr, at.size)
 
--- it goes on to the next instruction of its function and leaves sp, unless it traps
-pub record IsStraight (at : Fetched) : Type 0 where
-  pub falls : (regs : Regs) → IsFallThrough at.instr regs 0
-  pub ends : at.is_last ≡ false
-
 -- by the checker: it was reached, whether it is a lowering place, whether a function begins after it, and which words that it pushes are saves
 pub record HasRoles (p : Program) (a : ℕ) (at : Fetched) : Type 0 where
   pub reached : (p.look a).is_instr ≡ true
   pub lowers : at.lowers ≡ (p.look a).lowers
   pub last : at.is_last ≡ (p.look (even ((a + at.size) % 2 ^ 32))).is_function
   pub saves : at.saves ≡ (p.look a).saves
-  pub straight : at.is_straight ≡ true → IsStraight at
 
 -- it stands there by the rows of the program's profile, with fields that an instruction has
 pub record IsFetched (p : Program) (a : ℕ) (m : Memory) (at : Fetched) : Type 0 where

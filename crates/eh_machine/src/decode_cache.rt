@@ -68,7 +68,6 @@ fn empty_line() -> CacheLine
             size: 2,
             lowers: false,
             is_last: false,
-            is_straight: false,
             saves: 0,
         },
         confirmed: NO_ROUND,

@@ -12,7 +12,7 @@ ghost use Rattle.eh_machine.specs.Follows.{FollowsOnce};
 
 use crate::accepted::{holds, tables};
 use crate::decode_cache::DecodeCache;
-use crate::pass::{Fetched, fast_path, fetch_checked, go_straight, pass};
+use crate::pass::{Fetched, fast_path, fetch_checked, pass};
 use eh_bus::bus::Bus;
 use eh_gates::{Core, Turned, gate};
 use eh_port::{Sink, Source};
@@ -145,7 +145,7 @@ fn turn_unconfirmed<B: Bus, I: Source, O: Sink>(
     turn_at(a, &at, core, shared, events, input, out)
 }
 
-/// The event of the instruction `at` pc. Most go straight on, and are not to pay for what the others are asked.
+/// The event of the instruction `at` pc. Most take the fast path, by tests that are told before they are done; the others are done first.
 #[inline(always)]
 fn turn_at<B: Bus, I: Source, O: Sink>(
     a: &Accepted,
@@ -168,36 +168,8 @@ fn turn_at<B: Bus, I: Source, O: Sink>(
     ensures faults { CountsFaults (λ end. result ≡ Turned.Ended end) (I.faults input.old) (I.faults input.new) (O.faults out.old) (O.faults out.new) }
     ensures map { SameMap (B.memory shared.old.bus).segments (B.memory shared.new.bus).segments }
 {
-    if go_straight(at, core, &mut shared.bus) {
-        return Turned::Went;
-    }
-    turn_by_way(a, at, core, shared, events, input, out)
-}
-
-/// The event of the instruction `at` pc. Most take the fast path, by tests that are told before they are done; the others are done first.
-#[inline(always)]
-fn turn_by_way<B: Bus, I: Source, O: Sink>(
-    a: &Accepted,
-    at: &Fetched,
-    core: &mut Core,
-    shared: &mut Shared<B>,
-    events: &mut Events,
-    input: &mut I,
-    out: &mut O,
-) -> Turned
-    requires { IsFetched (program_of a.now) core.old.regs.pc (B.memory shared.old.bus) at.now }
-    ensures told { IfSome (I.left input.old) (λ bytes.
-        let old : State = state_of core.old (B.memory shared.old.bus) events.old in
-        let new : State = state_of core.new (B.memory shared.new.bus) events.new in
-        TurnedOnce (program_of a.now) old bytes result new (I.left input.new) (O.written out.old) (O.written out.new)) }
-    ensures given { OnGiven (λ bytes left.
-        let old : State = state_of core.old (B.memory shared.old.bus) events.old in
-        let new : State = state_of core.new (B.memory shared.new.bus) events.new in
-        TurnedOnce (program_of a.now) old bytes result new left (O.written out.old) (O.written out.new)) }
-    ensures faults { CountsFaults (λ end. result ≡ Turned.Ended end) (I.faults input.old) (I.faults input.new) (O.faults out.old) (O.faults out.new) }
-    ensures map { SameMap (B.memory shared.old.bus).segments (B.memory shared.new.bus).segments }
-{
     let ahead = look_ahead(at.instr, &core.regs);
+    // most instructions, and they are not to pay for what the others go on to
     if fast_path(at, ahead, core, &mut shared.bus) {
         return Turned::Went;
     }

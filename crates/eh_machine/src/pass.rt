@@ -1,6 +1,6 @@
 //! One instruction up to its gate: it is checked, fetched once, done and tested, and its guards are set (docs/machine.md, "An event"). Most are
 //! tested before they are done (`fast_path`), the others after (`pass`).
-ghost use Rattle.std.specs.Prelude.{◌≡◌, ◌+◌, ◌%◌, ◌^◌, true, false, IfOk, IfErr};
+ghost use Rattle.std.specs.Prelude.{◌≡◌, ◌+◌, ◌%◌, ◌^◌, IfOk, IfErr};
 ghost use Rattle.thumb_isa.specs.Range.{InRange};
 ghost use Rattle.thumb_isa.specs.declared.instr.Instr.{Instr};
 ghost use Rattle.thumb_core.specs.Registers.{even};
@@ -9,7 +9,7 @@ ghost use Rattle.step_ahead.specs.Ahead.{IsAhead, IsFallThrough, IsJump};
 ghost use Rattle.step_ahead.specs.UndoRecord.{Restores};
 ghost use Rattle.machines_agree.specs.two_machines.Checked.{program_of};
 ghost use Rattle.machines_agree.specs.two_machines.Program.{Program, profile_in};
-ghost use Rattle.eh_machine.specs.Passes.{IsFetched, IsStraight, Passes, Tells, Tried};
+ghost use Rattle.eh_machine.specs.Passes.{IsFetched, Passes, Tells, Tried};
 
 use crate::guards::{guard_pushed, reguard};
 use crate::tests_of::{has_room, refusal};
@@ -23,7 +23,6 @@ use thumb_core::ends::{End, TrapKind};
 use thumb_core::regs::{SP, Stepped, are_words};
 use thumb_core::step::{execute, fetch_for};
 use thumb_isa::instr::Instr;
-use thumb_isa::plain;
 
 /// The instruction at an address, its size in bytes, and what the checker says there.
 #[derive(Clone, Copy)]
@@ -34,8 +33,6 @@ pub(crate) struct Fetched {
     pub(crate) lowers: bool,
     /// Whether a function begins after it.
     pub(crate) is_last: bool,
-    /// Whether it goes on to the next instruction of its function and leaves sp, unless it traps. Of a branch that may be taken it says no.
-    pub(crate) is_straight: bool,
     /// Which of the words that it pushes are saves: bit k stands for word k.
     pub(crate) saves: u16,
 }
@@ -46,38 +43,6 @@ fn begins_after(a: &Accepted, address: u32, size: u32) -> bool
 {
     let next = address.wrapping_add(size);
     a.is_function(next - next % 2)
-}
-
-/// Whether an instruction goes on to the next one and leaves sp, unless it traps, whatever the registers are.
-fn is_plain(i: Instr) -> bool
-    ensures { (regs : Regs) → result ≡ true → IsFallThrough i regs 0 }
-{
-    match i {
-        plain!() | Instr::Stm { .. } => true,
-        Instr::AddHigh { .. }
-        | Instr::MovHigh { .. }
-        | Instr::AddSp { .. }
-        | Instr::SubSp { .. }
-        | Instr::Push { .. }
-        | Instr::Pop { .. }
-        | Instr::Ldm { .. }
-        | Instr::B { .. }
-        | Instr::BWide { .. }
-        | Instr::BCond { .. }
-        | Instr::Cbz { .. }
-        | Instr::Bx { .. }
-        | Instr::Blx { .. }
-        | Instr::Bl { .. }
-        | Instr::Svc { .. } => false,
-    }
-}
-
-/// The same of one that isn't the last of its function.
-fn is_straight(i: Instr, is_last: bool) -> bool
-    ensures falls { (regs : Regs) → result ≡ true → IsFallThrough i regs 0 }
-    ensures ends { result ≡ true → is_last ≡ false }
-{
-    !is_last && is_plain(i)
 }
 
 /// The instruction at pc by the rows of the image's profile, where the checker reached it; or the end by what stands there, which is no fault of the outside.
@@ -92,36 +57,18 @@ pub(crate) fn fetch_checked<B: Bus>(a: &Accepted, core: &Core, bus: &B) -> Resul
         return Err(End::Trap(TrapKind::FellOff, pc, pc));
     }
     match fetch_for(a.profile(), &core.regs, bus) {
-        Ok(at) => {
-            let is_last = begins_after(a, pc, at.1);
-            Ok(Fetched {
-                instr: at.0,
-                size: at.1,
-                lowers: a.lowers_at(pc),
-                is_last,
-                is_straight: is_straight(at.0, is_last),
-                saves: a.saves_at(pc),
-            })
-        }
+        Ok(at) => Ok(Fetched {
+            instr: at.0,
+            size: at.1,
+            lowers: a.lowers_at(pc),
+            is_last: begins_after(a, pc, at.1),
+            saves: a.saves_at(pc),
+        }),
         Err(trap) => Err(trap_end(trap, pc)),
     }
 }
 
 // ---- most instructions
-
-/// Does the instruction `at` pc where it was told at its fetch that it goes straight on, where sp stands in the running stack, and where it doesn't
-/// trap. Else nothing is changed. It is asked one flag in place of a look at the instruction.
-#[inline(always)]
-pub(crate) fn go_straight<B: Bus>(at: &Fetched, core: &mut Core, bus: &mut B) -> bool
-    requires range { InRange at.now.instr }
-    requires straight { at.now.is_straight ≡ true → IsStraight at.now }
-    ensures { (p : Program) → IsFetched p core.old.regs.pc (B.memory bus.old) at.now → Tried p core.old (B.memory bus.old) result core.new (B.memory bus.new) }
-{
-    if !at.is_straight {
-        return false;
-    }
-    go_on(at, 0, core, bus)
-}
 
 /// Does the instruction `at` pc where it is told to fall through or to take a branch, where its tests, told beforehand too, let it pass, and
 /// where it doesn't trap. So there is nothing to keep. Else nothing is changed.
@@ -146,22 +93,11 @@ fn fall_through<B: Bus>(at: &Fetched, pushes: u32, core: &mut Core, bus: &mut B)
     requires told { IsFallThrough at.now.instr core.old.regs pushes }
     ensures { (p : Program) → IsFetched p core.old.regs.pc (B.memory bus.old) at.now → Tried p core.old (B.memory bus.old) result core.new (B.memory bus.new) }
 {
+    let (low, _) = bus.home();
+    are_words(&core.regs.r);
     if at.is_last {
         return false;
     }
-    go_on(at, pushes, core, bus)
-}
-
-/// The same of one after which no function begins.
-#[inline(always)]
-fn go_on<B: Bus>(at: &Fetched, pushes: u32, core: &mut Core, bus: &mut B) -> bool
-    requires range { InRange at.now.instr }
-    requires told { IsFallThrough at.now.instr core.old.regs pushes }
-    requires onward { at.now.is_last ≡ false }
-    ensures { (p : Program) → IsFetched p core.old.regs.pc (B.memory bus.old) at.now → Tried p core.old (B.memory bus.old) result core.new (B.memory bus.new) }
-{
-    let (low, _) = bus.home();
-    are_words(&core.regs.r);
     if !has_room(core.regs.r[SP as usize], pushes, low) {
         return false;
     }

@@ -26,8 +26,7 @@ returns-in-Ok-clause-fetched g c = record {
   roles = record {
     reached = sym c.is_instr-known.ensures.role ∙ c.if-not-known.false;
     lowers = c.lowers_at.ensures.role;
-    last = c.begins_after-is_last.ensures;
+    last = c.begins_after.ensures;
     saves = c.saves_at.ensures.role;
-    straight = λ e. record { falls = λ regs. c.is_straight.ensures.falls regs e; ends = c.is_straight.ensures.ends e };
   };
 }
