@@ -6,6 +6,7 @@ pub mod Search
 pub mod Ascending
 pub mod Names
 pub mod Lookups
+pub mod CodeRuns
 pub mod Ended
 pub mod Reading
 pub mod Building

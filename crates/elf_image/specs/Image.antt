@@ -1,5 +1,5 @@
 -- What the bytes of an ELF file stand for.
-use Rattle.std.specs.Prelude.{◌≡◌, ◌≢◌, ◌⊎◌, true, false, All, Contains, ℕ, ◌+◌, ◌-◌, ◌%◌, ◌==◌, not, ◌&&◌, ◌||◌, ◌≤◌, nat_le, nat_lt, nat_eq, Bool, List, [], ◌∷◌, length, map, filter, find, drop, sum_by, Option, Some, None, option_map, Result, Ok, Err, codes}
+use Rattle.std.specs.Prelude.{◌≡◌, ◌≢◌, ◌⊎◌, true, false, All, Contains, ℕ, ◌+◌, ◌-◌, ◌%◌, ◌==◌, not, ◌&&◌, ◌||◌, ◌≤◌, nat_le, nat_lt, nat_eq, Bool, List, [], ◌∷◌, length, map, filter, find, drop, sum_by, Option, Some, None, option_map, Result, Ok, Err, codes, min, if◌then◌else◌}
 use Rattle.std.specs.List.{list_any, starts_with, position_from}
 use Rattle.std.specs.List.Sorted.{IsStrictlySortedBy}
 use Rattle.std.specs.Ordering.{nat_cmp}
@@ -12,7 +12,7 @@ use Rattle.elf_image.specs.Segments.{Segment, holds, segment_end, is_load, segme
 use Rattle.elf_image.specs.Index.{is_index, index_refusal, index_of}
 use Rattle.elf_image.specs.Symbols.{Symbol, tables_of, tables_refusal, symbol_count, symbols_of}
 use Rattle.elf_image.specs.Functions.{Function, segment_at, function_of_symbol, functions_of, is_inside, FunctionsFrom}
-use Rattle.elf_image.specs.Marks.{marks_of, marked}
+use Rattle.elf_image.specs.Marks.{marks_of, marked, next_mark}
 use Rattle.elf_image.specs.declared.limits.TheConstants.{MEMORY_LIMIT, SEGMENT_LIMIT, SYMBOL_LIMIT, FUNCTION_LIMIT}
 use Rattle.elf_image.specs.declared.symbol.TheConstants.{SHN_UNDEF}
 use Rattle.elf_image.specs.declared.fault.ImageFault.{ImageFault}
@@ -190,6 +190,15 @@ function_at image a = position_from (is_inside a) 0 image.functions
 -- an even address in a segment that may be executed, where the last mark at or below it is code
 abbrev pub is_code_in : Image → ℕ → Bool
 is_code_in image a = a % 2 == 0 && list_any (λ s. holds a s && s.exec) image.segments && marked image.marks a
+
+abbrev pub run_end : List (ℕ × Bool) → ℕ → Option Segment → ℕ
+run_end marks a None = a
+run_end marks a (Some s) = min (segment_end s) (next_mark marks a (segment_end s))
+
+-- where code that is no longer told by one segment and one mark begins: the end of the address's segment, or the next mark where that
+-- comes first; of an address that isn't code itself
+abbrev pub code_end : Image → ℕ → ℕ
+code_end image a = if is_code_in image a then run_end image.marks a (segment_at image.segments a) else a
 
 -- the address of the first defined symbol of a name
 abbrev pub symbol_in : Image → List ℕ → Option ℕ

@@ -1,5 +1,5 @@
 -- Mapping symbols ("ELF for the Arm Architecture"): where code and where data begin.
-use Rattle.std.specs.Prelude.{ℕ, ◌==◌, ◌&&◌, ◌||◌, nat_le, Bool, true, if◌then◌else◌, List, [], length, fold, slice_index}
+use Rattle.std.specs.Prelude.{ℕ, ◌==◌, ◌&&◌, ◌||◌, nat_le, nat_lt, Bool, true, if◌then◌else◌, List, [], length, fold, find, Option, Some, None, slice_index}
 use Rattle.std.specs.Ordering.{nat_cmp}
 use Rattle.std.specs.BTreeMap.{insert_entry}
 use Rattle.elf_image.specs.Symbols.{Symbol}
@@ -28,3 +28,11 @@ marks_of symbols = fold with_mark [] symbols
 -- what the last mark at or below an address says; below every mark it is code
 abbrev pub marked : List (ℕ × Bool) → ℕ → Bool
 marked marks a = fold (λ code mark. if nat_le mark.0 a then mark.1 else code) true marks
+
+abbrev pub mark_or : ℕ → Option (ℕ × Bool) → ℕ
+mark_or end None = end
+mark_or end (Some mark) = mark.0
+
+-- the address of the first mark above an address, or `end` where there is none
+abbrev pub next_mark : List (ℕ × Bool) → ℕ → ℕ → ℕ
+next_mark marks a end = mark_or end (find (λ mark. nat_lt a mark.0) marks)

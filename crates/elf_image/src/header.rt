@@ -1,11 +1,12 @@
 //! What is refused before any segment is looked at (docs/elf.md).
-ghost use Rattle.std.specs.Prelude.{◌≡◌, ◌+◌, ◌*◌, ◌≤◌, ◌==◌, ◌&&◌, length, slice_index, None};
+ghost use Rattle.std.specs.Prelude.{◌≡◌, ◌+◌, ◌*◌, ◌≤◌, ◌==◌, not, ◌&&◌, ◌||◌, length, slice_index, None};
+ghost use Rattle.elf_image.specs.declared.format.TheConstants.{PROGRAM_HEADER_SIZE, SECTION_HEADER_SIZE};
 ghost use Rattle.elf_image.specs.Header.{header_refusal, table_refusal};
 
 use crate::fault::ImageFault;
 use crate::format::{
-    EABI_VERSION, EM_ARM, ET_EXEC, FILE_HEADER_SIZE, PROGRAM_HEADER_SIZE, SECTION_HEADER_SIZE,
-    file_header, missing,
+    EABI_VERSION, EM_ARM, ET_EXEC, FILE_HEADER_SIZE, FileHeader, PROGRAM_HEADER_SIZE,
+    SECTION_HEADER_SIZE, file_header, missing,
 };
 
 /// Whether the bytes begin with the mark of an ELF file.
@@ -52,6 +53,14 @@ pub(crate) fn header_refusal(bytes: &[u8]) -> Option<ImageFault>
     None
 }
 
+/// Whether a table that has entries has some of another size.
+fn has_other_sizes(header: &FileHeader) -> bool
+    ensures { result ≡ ((not (header.now.program_count == 0) && not (header.now.program_size == PROGRAM_HEADER_SIZE)) || (not (header.now.section_count == 0) && not (header.now.section_size == SECTION_HEADER_SIZE))) }
+{
+    (header.program_count != 0 && u32::from(header.program_size) != PROGRAM_HEADER_SIZE)
+        || (header.section_count != 0 && u32::from(header.section_size) != SECTION_HEADER_SIZE)
+}
+
 /// What is refused of the tables of program and section headers.
 #[tactic(auto, unfolding(crate::specs::Header::table_refusal))]
 pub(crate) fn table_refusal(bytes: &[u8]) -> Option<ImageFault>
@@ -59,16 +68,13 @@ pub(crate) fn table_refusal(bytes: &[u8]) -> Option<ImageFault>
     ensures { result ≡ table_refusal bytes.now }
 {
     let header = file_header(bytes);
-    let (programs, sections) = (header.program_count, header.section_count);
-    if (programs != 0 && u32::from(header.program_size) != PROGRAM_HEADER_SIZE)
-        || (sections != 0 && u32::from(header.section_size) != SECTION_HEADER_SIZE)
-    {
+    if has_other_sizes(&header) {
         return Some(ImageFault::EntrySize);
     }
-    let size = u64::from(PROGRAM_HEADER_SIZE) * u64::from(programs);
+    let size = u64::from(PROGRAM_HEADER_SIZE) * u64::from(header.program_count);
     if let Some(fault) = missing(bytes, u64::from(header.program_offset), size) {
         return Some(fault);
     }
-    let size = u64::from(SECTION_HEADER_SIZE) * u64::from(sections);
+    let size = u64::from(SECTION_HEADER_SIZE) * u64::from(header.section_count);
     missing(bytes, u64::from(header.section_offset), size)
 }

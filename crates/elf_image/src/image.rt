@@ -1,14 +1,14 @@
 //! Images, as crates above see them: what each call tells (docs/elf.md).
-ghost use Rattle.std.specs.Prelude.{option_copied, ◌≡◌, ◌<◌, ◌≤◌, ◌&&◌, IfSome, if◌then◌else◌, length, find, Option, Some, None, option_map};
+ghost use Rattle.std.specs.Prelude.{option_copied, ◌≡◌, ℕ, ◌+◌, ◌*◌, ◌<◌, ◌≤◌, ◌&&◌, true, IfSome, if◌then◌else◌, length, find, Option, Some, None, option_map};
 ghost use Rattle.std.specs.List.{list_any};
 ghost use Rattle.elf_image.specs.Segments.{RiseFrom, holds};
 ghost use Rattle.elf_image.specs.Functions.{segment_at, FunctionsFrom};
-ghost use Rattle.elf_image.specs.Image.{segment_number, function_at, is_code_in, symbol_in, type_symbols_of, word_of, holds_word, word_in, IsSound};
+ghost use Rattle.elf_image.specs.Image.{segment_number, function_at, is_code_in, code_end, symbol_in, type_symbols_of, word_of, holds_word, word_in, IsSound};
 ghost use Rattle.eh_word.specs.Names.{same_bytes};
 
 use crate::function::{Function, function_number};
 use crate::holder::{segment_at, segment_number};
-use crate::mark::marked;
+use crate::mark::{marked, next_mark};
 use crate::named::Named;
 use crate::segment::Segment;
 use byteorder::{ByteOrder, LittleEndian};
@@ -147,6 +147,23 @@ impl<'a> Image<'a> {
         ensures { result ≡ is_code_in self.now a }
     {
         a % 2 == 0 && may_execute(&self.segments, a) && marked(&self.marks, a)
+    }
+
+    /// An address up to which every second one from `a` on is code, so that these need not be asked for one by one: the end of the segment
+    /// of `a`, or the next mapping symbol where that comes first; `a` itself where that isn't code.
+    #[tactic(auto, using(crate::proofs::CodeRuns::code_runs))]
+    pub fn code_end(&self, a: u32) -> u32
+        ensures is { result ≡ code_end self.now a }
+        ensures code { (k : ℕ) → a + 2 * k < result → is_code_in self.now (a + 2 * k) ≡ true }
+    {
+        if !self.is_code(a) {
+            return a;
+        }
+        let Some(segment) = segment_at(&self.segments, a) else {
+            return a;
+        };
+        let end = segment.start + segment.size;
+        next_mark(&self.marks, a, end).min(end)
     }
 
     /// The address of the first defined symbol of a name, with bit 0 clear for a function; None exactly where there is

@@ -3,7 +3,7 @@ ghost use Rattle.std.specs.Prelude.{◌≡◌, ◌≤◌, length, nat_le, IfOk};
 ghost use Rattle.std.specs.List.Sorted.{IsStrictlySortedBy};
 ghost use Rattle.std.specs.Ordering.{nat_cmp};
 ghost use Rattle.std.specs.Map.{keys_of};
-ghost use Rattle.elf_image.specs.Marks.{is_mark_name, is_mark, marks_of, marked};
+ghost use Rattle.elf_image.specs.Marks.{is_mark_name, is_mark, marks_of, marked, next_mark};
 ghost use Rattle.std.specs.List.{prefix_len};
 
 use crate::symbol::Symbol;
@@ -76,4 +76,18 @@ pub(crate) fn marked(marks: &[(u32, bool)], a: u32) -> bool
 {
     let count = marks_up_to(marks, a);
     if count == 0 { true } else { marks[count - 1].1 }
+}
+
+/// The address of the first mark above `a`, or `end` where there is none.
+#[tactic(auto, using(crate::proofs::CodeRuns::next_lookups))]
+pub(crate) fn next_mark(marks: &[(u32, bool)], a: u32, end: u32) -> u32
+    requires { IsStrictlySortedBy nat_cmp (keys_of marks.now) }
+    ensures { result ≡ next_mark marks.now a end }
+{
+    let count = marks_up_to(marks, a);
+    if count < marks.len() {
+        marks[count].0
+    } else {
+        end
+    }
 }

@@ -1,11 +1,13 @@
 //! What stands at the first places of a function, each read once. docs/flow-graphs.md, "Functions and places".
-ghost use Rattle.std.specs.Prelude.{◌≡◌, ◌+◌, ◌-◌, ◌/◌, ◌==◌, ◌&&◌, [], length, min, OnOk, if◌then◌else◌};
+ghost use Rattle.std.specs.Prelude.{◌≡◌, ℕ, true, ◌+◌, ◌-◌, ◌*◌, ◌^◌, ◌<◌, ◌/◌, ◌==◌, ◌&&◌, [], length, min, OnOk, if◌then◌else◌};
 ghost use Rattle.image_memory.specs.Profiles.{profile_of};
 ghost use Rattle.frame_graph.specs.declared.kept_places.TheConstants.{MOST_KEPT};
+ghost use Rattle.elf_image.specs.Image.{is_code_in};
 ghost use Rattle.frame_graph.specs.KeptPlaces.{ArePlaces};
+ghost use Rattle.frame_graph.specs.Places.{is_place, halfword_of};
 
 use crate::flow_graph::FlowGraph;
-use crate::places::{Standing, standing_by};
+use crate::places::{Fetched, Standing, halfword_at, standing_by};
 use eh_index::Index;
 use std::alloc::{AllocError, Global};
 use thumb_isa::profile::Profile;
@@ -89,9 +91,10 @@ impl<'s, 'i, 'a> FlowGraph<'s, 'i, 'a> {
         let count = self.end.saturating_sub(self.start).div_ceil(2);
         let kept = count.min(MOST_KEPT);
         let profile = self.profile();
-        let mut here = self.fetch(0);
+        let until = self.index.image().code_end(self.start);
+        let mut here = self.fetch_below(until, 0);
         for place in 0..kept {
-            let next = self.fetch(u64::from(place) + 1);
+            let next = self.fetch_below(until, u64::from(place) + 1);
             places.push(KeptPlace {
                 code: here.code,
                 standing: standing_by(profile, here.halfword, next.halfword),
@@ -99,5 +102,24 @@ impl<'s, 'i, 'a> FlowGraph<'s, 'i, 'a> {
             here = next;
         }
         Ok(())
+    }
+
+    /// What is read of a place. Up to an address all of them are code, so that the image need not be asked of each.
+    #[inline(always)]
+    fn fetch_below(&self, until: u32, place: u64) -> Fetched
+        requires place { place < 2 ^ 33 }
+        requires until { (k : ℕ) → self.now.start + 2 * k < until → is_code_in self.now.image (self.now.start + 2 * k) ≡ true }
+        ensures code { result.code ≡ is_place self.now place }
+        ensures halfword { result.halfword ≡ halfword_of self.now place }
+    {
+        let a = u64::from(self.start) + 2 * place;
+        if a < u64::from(until) && a < u64::from(self.end) {
+            Fetched {
+                code: true,
+                halfword: halfword_at(self.index.image(), a as u32),
+            }
+        } else {
+            self.fetch(place)
+        }
     }
 }

@@ -52,7 +52,7 @@ fn halfword_in(segment: &Segment, a: u32) -> Option<u16>
 }
 
 /// The halfword at an address of an image.
-fn halfword_at(image: &Image, a: u32) -> Option<u16>
+pub(crate) fn halfword_at(image: &Image, a: u32) -> Option<u16>
     ensures { result ≡ halfword_at image.now a }
 {
     let segment = image.segment_at(a)?;
