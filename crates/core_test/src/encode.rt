@@ -922,28 +922,28 @@ static LATE_FAULTS: [(Instr, EncodeFault); 28] = [
 
 #[test]
 fn codes(rt: HostRuntime) {
-    for (instr, code) in &CODES {
-        assert_eq!(rt; encode(instr), Ok(*code), "at {instr:?}");
+    for (row, (instr, code)) in CODES.iter().enumerate() {
+        assert_eq!(rt; encode(instr), Ok(*code), "at row {row}");
     }
 }
 
 #[test]
 fn faults(rt: HostRuntime) {
-    for (instr, fault) in &FAULTS {
-        assert_eq!(rt; encode(instr), Err(*fault), "at {instr:?}");
+    for (row, (instr, fault)) in FAULTS.iter().enumerate() {
+        assert_eq!(rt; encode(instr), Err(*fault), "at row {row}");
     }
 }
 
 #[test]
 fn late_codes(rt: HostRuntime) {
-    for (instr, code) in &LATE_CODES {
-        assert_eq!(rt; encode(instr), Ok(*code), "at {instr:?}");
+    for (row, (instr, code)) in LATE_CODES.iter().enumerate() {
+        assert_eq!(rt; encode(instr), Ok(*code), "at row {row}");
     }
 }
 
 #[test]
 fn late_faults(rt: HostRuntime) {
-    for (instr, fault) in &LATE_FAULTS {
-        assert_eq!(rt; encode(instr), Err(*fault), "at {instr:?}");
+    for (row, (instr, fault)) in LATE_FAULTS.iter().enumerate() {
+        assert_eq!(rt; encode(instr), Err(*fault), "at row {row}");
     }
 }

@@ -11,7 +11,7 @@ use crate::operand::{cbz_field, target_field};
 use thumb_isa::encode_fault::EncodeFault;
 
 /// BX.
-#[tactic(auto, using(thumb_isa::proofs::Table::table))]
+#[tactic(auto, using(thumb_isa::proofs::Table::bx))]
 pub fn bx(m: u8) -> Result<Code, EncodeFault>
     ensures ok { IfOk result (λ code. IsCodeIn One code (Bx m)) }
     ensures exact { result ≡ encoded_of (Bx m) }
@@ -23,7 +23,7 @@ pub fn bx(m: u8) -> Result<Code, EncodeFault>
 }
 
 /// BLX (register).
-#[tactic(auto, using(thumb_isa::proofs::Table::table))]
+#[tactic(auto, using(thumb_isa::proofs::Table::blx))]
 pub fn blx(m: u8) -> Result<Code, EncodeFault>
     ensures ok { IfOk result (λ code. IsCodeIn One code (Blx m)) }
     ensures exact { result ≡ encoded_of (Blx m) }
@@ -35,7 +35,7 @@ pub fn blx(m: u8) -> Result<Code, EncodeFault>
 }
 
 /// B with a condition.
-#[tactic(auto, using(thumb_isa::proofs::Table::table))]
+#[tactic(auto, using(thumb_isa::proofs::Table::b_cond_low, thumb_isa::proofs::Table::b_cond_mid, thumb_isa::proofs::Table::b_cond_high))]
 pub fn b_cond(cond: u8, off: i32) -> Result<Code, EncodeFault>
     ensures ok { IfOk result (λ code. IsCodeIn One code (BCond cond off)) }
     ensures exact { result ≡ encoded_of (BCond cond off) }
@@ -48,7 +48,7 @@ pub fn b_cond(cond: u8, off: i32) -> Result<Code, EncodeFault>
 }
 
 /// SVC.
-#[tactic(auto, using(thumb_isa::proofs::Table::table))]
+#[tactic(auto, using(thumb_isa::proofs::Table::svc))]
 pub fn svc(imm: u32) -> Result<Code, EncodeFault>
     ensures ok { IfOk result (λ code. IsCodeIn One code (Svc imm)) }
     ensures exact { result ≡ encoded_of (Svc imm) }
@@ -60,7 +60,7 @@ pub fn svc(imm: u32) -> Result<Code, EncodeFault>
 }
 
 /// B without a condition.
-#[tactic(auto, using(thumb_isa::proofs::Table::table))]
+#[tactic(auto, using(thumb_isa::proofs::Table::b))]
 pub fn b(off: i32) -> Result<Code, EncodeFault>
     ensures ok { IfOk result (λ code. IsCodeIn One code (B off)) }
     ensures exact { result ≡ encoded_of (B off) }

@@ -71,7 +71,7 @@ fn code_of(i: &Instr) -> Result<Code, EncodeFault>
 }
 
 /// LSL, LSR, ASR (immediate).
-#[tactic(auto, using(thumb_isa::proofs::Table::table))]
+#[tactic(auto, using(thumb_isa::proofs::Table::lsl, thumb_isa::proofs::Table::lsr, thumb_isa::proofs::Table::asr))]
 fn shift(op: u8, d: u8, m: u8, n: u32) -> Result<Code, EncodeFault>
     ensures ok { IfOk result (λ code. IsCodeIn One code (ShiftImm op d m n)) }
     ensures exact { result ≡ encoded_of (ShiftImm op d m n) }
@@ -93,7 +93,7 @@ fn shift(op: u8, d: u8, m: u8, n: u32) -> Result<Code, EncodeFault>
 }
 
 /// ADD, SUB (register).
-#[tactic(auto, using(thumb_isa::proofs::Table::table))]
+#[tactic(auto, using(thumb_isa::proofs::Table::add_sub_reg))]
 fn add_sub_reg(sub: bool, d: u8, n: u8, m: u8) -> Result<Code, EncodeFault>
     ensures ok { IfOk result (λ code. IsCodeIn One code (AddSubReg sub d n m)) }
     ensures exact { result ≡ encoded_of (AddSubReg sub d n m) }
@@ -105,7 +105,7 @@ fn add_sub_reg(sub: bool, d: u8, n: u8, m: u8) -> Result<Code, EncodeFault>
 }
 
 /// ADD, SUB (immediate) with three bits.
-#[tactic(auto, using(thumb_isa::proofs::Table::table))]
+#[tactic(auto, using(thumb_isa::proofs::Table::add_sub_imm))]
 fn add_sub_imm(sub: bool, d: u8, n: u8, imm: u32) -> Result<Code, EncodeFault>
     ensures ok { IfOk result (λ code. IsCodeIn One code (AddSubImm3 sub d n imm)) }
     ensures exact { result ≡ encoded_of (AddSubImm3 sub d n imm) }
@@ -120,7 +120,7 @@ fn add_sub_imm(sub: bool, d: u8, n: u8, imm: u32) -> Result<Code, EncodeFault>
 }
 
 /// MOV, CMP, ADD, SUB (immediate) with eight bits.
-#[tactic(auto, using(thumb_isa::proofs::Table::table))]
+#[tactic(auto, using(thumb_isa::proofs::Table::imm8))]
 fn imm8(op: u8, d: u8, imm: u32) -> Result<Code, EncodeFault>
     ensures ok { IfOk result (λ code. IsCodeIn One code (Imm8 op d imm)) }
     ensures exact { result ≡ encoded_of (Imm8 op d imm) }
@@ -135,7 +135,7 @@ fn imm8(op: u8, d: u8, imm: u32) -> Result<Code, EncodeFault>
 }
 
 /// Data processing of two low registers.
-#[tactic(auto, using(thumb_isa::proofs::Table::table))]
+#[tactic(auto, using(thumb_isa::proofs::Table::alu))]
 fn alu(op: u8, d: u8, m: u8) -> Result<Code, EncodeFault>
     ensures ok { IfOk result (λ code. IsCodeIn One code (Alu op d m)) }
     ensures exact { result ≡ encoded_of (Alu op d m) }
@@ -147,7 +147,7 @@ fn alu(op: u8, d: u8, m: u8) -> Result<Code, EncodeFault>
 }
 
 /// ADD (register) of any registers.
-#[tactic(auto, using(thumb_isa::proofs::Table::table))]
+#[tactic(auto, using(thumb_isa::proofs::Table::add_high))]
 fn add_high(d: u8, m: u8) -> Result<Code, EncodeFault>
     ensures ok { IfOk result (λ code. IsCodeIn One code (AddHigh d m)) }
     ensures exact { result ≡ encoded_of (AddHigh d m) }
@@ -159,7 +159,7 @@ fn add_high(d: u8, m: u8) -> Result<Code, EncodeFault>
 }
 
 /// CMP (register) with a high register.
-#[tactic(auto, using(thumb_isa::proofs::Table::table))]
+#[tactic(auto, using(thumb_isa::proofs::Table::cmp_high))]
 fn cmp_high(n: u8, m: u8) -> Result<Code, EncodeFault>
     ensures ok { IfOk result (λ code. IsCodeIn One code (CmpHigh n m)) }
     ensures exact { result ≡ encoded_of (CmpHigh n m) }
@@ -171,7 +171,7 @@ fn cmp_high(n: u8, m: u8) -> Result<Code, EncodeFault>
 }
 
 /// MOV (register) of any registers.
-#[tactic(auto, using(thumb_isa::proofs::Table::table))]
+#[tactic(auto, using(thumb_isa::proofs::Table::mov_high))]
 fn mov_high(d: u8, m: u8) -> Result<Code, EncodeFault>
     ensures ok { IfOk result (λ code. IsCodeIn One code (MovHigh d m)) }
     ensures exact { result ≡ encoded_of (MovHigh d m) }
@@ -183,7 +183,7 @@ fn mov_high(d: u8, m: u8) -> Result<Code, EncodeFault>
 }
 
 /// SXTH, SXTB, UXTH, UXTB.
-#[tactic(auto, using(thumb_isa::proofs::Table::table))]
+#[tactic(auto, using(thumb_isa::proofs::Table::extend))]
 fn extend(op: u8, d: u8, m: u8) -> Result<Code, EncodeFault>
     ensures ok { IfOk result (λ code. IsCodeIn One code (Extend op d m)) }
     ensures exact { result ≡ encoded_of (Extend op d m) }
@@ -195,7 +195,7 @@ fn extend(op: u8, d: u8, m: u8) -> Result<Code, EncodeFault>
 }
 
 /// REV, REV16, REVSH.
-#[tactic(auto, using(thumb_isa::proofs::Table::table))]
+#[tactic(auto, using(thumb_isa::proofs::Table::rev, thumb_isa::proofs::Table::revsh))]
 fn reverse(op: u8, d: u8, m: u8) -> Result<Code, EncodeFault>
     ensures ok { IfOk result (λ code. IsCodeIn One code (Rev op d m)) }
     ensures exact { result ≡ encoded_of (Rev op d m) }
@@ -207,7 +207,7 @@ fn reverse(op: u8, d: u8, m: u8) -> Result<Code, EncodeFault>
 }
 
 /// NOP, YIELD, WFE, WFI, SEV and the other hints.
-#[tactic(auto, using(thumb_isa::proofs::Table::table))]
+#[tactic(auto, using(thumb_isa::proofs::Table::hint))]
 fn hint(n: u8) -> Result<Code, EncodeFault>
     ensures ok { IfOk result (λ code. IsCodeIn One code (Hint n)) }
     ensures exact { result ≡ encoded_of (Hint n) }

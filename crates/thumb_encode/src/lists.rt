@@ -10,7 +10,7 @@ use thumb_isa::encode_fault::EncodeFault;
 use thumb_isa::fields::field;
 
 /// PUSH.
-#[tactic(auto, using(thumb_isa::proofs::Table::table))]
+#[tactic(auto, using(thumb_isa::proofs::Table::push))]
 pub fn push(list: u16) -> Result<Code, EncodeFault>
     ensures ok { IfOk result (λ code. IsCodeIn One code (Push list)) }
     ensures exact { result ≡ encoded_of (Push list) }
@@ -27,7 +27,7 @@ pub fn push(list: u16) -> Result<Code, EncodeFault>
 }
 
 /// POP.
-#[tactic(auto, using(thumb_isa::proofs::Table::table))]
+#[tactic(auto, using(thumb_isa::proofs::Table::pop))]
 pub fn pop(list: u16) -> Result<Code, EncodeFault>
     ensures ok { IfOk result (λ code. IsCodeIn One code (Pop list)) }
     ensures exact { result ≡ encoded_of (Pop list) }
@@ -63,7 +63,7 @@ pub fn stm(n: u8, list: u16) -> Result<Code, EncodeFault>
 }
 
 /// LDM.
-#[tactic(auto, using(thumb_isa::proofs::Table::table))]
+#[tactic(auto, using(thumb_isa::proofs::Table::ldm))]
 pub fn ldm(n: u8, list: u16) -> Result<Code, EncodeFault>
     ensures ok { IfOk result (λ code. IsCodeIn One code (Ldm n list)) }
     ensures exact { result ≡ encoded_of (Ldm n list) }

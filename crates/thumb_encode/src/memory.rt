@@ -10,7 +10,7 @@ use crate::operand::{byte_field, half_field, low_fields, word_field};
 use thumb_isa::encode_fault::EncodeFault;
 
 /// LDR (literal).
-#[tactic(auto, using(thumb_isa::proofs::Table::table))]
+#[tactic(auto, using(thumb_isa::proofs::Table::ldr_lit))]
 pub fn ldr_lit(t: u8, off: i32) -> Result<Code, EncodeFault>
     ensures ok { IfOk result (λ code. IsCodeIn One code (LdrLit t off)) }
     ensures exact { result ≡ encoded_of (LdrLit t off) }
@@ -23,7 +23,7 @@ pub fn ldr_lit(t: u8, off: i32) -> Result<Code, EncodeFault>
 }
 
 /// Loads and stores at a register plus a register.
-#[tactic(auto, using(thumb_isa::proofs::Table::table))]
+#[tactic(auto, using(thumb_isa::proofs::Table::mem_reg))]
 pub fn mem_reg(op: u8, t: u8, n: u8, m: u8) -> Result<Code, EncodeFault>
     ensures ok { IfOk result (λ code. IsCodeIn One code (MemReg op t n m)) }
     ensures exact { result ≡ encoded_of (MemReg op t n m) }
@@ -35,7 +35,7 @@ pub fn mem_reg(op: u8, t: u8, n: u8, m: u8) -> Result<Code, EncodeFault>
 }
 
 /// Loads and stores at a register plus an offset.
-#[tactic(auto, using(thumb_isa::proofs::Table::table))]
+#[tactic(auto, using(thumb_isa::proofs::Table::mem_word, thumb_isa::proofs::Table::mem_byte, thumb_isa::proofs::Table::mem_half))]
 pub fn mem_imm(op: u8, t: u8, n: u8, off: i32) -> Result<Code, EncodeFault>
     ensures ok { IfOk result (λ code. IsCodeIn One code (MemImm op t n off)) }
     ensures exact { result ≡ encoded_of (MemImm op t n off) }
@@ -51,7 +51,7 @@ pub fn mem_imm(op: u8, t: u8, n: u8, off: i32) -> Result<Code, EncodeFault>
 }
 
 /// STR, LDR (immediate).
-#[tactic(auto, using(thumb_isa::proofs::Table::table))]
+#[tactic(auto, using(thumb_isa::proofs::Table::mem_word))]
 fn mem_word(op: u8, t: u8, n: u8, off: i32) -> Result<Code, EncodeFault>
     requires op_in { op < 2 }
     requires t_in { t < 8 }
@@ -64,7 +64,7 @@ fn mem_word(op: u8, t: u8, n: u8, off: i32) -> Result<Code, EncodeFault>
 }
 
 /// STRB, LDRB (immediate).
-#[tactic(auto, using(thumb_isa::proofs::Table::table))]
+#[tactic(auto, using(thumb_isa::proofs::Table::mem_byte))]
 fn mem_byte(op: u8, t: u8, n: u8, off: i32) -> Result<Code, EncodeFault>
     requires op_low { 2 ≤ op }
     requires op_high { op < 4 }
@@ -78,7 +78,7 @@ fn mem_byte(op: u8, t: u8, n: u8, off: i32) -> Result<Code, EncodeFault>
 }
 
 /// STRH, LDRH (immediate).
-#[tactic(auto, using(thumb_isa::proofs::Table::table))]
+#[tactic(auto, using(thumb_isa::proofs::Table::mem_half))]
 fn mem_half(op: u8, t: u8, n: u8, off: i32) -> Result<Code, EncodeFault>
     requires op_low { 4 ≤ op }
     requires op_high { op < 6 }
@@ -104,7 +104,7 @@ pub fn mem_sp(load: bool, t: u8, off: i32) -> Result<Code, EncodeFault>
 }
 
 /// ADR.
-#[tactic(auto, using(thumb_isa::proofs::Table::table))]
+#[tactic(auto, using(thumb_isa::proofs::Table::adr))]
 pub fn adr(d: u8, off: i32) -> Result<Code, EncodeFault>
     ensures ok { IfOk result (λ code. IsCodeIn One code (Adr d off)) }
     ensures exact { result ≡ encoded_of (Adr d off) }
@@ -117,7 +117,7 @@ pub fn adr(d: u8, off: i32) -> Result<Code, EncodeFault>
 }
 
 /// ADD (SP plus immediate) into a low register.
-#[tactic(auto, using(thumb_isa::proofs::Table::table))]
+#[tactic(auto, using(thumb_isa::proofs::Table::add_rd_sp))]
 pub fn add_rd_sp(d: u8, off: i32) -> Result<Code, EncodeFault>
     ensures ok { IfOk result (λ code. IsCodeIn One code (AddRdSp d off)) }
     ensures exact { result ≡ encoded_of (AddRdSp d off) }
@@ -130,7 +130,7 @@ pub fn add_rd_sp(d: u8, off: i32) -> Result<Code, EncodeFault>
 }
 
 /// ADD (SP plus immediate) into sp.
-#[tactic(auto, using(thumb_isa::proofs::Table::table))]
+#[tactic(auto, using(thumb_isa::proofs::Table::add_sp))]
 pub fn add_sp(off: i32) -> Result<Code, EncodeFault>
     ensures ok { IfOk result (λ code. IsCodeIn One code (AddSp off)) }
     ensures exact { result ≡ encoded_of (AddSp off) }
@@ -140,7 +140,7 @@ pub fn add_sp(off: i32) -> Result<Code, EncodeFault>
 }
 
 /// SUB (SP minus immediate).
-#[tactic(auto, using(thumb_isa::proofs::Table::table))]
+#[tactic(auto, using(thumb_isa::proofs::Table::sub_sp))]
 pub fn sub_sp(off: i32) -> Result<Code, EncodeFault>
     ensures ok { IfOk result (λ code. IsCodeIn One code (SubSp off)) }
     ensures exact { result ≡ encoded_of (SubSp off) }

@@ -1,14 +1,14 @@
 -- What the rows that the second profile has besides say of each range of halfwords.
-use Rattle.std.proofs.Common.{◌≡◌, ℕ, ◌+◌, ◌*◌, ◌/◌, ◌%◌, ◌^◌, ◌<◌, ◌≤◌, ◌≢◌, Bool, true, false, not, ◌&&◌, ◌||◌, ◌==◌, nat_lt, nat_le, pos, ◌⊎◌, inl, inr, refl, arith, sym, subst, ◌∙◌}
-use Rattle.std.proofs.lemmas.Bool.{cases_lt, and_from}
+use Rattle.std.proofs.Common.{◌≡◌, ℕ, ◌/◌, ◌%◌, ◌^◌, ◌<◌, ◌≤◌, Bool, true, false, not, ◌&&◌, ◌==◌, nat_lt, pos, ◌⊎◌, inl, inr, refl, arith, sym, ◌∙◌}
+use Rattle.std.proofs.lemmas.Bool.{cases_lt}
 use Rattle.std.proofs.lemmas.Bool.Decides.{nat_tests}
 use Rattle.thumb_isa.specs.declared.instr.Instr.TheVariants.{Cbz, BWide, MovW, MovT, Div}
 use Rattle.thumb_isa.specs.declared.instr.Decoded.TheVariants.{Is, Undefined, Unpredictable}
 use Rattle.thumb_isa.specs.Fields.{field}
 use Rattle.thumb_isa.specs.Range.{IsGeneral}
-use Rattle.thumb_isa.specs.Rows.{late_rows, bl_offset, cbz_offset, wide_d, wide_imm}
+use Rattle.thumb_isa.specs.Rows.{bl_offset, cbz_offset, wide_d, wide_imm}
 use Rattle.thumb_isa.specs.Laws.{late_of}
-use Rattle.thumb_isa.proofs.LateSearch.{late_like, late_pair, late_when}
+use Rattle.thumb_isa.proofs.LateSearch.{late_like, late_pair, late_each, late_when, each_digits, each_digits_at}
 
 none_0000 : (h s : ℕ) → h < 0x8000 → late_of h s ≡ Undefined
 none_0000 h s = late_like 0x0000 0x8000 s refl h (omega arith)
@@ -179,21 +179,8 @@ mov_t_none h s a b e c g = elim (cases_lt h 0xf2d0) [
 below_test : (r k : ℕ) → r < k → nat_lt r k ≡ true
 below_test r k l = grind (arith, nat_tests)
 
--- SDIV, UDIV: the second halfword has ones in its first and third digit
-abbrev has_ones : ℕ → Bool
-has_ones x = (field x 12 4 == 15) && (field x 4 4 == 15)
-
 abbrev at_first : (ℕ → Bool) → ℕ → Bool
 at_first test h = test (field h 0 4)
-
-abbrev at_digits : (ℕ → Bool) → (ℕ → Bool) → ℕ → Bool
-at_digits d m x = has_ones x && (d (field x 8 4) && m (field x 0 4))
-
-digits_test : (dd mm : ℕ → Bool) (s : ℕ) → field s 12 4 ≡ 15 → field s 4 4 ≡ 15 → dd (field s 8 4) ≡ true → mm (field s 0 4) ≡ true
-    → at_digits dd mm (s / 2 ^ 0) ≡ true
-digits_test dd mm s p q d m =
-    let whole : s / 2 ^ 0 ≡ s = omega arith in
-    subst (λ x. at_digits dd mm x ≡ true) (sym whole) (and_from _ _ (and_from _ _ (is_test (field s 12 4) 15 p) (is_test (field s 4 4) 15 q)) (and_from _ _ d m))
 
 sdiv_none_0 : (h s : ℕ) → 0xfb90 ≤ h → h < 0xfba0 → s < 0x8000 → late_of h s ≡ Undefined
 sdiv_none_0 h s a b c = late_pair 0xfb90 0x10 0x0000 0x8000 refl h s a b (omega arith) c
@@ -218,35 +205,35 @@ pub sdiv : (h s : ℕ) → 0xfb90 ≤ h → h < 0xfba0 → 0xf000 ≤ s → s < 
     → IsGeneral (field s 0 4)
     → late_of h s ≡ Is (Div true (field s 8 4) (field h 0 4) (field s 0 4)) 4
 sdiv h s a b c d e n r m =
-    late_when (at_first is_general) (at_digits is_general is_general) 0xfb90 0x10 0 0xf0f0 0xf10 h s (general_test (field h 0 4) n) a b
-    (digits_test is_general is_general s (omega arith) e (general_test (field s 8 4) r) (general_test (field s 0 4) m)) (omega arith) (omega arith) 14 refl
+    late_each (at_first is_general) 0xfb90 0x10 0 (each_digits is_general is_general) h s (general_test (field h 0 4) n) a b
+    (each_digits_at is_general is_general s c d e (general_test (field s 8 4) r) (general_test (field s 0 4) m)) 14 refl
 
 pub sdiv_no_n : (h s : ℕ) → 0xfb90 ≤ h → h < 0xfba0 → 0xf000 ≤ s → s < 0x10000 → field s 4 4 ≡ 15 → (field h 0 4 ≡ 13) ⊎ (field h 0 4 ≡ 15)
     → late_of h s ≡ Unpredictable
 sdiv_no_n h s a b c d e (inl w) =
-    late_when (at_first (λ r. r == 13)) (at_digits any any) 0xfb90 0x10 0 0xf0f0 0xf10 h s (is_test (field h 0 4) 13 w) a b
-    (digits_test any any s (omega arith) e refl refl) (omega arith) (omega arith) 4 refl
+    late_each (at_first (λ r. r == 13)) 0xfb90 0x10 0 (each_digits any any) h s (is_test (field h 0 4) 13 w) a b
+    (each_digits_at any any s c d e refl refl) 4 refl
 sdiv_no_n h s a b c d e (inr w) =
-    late_when (at_first (λ r. r == 15)) (at_digits any any) 0xfb90 0x10 0 0xf0f0 0xf10 h s (is_test (field h 0 4) 15 w) a b
-    (digits_test any any s (omega arith) e refl refl) (omega arith) (omega arith) 5 refl
+    late_each (at_first (λ r. r == 15)) 0xfb90 0x10 0 (each_digits any any) h s (is_test (field h 0 4) 15 w) a b
+    (each_digits_at any any s c d e refl refl) 5 refl
 
 pub sdiv_no_d : (h s : ℕ) → 0xfb90 ≤ h → h < 0xfba0 → 0xf000 ≤ s → s < 0x10000 → field s 4 4 ≡ 15 → IsGeneral (field h 0 4)
     → (field s 8 4 ≡ 13) ⊎ (field s 8 4 ≡ 15) → late_of h s ≡ Unpredictable
 sdiv_no_d h s a b c d e n (inl w) =
-    late_when (at_first is_general) (at_digits (λ r. r == 13) any) 0xfb90 0x10 0 0xf0f0 0xf10 h s (general_test (field h 0 4) n) a b
-    (digits_test (λ r. r == 13) any s (omega arith) e (is_test (field s 8 4) 13 w) refl) (omega arith) (omega arith) 6 refl
+    late_each (at_first is_general) 0xfb90 0x10 0 (each_digits (λ r. r == 13) any) h s (general_test (field h 0 4) n) a b
+    (each_digits_at (λ r. r == 13) any s c d e (is_test (field s 8 4) 13 w) refl) 6 refl
 sdiv_no_d h s a b c d e n (inr w) =
-    late_when (at_first is_general) (at_digits (λ r. r == 15) any) 0xfb90 0x10 0 0xf0f0 0xf10 h s (general_test (field h 0 4) n) a b
-    (digits_test (λ r. r == 15) any s (omega arith) e (is_test (field s 8 4) 15 w) refl) (omega arith) (omega arith) 7 refl
+    late_each (at_first is_general) 0xfb90 0x10 0 (each_digits (λ r. r == 15) any) h s (general_test (field h 0 4) n) a b
+    (each_digits_at (λ r. r == 15) any s c d e (is_test (field s 8 4) 15 w) refl) 7 refl
 
 pub sdiv_no_m : (h s : ℕ) → 0xfb90 ≤ h → h < 0xfba0 → 0xf000 ≤ s → s < 0x10000 → field s 4 4 ≡ 15 → IsGeneral (field h 0 4) → IsGeneral (field s 8 4)
     → (field s 0 4 ≡ 13) ⊎ (field s 0 4 ≡ 15) → late_of h s ≡ Unpredictable
 sdiv_no_m h s a b c d e n r (inl w) =
-    late_when (at_first is_general) (at_digits is_general (λ r. r == 13)) 0xfb90 0x10 0 0xf0f0 0xf10 h s (general_test (field h 0 4) n) a b
-    (digits_test is_general (λ r. r == 13) s (omega arith) e (general_test (field s 8 4) r) (is_test (field s 0 4) 13 w)) (omega arith) (omega arith) 8 refl
+    late_each (at_first is_general) 0xfb90 0x10 0 (each_digits is_general (λ r. r == 13)) h s (general_test (field h 0 4) n) a b
+    (each_digits_at is_general (λ r. r == 13) s c d e (general_test (field s 8 4) r) (is_test (field s 0 4) 13 w)) 8 refl
 sdiv_no_m h s a b c d e n r (inr w) =
-    late_when (at_first is_general) (at_digits is_general (λ r. r == 15)) 0xfb90 0x10 0 0xf0f0 0xf10 h s (general_test (field h 0 4) n) a b
-    (digits_test is_general (λ r. r == 15) s (omega arith) e (general_test (field s 8 4) r) (is_test (field s 0 4) 15 w)) (omega arith) (omega arith) 9 refl
+    late_each (at_first is_general) 0xfb90 0x10 0 (each_digits is_general (λ r. r == 15)) h s (general_test (field h 0 4) n) a b
+    (each_digits_at is_general (λ r. r == 15) s c d e (general_test (field s 8 4) r) (is_test (field s 0 4) 15 w)) 9 refl
 
 udiv_none_0 : (h s : ℕ) → 0xfbb0 ≤ h → h < 0xfbc0 → s < 0x8000 → late_of h s ≡ Undefined
 udiv_none_0 h s a b c = late_pair 0xfbb0 0x10 0x0000 0x8000 refl h s a b (omega arith) c
@@ -271,35 +258,35 @@ pub udiv : (h s : ℕ) → 0xfbb0 ≤ h → h < 0xfbc0 → 0xf000 ≤ s → s < 
     → IsGeneral (field s 0 4)
     → late_of h s ≡ Is (Div false (field s 8 4) (field h 0 4) (field s 0 4)) 4
 udiv h s a b c d e n r m =
-    late_when (at_first is_general) (at_digits is_general is_general) 0xfbb0 0x10 0 0xf0f0 0xf10 h s (general_test (field h 0 4) n) a b
-    (digits_test is_general is_general s (omega arith) e (general_test (field s 8 4) r) (general_test (field s 0 4) m)) (omega arith) (omega arith) 15 refl
+    late_each (at_first is_general) 0xfbb0 0x10 0 (each_digits is_general is_general) h s (general_test (field h 0 4) n) a b
+    (each_digits_at is_general is_general s c d e (general_test (field s 8 4) r) (general_test (field s 0 4) m)) 15 refl
 
 pub udiv_no_n : (h s : ℕ) → 0xfbb0 ≤ h → h < 0xfbc0 → 0xf000 ≤ s → s < 0x10000 → field s 4 4 ≡ 15 → (field h 0 4 ≡ 13) ⊎ (field h 0 4 ≡ 15)
     → late_of h s ≡ Unpredictable
 udiv_no_n h s a b c d e (inl w) =
-    late_when (at_first (λ r. r == 13)) (at_digits any any) 0xfbb0 0x10 0 0xf0f0 0xf10 h s (is_test (field h 0 4) 13 w) a b
-    (digits_test any any s (omega arith) e refl refl) (omega arith) (omega arith) 4 refl
+    late_each (at_first (λ r. r == 13)) 0xfbb0 0x10 0 (each_digits any any) h s (is_test (field h 0 4) 13 w) a b
+    (each_digits_at any any s c d e refl refl) 4 refl
 udiv_no_n h s a b c d e (inr w) =
-    late_when (at_first (λ r. r == 15)) (at_digits any any) 0xfbb0 0x10 0 0xf0f0 0xf10 h s (is_test (field h 0 4) 15 w) a b
-    (digits_test any any s (omega arith) e refl refl) (omega arith) (omega arith) 5 refl
+    late_each (at_first (λ r. r == 15)) 0xfbb0 0x10 0 (each_digits any any) h s (is_test (field h 0 4) 15 w) a b
+    (each_digits_at any any s c d e refl refl) 5 refl
 
 pub udiv_no_d : (h s : ℕ) → 0xfbb0 ≤ h → h < 0xfbc0 → 0xf000 ≤ s → s < 0x10000 → field s 4 4 ≡ 15 → IsGeneral (field h 0 4)
     → (field s 8 4 ≡ 13) ⊎ (field s 8 4 ≡ 15) → late_of h s ≡ Unpredictable
 udiv_no_d h s a b c d e n (inl w) =
-    late_when (at_first is_general) (at_digits (λ r. r == 13) any) 0xfbb0 0x10 0 0xf0f0 0xf10 h s (general_test (field h 0 4) n) a b
-    (digits_test (λ r. r == 13) any s (omega arith) e (is_test (field s 8 4) 13 w) refl) (omega arith) (omega arith) 6 refl
+    late_each (at_first is_general) 0xfbb0 0x10 0 (each_digits (λ r. r == 13) any) h s (general_test (field h 0 4) n) a b
+    (each_digits_at (λ r. r == 13) any s c d e (is_test (field s 8 4) 13 w) refl) 6 refl
 udiv_no_d h s a b c d e n (inr w) =
-    late_when (at_first is_general) (at_digits (λ r. r == 15) any) 0xfbb0 0x10 0 0xf0f0 0xf10 h s (general_test (field h 0 4) n) a b
-    (digits_test (λ r. r == 15) any s (omega arith) e (is_test (field s 8 4) 15 w) refl) (omega arith) (omega arith) 7 refl
+    late_each (at_first is_general) 0xfbb0 0x10 0 (each_digits (λ r. r == 15) any) h s (general_test (field h 0 4) n) a b
+    (each_digits_at (λ r. r == 15) any s c d e (is_test (field s 8 4) 15 w) refl) 7 refl
 
 pub udiv_no_m : (h s : ℕ) → 0xfbb0 ≤ h → h < 0xfbc0 → 0xf000 ≤ s → s < 0x10000 → field s 4 4 ≡ 15 → IsGeneral (field h 0 4) → IsGeneral (field s 8 4)
     → (field s 0 4 ≡ 13) ⊎ (field s 0 4 ≡ 15) → late_of h s ≡ Unpredictable
 udiv_no_m h s a b c d e n r (inl w) =
-    late_when (at_first is_general) (at_digits is_general (λ r. r == 13)) 0xfbb0 0x10 0 0xf0f0 0xf10 h s (general_test (field h 0 4) n) a b
-    (digits_test is_general (λ r. r == 13) s (omega arith) e (general_test (field s 8 4) r) (is_test (field s 0 4) 13 w)) (omega arith) (omega arith) 8 refl
+    late_each (at_first is_general) 0xfbb0 0x10 0 (each_digits is_general (λ r. r == 13)) h s (general_test (field h 0 4) n) a b
+    (each_digits_at is_general (λ r. r == 13) s c d e (general_test (field s 8 4) r) (is_test (field s 0 4) 13 w)) 8 refl
 udiv_no_m h s a b c d e n r (inr w) =
-    late_when (at_first is_general) (at_digits is_general (λ r. r == 15)) 0xfbb0 0x10 0 0xf0f0 0xf10 h s (general_test (field h 0 4) n) a b
-    (digits_test is_general (λ r. r == 15) s (omega arith) e (general_test (field s 8 4) r) (is_test (field s 0 4) 15 w)) (omega arith) (omega arith) 9 refl
+    late_each (at_first is_general) 0xfbb0 0x10 0 (each_digits is_general (λ r. r == 15)) h s (general_test (field h 0 4) n) a b
+    (each_digits_at is_general (λ r. r == 15) s c d e (general_test (field s 8 4) r) (is_test (field s 0 4) 15 w)) 9 refl
 
 -- the rows of one halfword, and the ranges that none of them fits
 pub ruleset late_table = (none_below, cbz_b1, none_b2, cbz_b3, none_b4, cbnz_b9, none_ba, cbnz_bb, none_bc, none_f8, none_fba, none_fbc)

@@ -35,14 +35,6 @@ pub implied : (a b : Bool) → (not a || b) ≡ true → a ≡ true → b ≡ tr
 implied true b h e = h
 implied false b h e = cc
 
--- of the n halfwords from low up, those that pass the test `when` have the meaning of the row at this place
-pub decoded_where : (when : ℕ → Bool) (i low n second : ℕ) → all_from (λ first. not (when first) || stops_at i rows first second) n low ≡ true
-    → (first : ℕ) → low ≤ first → first < low + n → when first ≡ true → decoded_of first second ≡ meaning_at i rows first second
-unfolding decoded_of
-decoded_where when i low n second h first above below w =
-    let at = all_from_at (λ first. not (when first) || stops_at i rows first second) n low h first above below in
-    first_fit-at i rows first second (implied (when first) _ at w)
-
 -- the search stops at this place of the list over the n halfwords from low up: each row before it fits none of them, and the row there
 -- asks for one halfword alone and fits them all
 abbrev pub is_single : Option (ℕ × ℕ) → Bool
@@ -215,6 +207,29 @@ abbrev pub row_place : List Row → ℕ → ℕ
 row_place [] first = 0
 row_place (row ∷ more) first = let later = suc (row_place more first) in cond (bit_and first row.mask == row.value) 0 later
 
+-- the rows that may fit one of the n halfwords from low up
+abbrev pub near_rows : ℕ → ℕ → List Row
+near_rows low n = kept (near rows low n) rows
+
+-- the place among these of the row that this halfword fits
+abbrev pub place_near : ℕ → ℕ → ℕ → ℕ
+place_near like low n = row_place (near_rows low n) like
+
+-- the search of these rows stops at this place for a halfword that passes the test `when`
+abbrev pub stops_where : (ℕ → Bool) → ℕ → List Row → ℕ → ℕ → Bool
+stops_where when i rs second first = not (when first) || stops_at i rs first second
+
+first_fit-where : (when : ℕ → Bool) (i : ℕ) (rs : List Row) (low n second : ℕ) → all_from (stops_where when i rs second) n low ≡ true
+    → (first : ℕ) → low ≤ first → first < low + n → when first ≡ true → first_fit rs first second ≡ meaning_at i rs first second
+first_fit-where when i rs low n second h first above below w =
+    first_fit-at i rs first second (implied (when first) _ (all_from_at (stops_where when i rs second) n low h first above below) w)
+
+-- of the n halfwords from low up, those that pass the test `when` have the meaning of the row that the halfword `like` fits
+pub decoded_where : (when : ℕ → Bool) (like low n second : ℕ) → all_from (stops_where when (place_near like low n) (near_rows low n) second) n low ≡ true
+    → (first : ℕ) → low ≤ first → first < low + n → when first ≡ true → decoded_of first second ≡ meaning_at (place_near like low n) (near_rows low n) first second
+decoded_where when like low n second h first above below w =
+    decoded_near low n second first above below ∙ first_fit-where when (place_near like low n) (near_rows low n) low n second h first above below w
+
 -- the n halfwords from low up have the meaning of the row that the lowest fits
 pub decoded_like : (low n second : ℕ) → stops_in (row_place rows low) rows low n ≡ true
     → (first : ℕ) → low ≤ first → first < low + n → decoded_of first second ≡ meaning_at (row_place rows low) rows first second
@@ -237,13 +252,19 @@ from_test Undefined h = cc
 from_test Unpredictable h = refl
 from_test NotInProfile h = cc
 
+abbrev pub refused_where : (ℕ → Bool) → List Row → ℕ → ℕ → Bool
+refused_where when rs second first = not (when first) || is_unpredictable (first_fit rs first second)
+
+first_fit-refused : (when : ℕ → Bool) (rs : List Row) (low n second : ℕ) → all_from (refused_where when rs second) n low ≡ true
+    → (first : ℕ) → low ≤ first → first < low + n → when first ≡ true → first_fit rs first second ≡ Unpredictable
+first_fit-refused when rs low n second h first above below w =
+    from_test (first_fit rs first second) (implied (when first) _ (all_from_at (refused_where when rs second) n low h first above below) w)
+
 -- of the n halfwords from low up, those that pass the test `when` are unpredictable
-pub unpredictable_where : (when : ℕ → Bool) (low n second : ℕ) → all_from (λ first. not (when first) || is_unpredictable (first_fit rows first second)) n low ≡ true
+pub unpredictable_where : (when : ℕ → Bool) (low n second : ℕ) → all_from (refused_where when (near_rows low n) second) n low ≡ true
     → (first : ℕ) → low ≤ first → first < low + n → when first ≡ true → decoded_of first second ≡ Unpredictable
-unfolding decoded_of
 unpredictable_where when low n second h first above below w =
-    let at = all_from_at (λ first. not (when first) || is_unpredictable (first_fit rows first second)) n low h first above below in
-    from_test (first_fit rows first second) (implied (when first) _ at w)
+    decoded_near low n second first above below ∙ first_fit-refused when (near_rows low n) low n second h first above below w
 
 -- the rectangle of n first and m second halfwords has the meaning of the row that its lowest pair fits
 pub decoded_pair : (low n low_2 m : ℕ) → stops_over (place_of_pair rows low low_2) rows low n low_2 m ≡ true

@@ -4,8 +4,8 @@ use Rattle.std.proofs.lemmas.Bool.Decides.{nat_tests}
 use Rattle.thumb_isa.specs.declared.instr.Instr.TheVariants.{ShiftImm, AddSubReg, AddSubImm3, Imm8, Alu, AddHigh, CmpHigh, MovHigh, Bx, Blx, LdrLit, MemReg, MemImm, MemSp, Adr, AddRdSp, AddSp, SubSp, Extend, Rev, Push, Pop, Hint, Stm, Ldm, BCond, Svc, B, Bl, Barrier}
 use Rattle.thumb_isa.specs.declared.instr.Decoded.TheVariants.{Is, Undefined, Unpredictable, NotInProfile}
 use Rattle.thumb_isa.specs.Fields.{field, signed}
-use Rattle.thumb_isa.specs.Rows.{rows, decoded_of, bl_offset, high_register, right_amount}
-use Rattle.thumb_isa.proofs.Search.{decoded_like, decoded_where, decoded_pair, unpredictable_where, row_place}
+use Rattle.thumb_isa.specs.Rows.{decoded_of, bl_offset, high_register, right_amount}
+use Rattle.thumb_isa.proofs.Search.{decoded_like, decoded_where, decoded_pair, unpredictable_where}
 
 pub lsl : (h s : ℕ) → h < 0x0800 → decoded_of h s ≡ Is (ShiftImm 0 (field h 0 3) (field h 3 3) (field h 6 5)) 2
 lsl h s = decoded_like 0x0000 0x800 s refl h (omega arith)
@@ -43,7 +43,7 @@ cmp_high_test n m a b e = grind (arith, nat_tests)
 pub cmp_high : (h s : ℕ) → 0x4500 ≤ h → h < 0x4600 → high_register h < 15 → field h 3 4 < 15 → ((8 ≤ high_register h) ⊎ (8 ≤ field h 3 4))
     → decoded_of h s ≡ Is (CmpHigh (high_register h) (field h 3 4)) 2
 cmp_high h s a b n m e =
-    decoded_where cmp_high_fits (row_place rows 0x4540) 0x4500 0x100 s refl h a b (cmp_high_test (high_register h) (field h 3 4) n m e)
+    decoded_where cmp_high_fits 0x4540 0x4500 0x100 s refl h a b (cmp_high_test (high_register h) (field h 3 4) n m e)
 
 cmp_low_test : (n m : ℕ) → n < 8 → m < 8 → (nat_lt n 8 && nat_lt m 8) ≡ true
 cmp_low_test n m a b = grind (arith, nat_tests)
@@ -74,10 +74,10 @@ bx_test : (n m : ℕ) → n ≡ 0 → m < 15 → ((n == 0) && nat_lt m 15) ≡ t
 bx_test n m e l = grind (arith, nat_tests)
 
 pub bx : (h s : ℕ) → 0x4700 ≤ h → h < 0x4780 → field h 0 3 ≡ 0 → field h 3 4 < 15 → decoded_of h s ≡ Is (Bx (field h 3 4)) 2
-bx h s a b n m = decoded_where bx_fits (row_place rows 0x4700) 0x4700 0x80 s refl h a b (bx_test (field h 0 3) (field h 3 4) n m)
+bx h s a b n m = decoded_where bx_fits 0x4700 0x4700 0x80 s refl h a b (bx_test (field h 0 3) (field h 3 4) n m)
 
 pub blx : (h s : ℕ) → 0x4780 ≤ h → h < 0x4800 → field h 0 3 ≡ 0 → field h 3 4 < 15 → decoded_of h s ≡ Is (Blx (field h 3 4)) 2
-blx h s a b n m = decoded_where bx_fits (row_place rows 0x4780) 0x4780 0x80 s refl h a b (bx_test (field h 0 3) (field h 3 4) n m)
+blx h s a b n m = decoded_where bx_fits 0x4780 0x4780 0x80 s refl h a b (bx_test (field h 0 3) (field h 3 4) n m)
 
 not_0_test : (n : ℕ) → 0 < n → not (n == 0) ≡ true
 not_0_test n l = grind (arith, nat_tests)
@@ -169,10 +169,10 @@ is_0_test : (n : ℕ) → n ≡ 0 → (n == 0) ≡ true
 is_0_test n e = grind (arith, nat_tests)
 
 pub hint : (h s : ℕ) → 0xbf00 ≤ h → h < 0xc000 → field h 0 4 ≡ 0 → decoded_of h s ≡ Is (Hint (field h 4 4)) 2
-hint h s a b e = decoded_where (λ h. field h 0 4 == 0) (row_place rows 0xbf00) 0xbf00 0x100 s refl h a b (is_0_test (field h 0 4) e)
+hint h s a b e = decoded_where (λ h. field h 0 4 == 0) 0xbf00 0xbf00 0x100 s refl h a b (is_0_test (field h 0 4) e)
 
 pub none_bf01 : (h s : ℕ) → 0xbf00 ≤ h → h < 0xc000 → 0 < field h 0 4 → decoded_of h s ≡ Undefined
-none_bf01 h s a b l = decoded_where (λ h. not (field h 0 4 == 0)) (row_place rows 0xbf01) 0xbf00 0x100 s refl h a b (not_0_test (field h 0 4) l)
+none_bf01 h s a b l = decoded_where (λ h. not (field h 0 4 == 0)) 0xbf01 0xbf00 0x100 s refl h a b (not_0_test (field h 0 4) l)
 
 -- the base is in the list, and so is a lower register
 abbrev pub base_bit : ℕ → ℕ
@@ -188,7 +188,7 @@ stm_test : (list bit low : ℕ) → 0 < list → ((bit ≡ 0) ⊎ (low ≡ 0)) �
 stm_test list bit low l e = grind (arith, nat_tests)
 
 pub stm : (h s : ℕ) → 0xc000 ≤ h → h < 0xc800 → 0 < field h 0 8 → ((base_bit h ≡ 0) ⊎ (below_base h ≡ 0)) → decoded_of h s ≡ Is (Stm (field h 8 3) (field h 0 8)) 2
-stm h s a b l e = decoded_where stm_fits (row_place rows 0xc001) 0xc000 0x800 s refl h a b (stm_test (field h 0 8) (base_bit h) (below_base h) l e)
+stm h s a b l e = decoded_where stm_fits 0xc001 0xc000 0x800 s refl h a b (stm_test (field h 0 8) (base_bit h) (below_base h) l e)
 
 stm_base_test : (bit low : ℕ) → bit ≡ 1 → 0 < low → ((bit == 1) && not (low == 0)) ≡ true
 stm_base_test bit low e l = grind (arith, nat_tests)
@@ -202,7 +202,7 @@ list_none h s a b e =
     unpredictable_where (λ h. field h 0 8 == 0) 0xc000 0x1000 s refl h a b (is_0_test (field h 0 8) e)
 
 pub ldm : (h s : ℕ) → 0xc800 ≤ h → h < 0xd000 → 0 < field h 0 8 → decoded_of h s ≡ Is (Ldm (field h 8 3) (field h 0 8)) 2
-ldm h s a b l = decoded_where (λ h. not (field h 0 8 == 0)) (row_place rows 0xc801) 0xc800 0x800 s refl h a b (not_0_test (field h 0 8) l)
+ldm h s a b l = decoded_where (λ h. not (field h 0 8 == 0)) 0xc801 0xc800 0x800 s refl h a b (not_0_test (field h 0 8) l)
 
 pub b_cond_low : (h s : ℕ) → 0xd000 ≤ h → h < 0xd800 → decoded_of h s ≡ Is (BCond (field h 8 4) (signed 9 (field h 0 8 * 2))) 2
 b_cond_low h s = decoded_like 0xd000 0x800 s refl h
@@ -283,8 +283,36 @@ none_f000_e000 h s = decoded_pair 0xf000 0x800 0xe000 0x1000 refl h s
 pub bl_15 : (h s : ℕ) → 0xf000 ≤ h → h < 0xf800 → 0xf000 ≤ s → s < 0x10000 → decoded_of h s ≡ Is (Bl (bl_offset h s)) 4
 bl_15 h s = decoded_pair 0xf000 0x800 0xf000 0x1000 refl h s
 
--- the rows of one halfword, and the ranges that no row fits
-pub ruleset table = (lsl, lsr, asr, add_sub_reg, add_sub_imm, imm8, alu, add_high, add_high_both, cmp_high, cmp_high_low, cmp_high_n, cmp_high_m, mov_high, bx, blx, bx_low_bits, bx_pc, ldr_lit, mem_reg, mem_word, mem_byte, mem_half, mem_sp, adr, add_rd_sp, add_sp, sub_sp, none_b100, extend, none_b300, push_none, push, none_b600, cps, none_b680, rev, none_ba80, revsh, none_bb00, pop_none, pop, bkpt, hint, none_bf01, stm, stm_base, list_none, ldm, b_cond_low, b_cond_mid, b_cond_high, none_de00, svc, b, none_e800, none_f800)
+-- the rows of one halfword, and the ranges that no row fits, by the functions that decode them
+pub ruleset shifts = (lsl, lsr, asr)
+
+pub ruleset sums = (add_sub_reg, add_sub_imm)
+
+pub ruleset of_registers = (alu, add_high, add_high_both, cmp_high, cmp_high_low, cmp_high_n, cmp_high_m, mov_high)
+
+pub ruleset exchanges = (bx, blx, bx_low_bits, bx_pc)
+
+pub ruleset transfers = (ldr_lit, mem_reg, mem_sp)
+
+pub ruleset transfers_imm = (mem_word, mem_byte, mem_half)
+
+pub ruleset miscellany = (none_b100, extend, none_b300, none_b600, cps, none_b680, none_bb00, bkpt, hint, none_bf01)
+
+pub ruleset sp_sums = (add_sp, sub_sp)
+
+pub ruleset reversals = (rev, none_ba80, revsh)
+
+pub ruleset pushes = (push_none, push)
+
+pub ruleset pops = (pop_none, pop)
+
+pub ruleset lists = (list_none, ldm)
+
+pub ruleset stores = (stm, stm_base)
+
+pub ruleset conditions = (b_cond_low, b_cond_mid, b_cond_high, none_de00, svc)
+
+pub ruleset others = (imm8, adr, add_rd_sp, b, none_e800, none_f800)
 
 -- the pairs that begin with 11110
 pub ruleset pairs = (none_f000_0000, none_f000_8000, none_f380_8000, msr, none_f380_8900, none_f390_8000, none_f3bf_8000, dsb, dmb, isb, none_f3bf_8f70, none_f3c0_8000, mrs, none_f3f0_8000, none_f000_9000, bl_13, none_f000_e000, bl_15)

@@ -18,7 +18,7 @@ pub fn is_wide(first: u16) -> bool
 /// The meaning of a pair of halfwords by the instruction table. The second matters only where `is_wide` holds of the
 /// first.
 #[inline(always)]
-#[tactic(auto, using(crate::proofs::Table::table, crate::proofs::Laws::alone, crate::proofs::Laws::sized))]
+#[tactic(auto, using(crate::proofs::Table::others, crate::proofs::Laws::alone, crate::proofs::Laws::sized))]
 pub fn decode(first: u16, second: u16) -> Decoded
     ensures row { result ≡ decoded_of first second }
     ensures range { IsInRange result }
@@ -85,7 +85,7 @@ pub fn decode_for(p: Profile, first: u16, second: u16) -> Decoded
 }
 
 /// LSL, LSR, ASR (immediate).
-#[tactic(auto, using(crate::proofs::Table::table))]
+#[tactic(auto, using(crate::proofs::Table::shifts))]
 fn shift_imm(first: u16, second: u16) -> Decoded
     requires { first < 0x1800 }
     ensures row { result ≡ decoded_of first second }
@@ -108,7 +108,7 @@ fn shift_imm(first: u16, second: u16) -> Decoded
 }
 
 /// ADD, SUB of a register or of three bits.
-#[tactic(auto, using(crate::proofs::Table::table))]
+#[tactic(auto, using(crate::proofs::Table::sums))]
 fn add_subtract(first: u16, second: u16) -> Decoded
     requires low { 0x1800 ≤ first }
     requires high { first < 0x2000 }
@@ -143,7 +143,7 @@ fn add_subtract(first: u16, second: u16) -> Decoded
 }
 
 /// Data processing of registers, and BX, BLX.
-#[tactic(auto, using(crate::proofs::Table::table))]
+#[tactic(auto, using(crate::proofs::Table::of_registers))]
 fn registers(first: u16, second: u16) -> Decoded
     requires low { 0x4000 ≤ first }
     requires high { first < 0x4800 }
@@ -171,7 +171,7 @@ fn registers(first: u16, second: u16) -> Decoded
 }
 
 /// BX, BLX (register).
-#[tactic(auto, using(crate::proofs::Table::table))]
+#[tactic(auto, using(crate::proofs::Table::exchanges))]
 fn branch_exchange(first: u16, second: u16) -> Decoded
     requires low { 0x4700 ≤ first }
     requires high { first < 0x4800 }
@@ -189,7 +189,7 @@ fn branch_exchange(first: u16, second: u16) -> Decoded
 }
 
 /// Loads and stores of one register.
-#[tactic(auto, using(crate::proofs::Table::table))]
+#[tactic(auto, using(crate::proofs::Table::transfers))]
 fn transfer(first: u16, second: u16) -> Decoded
     requires low { 0x4800 ≤ first }
     requires high { first < 0xa000 }
@@ -226,7 +226,7 @@ fn transfer(first: u16, second: u16) -> Decoded
 }
 
 /// Loads and stores at a register plus five bits, scaled by the size of what is moved.
-#[tactic(auto, using(crate::proofs::Table::table))]
+#[tactic(auto, using(crate::proofs::Table::transfers_imm))]
 fn transfer_imm(first: u16, second: u16) -> Decoded
     requires low { 0x6000 ≤ first }
     requires high { first < 0x9000 }
@@ -265,7 +265,7 @@ fn transfer_imm(first: u16, second: u16) -> Decoded
 }
 
 /// The block of miscellaneous instructions.
-#[tactic(auto, using(crate::proofs::Table::table))]
+#[tactic(auto, using(crate::proofs::Table::miscellany))]
 fn miscellaneous(first: u16, second: u16) -> Decoded
     requires low { 0xb000 ≤ first }
     requires high { first < 0xc000 }
@@ -298,7 +298,7 @@ fn miscellaneous(first: u16, second: u16) -> Decoded
 }
 
 /// ADD, SUB of an immediate to sp.
-#[tactic(auto, using(crate::proofs::Table::table))]
+#[tactic(auto, using(crate::proofs::Table::sp_sums))]
 fn adjust_sp(first: u16, second: u16) -> Decoded
     requires low { 0xb000 ≤ first }
     requires high { first < 0xb100 }
@@ -314,7 +314,7 @@ fn adjust_sp(first: u16, second: u16) -> Decoded
 }
 
 /// REV, REV16, REVSH.
-#[tactic(auto, using(crate::proofs::Table::table))]
+#[tactic(auto, using(crate::proofs::Table::reversals))]
 fn reverse(first: u16, second: u16) -> Decoded
     requires low { 0xba00 ≤ first }
     requires high { first < 0xbb00 }
@@ -330,7 +330,7 @@ fn reverse(first: u16, second: u16) -> Decoded
 }
 
 /// PUSH.
-#[tactic(auto, using(crate::proofs::Table::table))]
+#[tactic(auto, using(crate::proofs::Table::pushes))]
 fn push(first: u16, second: u16) -> Decoded
     requires low { 0xb400 ≤ first }
     requires high { first < 0xb600 }
@@ -349,7 +349,7 @@ fn push(first: u16, second: u16) -> Decoded
 }
 
 /// POP.
-#[tactic(auto, using(crate::proofs::Table::table))]
+#[tactic(auto, using(crate::proofs::Table::pops))]
 fn pop(first: u16, second: u16) -> Decoded
     requires low { 0xbc00 ≤ first }
     requires high { first < 0xbe00 }
@@ -368,7 +368,7 @@ fn pop(first: u16, second: u16) -> Decoded
 }
 
 /// STM, LDM.
-#[tactic(auto, using(crate::proofs::Table::table))]
+#[tactic(auto, using(crate::proofs::Table::lists))]
 fn multiple(first: u16, second: u16) -> Decoded
     requires low { 0xc000 ≤ first }
     requires high { first < 0xd000 }
@@ -388,7 +388,7 @@ fn multiple(first: u16, second: u16) -> Decoded
 }
 
 /// STM: the base may be in the list only as its lowest register.
-#[tactic(auto, using(crate::proofs::Table::table))]
+#[tactic(auto, using(crate::proofs::Table::stores))]
 fn store_multiple(first: u16, second: u16) -> Decoded
     requires low { 0xc000 ≤ first }
     requires high { first < 0xc800 }
@@ -412,7 +412,7 @@ fn store_multiple(first: u16, second: u16) -> Decoded
 }
 
 /// B with a condition, UDF, SVC.
-#[tactic(auto, using(crate::proofs::Table::table))]
+#[tactic(auto, using(crate::proofs::Table::conditions))]
 fn conditional(first: u16, second: u16) -> Decoded
     requires low { 0xd000 ≤ first }
     requires high { first < 0xe000 }

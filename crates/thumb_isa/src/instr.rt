@@ -4,7 +4,7 @@
 /// Registers are numbers 0 to 15 (13 is sp, 14 lr, 15 pc). A `list` has bit k set where register k is in it.
 /// `off` is in bytes: from the base register, or from the instruction's own address plus 4 for a branch. `op` holds the
 /// bits of the encoding's opcode field, except where a variant says otherwise.
-#[derive(Clone, Copy, Debug)]
+#[derive(Clone, Copy)]
 pub enum Instr {
     /// LSL, LSR, ASR (immediate): `op` 0, 1, 2; `n` is the amount, 0 to 31 for LSL and 1 to 32 for the others.
     ShiftImm { op: u8, d: u8, m: u8, n: u32 },
@@ -79,7 +79,7 @@ pub enum Instr {
 }
 
 /// What a pair of halfwords means.
-#[derive(Clone, Copy, Debug)]
+#[derive(Clone, Copy)]
 pub enum Decoded {
     /// An instruction, and its size in bytes, 2 or 4.
     Is(Instr, u32),
