@@ -6,7 +6,7 @@ ghost use Rattle.asm_statements.specs.Computations.{unsigned, offset, half, wide
 use thumb_isa::instr::Instr;
 
 /// What is computed of `rd, rm`.
-#[derive(Clone, Copy, Debug)]
+#[derive(Clone, Copy)]
 pub enum OfTwoRegisters {
     /// `movs`
     MovsReg,
@@ -26,7 +26,7 @@ pub enum OfTwoRegisters {
 }
 
 /// What is computed of `rd, rn, rm`.
-#[derive(Clone, Copy, Debug)]
+#[derive(Clone, Copy)]
 pub enum OfThreeRegisters {
     /// `adds`, and `subs` where true
     AddSubReg(bool),
@@ -35,7 +35,7 @@ pub enum OfThreeRegisters {
 }
 
 /// What is computed of `rd, #imm`.
-#[derive(Clone, Copy, Debug)]
+#[derive(Clone, Copy)]
 pub enum OfRegisterNumber {
     /// `movs`
     MovsImm,
@@ -50,7 +50,7 @@ pub enum OfRegisterNumber {
 }
 
 /// What is computed of `rd, rn, #imm`.
-#[derive(Clone, Copy, Debug)]
+#[derive(Clone, Copy)]
 pub enum OfTwoRegistersNumber {
     /// `adds`, and `subs` where true
     AddSubThree(bool),

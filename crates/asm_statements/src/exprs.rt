@@ -5,7 +5,6 @@ ghost use Rattle.asm_statements.specs.Exprs.{plain, lent_list};
 
 use crate::statement::Expr;
 use std::alloc::{AllocError, Global};
-use std::fmt;
 use std::marker::Model;
 
 /// How a list is kept.
@@ -142,22 +141,5 @@ impl Exprs {
             Held::Numbers(numbers) => numbers.shrink_to_fit(),
             Held::Mixed(exprs) => exprs.shrink_to_fit(),
         }
-    }
-}
-
-impl fmt::Debug for Exprs {
-    fn fmt<W: fmt::Write>(&self, f: &mut fmt::Formatter<W>) -> fmt::Result {
-        let mut out = f.debug_list();
-        match &self.held {
-            Held::Numbers(numbers) => {
-                for n in numbers {
-                    out.entry(&Expr::Num(*n));
-                }
-            }
-            Held::Mixed(exprs) => {
-                out.slice(exprs.as_slice());
-            }
-        }
-        out.finish()
     }
 }

@@ -17,7 +17,7 @@ pub struct Stmt {
 }
 
 /// An expression. Names stand for addresses that the assembler or the linker knows.
-#[derive(Debug, Drop)]
+#[derive(Drop)]
 pub enum Expr {
     /// A number.
     Num(i64),
@@ -37,7 +37,7 @@ pub enum Expr {
 
 /// The value of a word of the pool, in a box: an expression is the longest of what a statement has, and few have one.
 /// Contracts see the expression.
-#[derive(Debug, Drop)]
+#[derive(Drop)]
 pub struct PoolValue {
     expr: Box<Expr>,
 }
@@ -73,7 +73,7 @@ impl PoolValue {
 /// Registers are 0 to 15 (13 is sp, 14 lr, 15 pc); whether an instruction takes them is not looked at here. A `list` has
 /// bit k set where register k is in it. Numbers are within -2,147,483,648 to 4,294,967,295. `op` and `cond` are the
 /// fields of the instruction's encoding (Armv6-M Architecture Reference Manual, DDI 0419; Armv8-M Baseline, DDI 0553).
-#[derive(Debug, Drop)]
+#[derive(Drop)]
 pub enum StmtKind {
     /// `name:`
     Label(Name),

@@ -214,6 +214,28 @@ pub trait Telling {
     fn tell(&self, text: &mut Text, question: &str);
 }
 
+/// What tells of the pieces of a question, one after the other.
+pub trait Pieces {
+    /// Tells of a piece.
+    fn tell_piece(&mut self, text: &mut Text, piece: &str);
+}
+
+impl Text {
+    /// Tells of the pieces that have a text between them.
+    pub fn tell_pieces<P: Pieces>(&mut self, of: &mut P, pieces: &str, between: &str) {
+        for piece in pieces.split(between) {
+            of.tell_piece(self, piece);
+        }
+    }
+
+    /// Tells of lines.
+    pub fn tell_lines<P: Pieces>(&mut self, of: &mut P, lines: &str) {
+        for line in lines.lines() {
+            of.tell_piece(self, line);
+        }
+    }
+}
+
 /// What is asked where answers are told.
 #[derive(Drop)]
 struct Grown<'a, T> {

@@ -8,7 +8,7 @@ pub mod rows;
 pub mod unanswered;
 pub mod words;
 
-pub use growing::{Telling, Text, run_telling};
+pub use growing::{Pieces, Telling, Text, run_telling};
 pub use rows::{Asked, run_file};
 pub use unanswered::{Unanswered, want_of_memory};
 pub use words::{decimal, first_word, number, number_at, numbers};

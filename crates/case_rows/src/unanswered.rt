@@ -6,7 +6,7 @@ use std::alloc::{AllocError, AllocFailed, Global};
 use std::io::{Error, ErrorKind};
 
 /// Why a question has no answer. All but the last are written where the answer would stand.
-#[derive(Debug, Drop)]
+#[derive(Drop)]
 pub enum Unanswered {
     /// A word that has to be a number is none, or none of 32 bits.
     NotNumber,

@@ -1,8 +1,7 @@
 //! What halfwords stand for (docs/instruction-set.md).
-use case_rows::{Asked, Unanswered, first_word};
-use std::alloc::Global;
+use crate::shown::say_decoded;
+use case_rows::{Telling, Text, Unanswered, first_word};
 use thumb_isa::decode::{decode, decode_for, is_wide};
-use thumb_isa::instr::Decoded;
 use thumb_isa::profile::Profile;
 
 /// `FIRST SECOND`: what two halfwords stand for, and how many bytes it has; or why they are no instruction.
@@ -15,52 +14,44 @@ pub struct BothProfiles;
 pub struct Widths;
 
 /// The halfword of a word of a question.
-pub fn halfword(word: &str) -> Option<u16> {
-    u16::from_str_radix(word, 16).ok()
+pub fn halfword(text: &mut Text, word: &str) -> u16 {
+    let number = text.hex(word);
+    if number >= 0x1_0000 {
+        text.refuse(Unanswered::NotNumber);
+    }
+    (number % 0x1_0000) as u16
 }
 
-/// What the halfwords of a question stand for.
-fn decoded(question: &str) -> Option<Decoded> {
+/// The two halfwords of a question.
+fn halfwords(text: &mut Text, question: &str) -> (u16, u16) {
     let (first, second) = first_word(question);
-    Some(decode(halfword(first)?, halfword(second)?))
+    (halfword(text, first), halfword(text, second))
 }
 
-/// What they stand for in each profile.
-fn decoded_in_both(question: &str) -> Option<(Decoded, Decoded)> {
-    let (first, second) = first_word(question);
-    let (first, second) = (halfword(first)?, halfword(second)?);
-    Some((
-        decode_for(Profile::One, first, second),
-        decode_for(Profile::Two, first, second),
-    ))
-}
-
-impl Asked for Decoding {
-    fn answer(&self, alloc: Global, question: &str) -> Result<String, Unanswered> {
-        match decoded(question) {
-            Some(decoded) => Ok(format!(in alloc; "{decoded:?}")?),
-            None => Err(Unanswered::Because("no halfwords")),
-        }
+impl Telling for Decoding {
+    fn tell(&self, text: &mut Text, question: &str) {
+        let (first, second) = halfwords(text, question);
+        say_decoded(text, decode(first, second));
     }
 }
 
-impl Asked for BothProfiles {
-    fn answer(&self, alloc: Global, question: &str) -> Result<String, Unanswered> {
-        match decoded_in_both(question) {
-            Some((one, two)) => Ok(format!(in alloc; "{one:?} | {two:?}")?),
-            None => Err(Unanswered::Because("no halfwords")),
-        }
+/// Adds what halfwords stand for in a profile.
+fn show_for(text: &mut Text, profile: Profile, first: u16, second: u16) {
+    say_decoded(text, decode_for(profile, first, second));
+}
+
+impl Telling for BothProfiles {
+    fn tell(&self, text: &mut Text, question: &str) {
+        let (first, second) = halfwords(text, question);
+        show_for(text, Profile::One, first, second);
+        text.say(" | ");
+        show_for(text, Profile::Two, first, second);
     }
 }
 
-impl Asked for Widths {
-    fn answer(&self, alloc: Global, question: &str) -> Result<String, Unanswered> {
-        match halfword(question) {
-            Some(first) => {
-                let size = if is_wide(first) { 4 } else { 2 };
-                Ok(format!(in alloc; "{size} bytes")?)
-            }
-            None => Err(Unanswered::Because("no halfword")),
-        }
+impl Telling for Widths {
+    fn tell(&self, text: &mut Text, question: &str) {
+        let is_wide = is_wide(halfword(text, question));
+        text.say(if is_wide { "4 bytes" } else { "2 bytes" });
     }
 }

@@ -1,7 +1,7 @@
 //! What a question gives a core: a program, registers and flags, how many steps it does, and the words of its memory that are
 //! asked for.
 use crate::decoding::halfword;
-use std::alloc::Global;
+use case_rows::{Pieces, Text, Unanswered};
 use thumb_core::regs::Regs;
 
 /// The address of the program.
@@ -28,6 +28,17 @@ fn zeros() -> Regs {
     }
 }
 
+/// The four bits of a word.
+fn bits(text: &mut Text, word: &str) -> u8 {
+    match u8::from_str_radix(word, 2) {
+        Ok(bits) => bits,
+        Err(_why) => {
+            text.refuse(Unanswered::NotNumber);
+            0
+        }
+    }
+}
+
 /// Sets the flags by four bits: N, Z, C and V, the highest first.
 fn set_flags(regs: &mut Regs, bits: u8) {
     regs.n = bits / 8 % 2 == 1;
@@ -36,61 +47,79 @@ fn set_flags(regs: &mut Regs, bits: u8) {
     regs.v = bits % 2 == 1;
 }
 
-/// Sets the register of a number.
-fn set_register(regs: &mut Regs, register: usize, value: u32) -> Option<()> {
-    let place = regs.r.get_mut(register)?;
-    *place = value;
-    Some(())
+/// The number of a register, `r0` to `r14`.
+fn register(text: &mut Text, name: &str) -> usize {
+    match name.strip_prefix("r") {
+        Some(number) => text.decimal(number) as usize,
+        None => {
+            text.refuse(Unanswered::NotKnown);
+            0
+        }
+    }
 }
 
-/// The number that a word writes by hexadecimal digits.
-fn number(word: &str) -> Option<u32> {
-    u32::from_str_radix(word, 16).ok()
+/// Sets the register of a name.
+fn set_register(text: &mut Text, regs: &mut Regs, name: &str, value: u32) {
+    let register = register(text, name);
+    if register < 15 {
+        regs.r[register] = value;
+    } else {
+        text.refuse(Unanswered::NotKnown);
+    }
+}
+
+/// The word at an address is asked for.
+fn ask(text: &mut Text, asked: &mut Vec<u32>, address: u32) {
+    if asked.push(address).is_err() {
+        text.want_memory();
+    }
 }
 
 /// Takes `WHAT=VALUE`, but for the flags.
-fn set(start: &mut Start, what: &str, value: u32) -> Option<()> {
+fn set(text: &mut Text, start: &mut Start, what: &str, value: u32) {
     match what {
         "steps" => start.steps = value,
         "pc" => start.regs.pc = value,
-        "at" => start.asked.push(value).ok()?,
-        _ => set_register(
-            &mut start.regs,
-            what.strip_prefix("r")?.parse().ok()?,
-            value,
-        )?,
+        "at" => ask(text, &mut start.asked, value),
+        _ => set_register(text, &mut start.regs, what, value),
     }
-    Some(())
+}
+
+/// Takes `WHAT=VALUE`.
+fn take_setting(text: &mut Text, start: &mut Start, what: &str, value: &str) {
+    if what == "flags" {
+        set_flags(&mut start.regs, bits(text, value));
+    } else {
+        let value = text.hex(value);
+        set(text, start, what, value);
+    }
 }
 
 /// Adds a halfword of the program.
-fn push_halfword(start: &mut Start, halfword: u16) -> Option<()> {
-    start.code.extend_from_slice(&halfword.to_le_bytes()).ok()
+fn push_halfword(text: &mut Text, start: &mut Start, word: &str) {
+    let halfword = halfword(text, word);
+    text.note(start.code.extend_from_slice(&halfword.to_le_bytes()));
 }
 
-/// Takes a word: a halfword of the program, or `WHAT=VALUE`.
-fn take(start: &mut Start, word: &str) -> Option<()> {
-    match word.split_once('=') {
-        None => push_halfword(start, halfword(word)?),
-        Some((what, value)) if what == "flags" => {
-            set_flags(&mut start.regs, u8::from_str_radix(value, 2).ok()?);
-            Some(())
+impl Pieces for Start {
+    /// Takes a word: a halfword of the program, or `WHAT=VALUE`.
+    fn tell_piece(&mut self, text: &mut Text, piece: &str) {
+        match piece.split_once('=') {
+            None => push_halfword(text, self, piece),
+            Some((what, value)) => take_setting(text, self, what, value),
         }
-        Some((what, value)) => set(start, what, number(value)?),
     }
 }
 
 /// What a question gives: halfwords of a program, `r0=VALUE` to `r14=VALUE`, `pc=VALUE`, `flags=NZCV` by bits, `steps=COUNT`, and
 /// `at=ADDRESS` for each word that is asked for.
-pub fn start_of(alloc: Global, question: &str) -> Option<Start> {
+pub fn start_of(text: &mut Text, question: &str) -> Start {
     let mut start = Start {
-        code: Vec::new(alloc),
+        code: Vec::new(text.alloc()),
         regs: zeros(),
         steps: 1,
-        asked: Vec::new(alloc),
+        asked: Vec::new(text.alloc()),
     };
-    for word in question.split(' ') {
-        take(&mut start, word)?;
-    }
-    Some(start)
+    text.tell_pieces(&mut start, question, " ");
+    start
 }

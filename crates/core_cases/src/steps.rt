@@ -4,11 +4,11 @@ ghost use Rattle.core_cases.specs.declared.steps.TheConstants.{MOST_BYTES};
 
 use crate::start::{PROGRAM, Start, start_of};
 use bus_memories::flat::FlatBus;
-use case_rows::{Asked, Unanswered};
+use case_rows::{Telling, Text};
 use eh_bus::bus::Bus;
 use eh_bus::fault::{BusFault, BusMemory};
 use eh_bus::segment::SegmentSpec;
-use std::alloc::{AllocError, Global};
+use std::alloc::Global;
 use thumb_core::regs::{CoreTrap, Regs, Stepped};
 use thumb_core::step::step_for;
 use thumb_isa::profile::Profile;
@@ -42,139 +42,143 @@ fn go(profile: Profile, regs: &mut Regs, bus: &mut FlatBus) -> Stepped {
     step_for(profile, regs, bus)
 }
 
-/// Adds why a memory refuses an access, and the address.
-fn push_fault(answer: &mut String, fault: BusFault) -> Result<(), AllocError> {
-    let (why, address) = match fault {
+/// Why a memory refuses an access, and the address.
+fn refused(fault: BusFault) -> (&'static str, u32) {
+    match fault {
         BusFault::Unmapped(address) => ("unmapped", address),
         BusFault::Unaligned(address) => ("unaligned", address),
         BusFault::ReadOnly(address) => ("read only", address),
         BusFault::SavedSlot(address) => ("saved slot", address),
         BusFault::Protected(address) => ("protected", address),
         BusFault::NotExecutable(address) => ("not executable", address),
-    };
-    write!(answer, "trap {why} {address:X}")
+    }
+}
+
+/// Adds why nothing was done, and what for.
+fn say_trapped(text: &mut Text, why: &str, what: u32) {
+    text.say("trap ");
+    text.say(why);
+    text.say(" ");
+    text.say_hex(what);
+}
+
+/// Adds why a memory refuses an access, and the address.
+fn say_fault(text: &mut Text, fault: BusFault) {
+    let (why, address) = refused(fault);
+    say_trapped(text, why, address);
 }
 
 /// Adds why nothing was done.
-fn push_trap(answer: &mut String, trap: CoreTrap) -> Result<(), AllocError> {
-    let (why, what) = match trap {
-        CoreTrap::Undefined(first) => ("undefined", first),
-        CoreTrap::Unpredictable(first) => ("unpredictable", first),
-        CoreTrap::NotInProfile(first) => ("not in profile", first),
-        CoreTrap::EvenTarget(target) => ("even target", target),
-        CoreTrap::Memory(fault) => return push_fault(answer, fault),
-    };
-    write!(answer, "trap {why} {what:X}")
+fn say_trap(text: &mut Text, trap: CoreTrap) {
+    match trap {
+        CoreTrap::Undefined(first) => say_trapped(text, "undefined", first),
+        CoreTrap::Unpredictable(first) => say_trapped(text, "unpredictable", first),
+        CoreTrap::NotInProfile(first) => say_trapped(text, "not in profile", first),
+        CoreTrap::EvenTarget(target) => say_trapped(text, "even target", target),
+        CoreTrap::Memory(fault) => say_fault(text, fault),
+    }
+}
+
+/// Adds a word, and a number behind it.
+fn say_number(text: &mut Text, word: &str, number: u32) {
+    text.say(word);
+    text.say_hex(number);
+}
+
+/// Adds a call.
+fn say_call(text: &mut Text, target: u32, ret: u32) {
+    say_number(text, "call ", target);
+    say_number(text, " from ", ret);
 }
 
 /// Adds what a step gives.
-fn push_step(answer: &mut String, stepped: Stepped) -> Result<(), AllocError> {
+fn say_step(text: &mut Text, stepped: Stepped) {
     match stepped {
-        Stepped::Done => answer.push_str("done"),
-        Stepped::Call { target, ret } => write!(answer, "call {target:X} from {ret:X}"),
-        Stepped::Return { to } => write!(answer, "return to {to:X}"),
-        Stepped::Gate(gate) => write!(answer, "gate {gate}"),
-        Stepped::Trap(trap) => push_trap(answer, trap),
+        Stepped::Done => text.say("done"),
+        Stepped::Call { target, ret } => say_call(text, target, ret),
+        Stepped::Return { to } => say_number(text, "return to ", to),
+        Stepped::Gate(gate) => write!(text, "gate {gate}"),
+        Stepped::Trap(trap) => say_trap(text, trap),
     }
 }
 
 /// Adds what so many steps give.
-fn push_steps(
-    answer: &mut String,
-    profile: Profile,
-    regs: &mut Regs,
-    bus: &mut FlatBus,
-    steps: u32,
-) -> Result<(), AllocError> {
+fn say_steps(text: &mut Text, profile: Profile, regs: &mut Regs, bus: &mut FlatBus, steps: u32) {
     for _ in 0..steps {
-        let stepped = go(profile, regs, bus);
-        push_step(answer, stepped)?;
-        answer.push_str("; ")?;
+        say_step(text, go(profile, regs, bus));
+        text.say("; ");
     }
-    Ok(())
 }
 
 /// Adds a register that isn't as it was.
-fn push_changed(
-    answer: &mut String,
-    register: usize,
-    old: u32,
-    new: u32,
-) -> Result<(), AllocError> {
-    if old == new {
-        return Ok(());
+fn say_changed(text: &mut Text, register: usize, old: u32, new: u32) {
+    if old != new {
+        write!(text, "r{register}={new:X} ");
     }
-    write!(answer, "r{register}={new:X} ")
 }
 
 /// Adds the registers that aren't as they were.
-fn push_registers(answer: &mut String, old: &Regs, new: &Regs) -> Result<(), AllocError> {
+fn say_registers(text: &mut Text, old: &Regs, new: &Regs) {
     for register in 0..old.r.len() {
-        push_changed(answer, register, old.r[register], new.r[register])?;
+        say_changed(text, register, old.r[register], new.r[register]);
     }
-    Ok(())
+}
+
+/// Adds a flag by its bit.
+fn say_flag(text: &mut Text, flag: bool) {
+    text.say(if flag { "1" } else { "0" });
 }
 
 /// Adds pc, and N, Z, C and V by four bits.
-fn push_flags(answer: &mut String, regs: &Regs) -> Result<(), AllocError> {
-    let pc = regs.pc;
-    let (n, z) = (u8::from(regs.n), u8::from(regs.z));
-    let (c, v) = (u8::from(regs.c), u8::from(regs.v));
-    write!(answer, "pc={pc:X} flags={n}{z}{c}{v}")
+fn say_flags(text: &mut Text, regs: &Regs) {
+    say_number(text, "pc=", regs.pc);
+    text.say(" flags=");
+    say_flag(text, regs.n);
+    say_flag(text, regs.z);
+    say_flag(text, regs.c);
+    say_flag(text, regs.v);
 }
 
 /// Adds a word of a memory.
-fn push_word(answer: &mut String, bus: &FlatBus, address: u32) -> Result<(), AllocError> {
+fn say_word(text: &mut Text, bus: &FlatBus, address: u32) {
     match bus.load32(address) {
-        Ok(word) => write!(answer, " {address:X}={word:X}"),
-        Err(fault) => push_fault(answer, fault),
+        Ok(word) => {
+            say_number(text, " ", address);
+            say_number(text, "=", word);
+        }
+        Err(fault) => say_fault(text, fault),
     }
 }
 
-fn push_words(answer: &mut String, bus: &FlatBus, asked: &[u32]) -> Result<(), AllocError> {
+fn say_words(text: &mut Text, bus: &FlatBus, asked: &[u32]) {
     for address in asked {
-        push_word(answer, bus, *address)?;
+        say_word(text, bus, *address);
     }
-    Ok(())
 }
 
 /// Adds what a core does on a memory.
-fn push_done(
-    answer: &mut String,
-    profile: Profile,
-    start: &Start,
-    bus: &mut FlatBus,
-) -> Result<(), AllocError> {
+fn say_done(text: &mut Text, profile: Profile, start: &Start, bus: &mut FlatBus) {
     let mut regs = start.regs;
-    push_steps(answer, profile, &mut regs, bus, start.steps)?;
-    push_registers(answer, &start.regs, &regs)?;
-    push_flags(answer, &regs)?;
-    push_words(answer, bus, start.asked.as_slice())
+    say_steps(text, profile, &mut regs, bus, start.steps);
+    say_registers(text, &start.regs, &regs);
+    say_flags(text, &regs);
+    say_words(text, bus, &start.asked);
 }
 
 /// Adds what a core does.
-fn push_run(
-    alloc: Global,
-    answer: &mut String,
-    profile: Profile,
-    start: &Start,
-) -> Result<(), AllocError> {
+fn say_run(text: &mut Text, profile: Profile, start: &Start) {
     if start.code.len() > MOST_BYTES {
-        return answer.push_str("the program is too long");
+        return text.say("the program is too long");
     }
-    match bus_of(alloc, start.code.as_slice()) {
-        Ok(mut bus) => push_done(answer, profile, start, &mut bus),
-        Err(_wanting) => answer.push_str("no memory"),
+    match bus_of(text.alloc(), &start.code) {
+        Ok(mut bus) => say_done(text, profile, start, &mut bus),
+        Err(_wanting) => text.want_memory(),
     }
 }
 
-impl Asked for Steps {
-    fn answer(&self, alloc: Global, question: &str) -> Result<String, Unanswered> {
-        let Some(start) = start_of(alloc, question) else {
-            return Err(Unanswered::Because("no program"));
-        };
-        let mut answer = String::new(alloc);
-        push_run(alloc, &mut answer, self.profile, &start)?;
-        Ok(answer)
+impl Telling for Steps {
+    fn tell(&self, text: &mut Text, question: &str) {
+        let start = start_of(text, question);
+        say_run(text, self.profile, &start);
     }
 }

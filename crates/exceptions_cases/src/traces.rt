@@ -1,7 +1,7 @@
 //! The text of traces, as docs/exceptions.md has it: events, and their lines with `|` in place of line feeds. Numbers are hexadecimal.
 ghost use Rattle.std.specs.Prelude.{◌==◌, if◌then◌else◌, []};
 
-use case_rows::{Telling, Text, Unanswered, decimal, first_word, numbers};
+use case_rows::{Pieces, Telling, Text, Unanswered, decimal, first_word, numbers};
 use eh_trace::{Event, EventKind, Events, TypeNames, trace_lines};
 use eh_word::Name;
 use elf_image::{Image, read_image};
@@ -138,10 +138,15 @@ fn push(text: &mut Text, events: &mut Events, item: &str) {
     }
 }
 
-/// Adds the events of items with `, ` between them.
-fn push_all(text: &mut Text, events: &mut Events, items: &str) {
-    for item in items.split(", ") {
-        push(text, events, item);
+/// Events to which those of items are added.
+#[derive(Drop)]
+struct Listed {
+    events: Events,
+}
+
+impl Pieces for Listed {
+    fn tell_piece(&mut self, text: &mut Text, piece: &str) {
+        push(text, &mut self.events, piece);
     }
 }
 
@@ -243,9 +248,10 @@ fn tell_events(text: &mut Text, what: &str, events: &Events) {
 /// Tells what is asked of the events of items.
 fn tell_items(text: &mut Text, what: &str, items: &str) {
     match Events::reserve(text.alloc()) {
-        Ok(mut events) => {
-            push_all(text, &mut events, items);
-            tell_events(text, what, &events);
+        Ok(events) => {
+            let mut listed = Listed { events };
+            text.tell_pieces(&mut listed, items, ", ");
+            tell_events(text, what, &listed.events);
         }
         Err(_) => text.want_memory(),
     }

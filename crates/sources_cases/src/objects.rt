@@ -134,9 +134,18 @@ fn say_part_of(text: &mut Text, part: &str, source: &str) {
     }
 }
 
-/// The text of a file of the folder where the program runs.
+/// Where a file of this layer's folder stands.
+fn path_of(text: &mut Text, name: &str) -> Option<String> {
+    let mut path = Text::new(text.alloc());
+    path.say("sources/");
+    path.say(name);
+    text.taken(path.finish())
+}
+
+/// The text of a file of this layer's folder.
 pub fn text_in(text: &mut Text, host: &HostRuntime, name: &str) -> Option<String> {
-    match fs::read_to_string(host, name) {
+    let path = path_of(text, name)?;
+    match fs::read_to_string(host, path.as_str()) {
         Ok(source) => Some(source),
         Err(why) => {
             text.refuse(Unanswered::Failed(why));

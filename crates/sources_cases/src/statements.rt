@@ -1,5 +1,6 @@
 //! What a source is read as (docs/source-language.md).
-use crate::texts::{asked, say_shown};
+use crate::shown::say_kind;
+use crate::texts::asked;
 use asm_read::Stmt;
 use case_rows::{Telling, Text};
 
@@ -12,13 +13,9 @@ pub struct Statements;
 
 /// Adds a statement and its line.
 fn say_statement(text: &mut Text, stmt: &Stmt) {
-    let mut shown = Text::new(text.alloc());
-    shown.show(&stmt.kind);
     text.say_decimal(stmt.line);
     text.say(" ");
-    if let Some(shown) = text.taken(shown.finish()) {
-        say_shown(text, shown.as_str());
-    }
+    say_kind(text, &stmt.kind);
 }
 
 fn say_each(text: &mut Text, stmts: &[Stmt]) {

@@ -150,31 +150,3 @@ pub fn say_words(text: &mut Text, words: &[u32]) {
         text.say_hex(*word);
     }
 }
-
-/// Adds the bytes of a name by their numbers.
-fn say_numbers(text: &mut Text, numbers: &str) {
-    for number in numbers.split(", ") {
-        if let Ok(byte) = number.parse::<u8>() {
-            say_byte(text, byte);
-        }
-    }
-}
-
-/// Adds a name by the numbers of its bytes, between double quotes, and what is shown after it.
-fn say_name(text: &mut Text, shown: &str) {
-    let (numbers, after) = shown.split_once("] }").unwrap_or((shown, ""));
-    text.say("\"");
-    say_numbers(text, numbers);
-    text.say("\"");
-    text.say(after);
-}
-
-/// Adds what is shown of a value, each name in it as a text.
-pub fn say_shown(text: &mut Text, shown: &str) {
-    for piece in shown.split("Name { bytes: ") {
-        match piece.strip_prefix("[") {
-            Some(name) => say_name(text, name),
-            None => text.say(piece),
-        }
-    }
-}

@@ -1,7 +1,7 @@
 //! Calls over one memory that threads share, one after the other with `; ` between them, each with what it answers.
 use crate::exceptions::say_exception;
 use bus_memories::flat::FlatBus;
-use case_rows::{Telling, Text, Unanswered, first_word, numbers};
+use case_rows::{Pieces, Telling, Text, Unanswered, first_word};
 use eh_bus::bus::Bus;
 use eh_bus::fault::BusFault;
 use eh_bus::map::{STACK_END, STACK_START};
@@ -139,11 +139,8 @@ fn store(text: &mut Text, bus: &mut Memory, size: u32, words: &str) {
 /// `run A WORDS..`: words are stored upwards.
 fn store_run(text: &mut Text, bus: &mut Memory, words: &str) {
     let (a, words) = text.first_hex(words);
-    let words = numbers(text.alloc(), words);
-    if let Some(words) = text.taken(words) {
-        let done = bus.store_run(a, words.as_slice());
-        say_stored(text, done);
-    }
+    let words = text.numbers(words);
+    say_stored(text, bus.store_run(a, &words));
 }
 
 /// `load A`: the word there.
@@ -181,14 +178,14 @@ fn say_call(text: &mut Text, shared: &mut Shared, call: &str) {
 impl Telling for InMemory {
     fn tell(&self, text: &mut Text, question: &str) {
         match start(text.alloc()) {
-            Some(shared) => say_calls(text, shared, question),
+            Some(mut shared) => text.tell_pieces(&mut shared, question, "; "),
             None => text.want_memory(),
         }
     }
 }
 
-fn say_calls(text: &mut Text, mut shared: Shared, calls: &str) {
-    for call in calls.split("; ") {
-        say_call(text, &mut shared, call);
+impl Pieces for Shared {
+    fn tell_piece(&mut self, text: &mut Text, piece: &str) {
+        say_call(text, self, piece);
     }
 }

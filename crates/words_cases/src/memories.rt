@@ -4,7 +4,7 @@ ghost use Rattle.eh_bus.specs.Built.{CanBuild};
 use crate::accesses::say_access;
 use bus_memories::flat::FlatBus;
 use bus_memories::paged::PagedBus;
-use case_rows::{Text, first_word};
+use case_rows::{Pieces, Text, first_word};
 use eh_bus::fault::BusMemory;
 use eh_bus::segment::SegmentSpec;
 use std::alloc::Global;
@@ -92,6 +92,30 @@ fn last_bytes(alloc: Global) -> Result<PagedBus, BusMemory> {
     PagedBus::build(alloc, &[last])
 }
 
+/// Segments one after the other, of which accesses are made.
+#[derive(Drop)]
+struct InSegments {
+    bus: FlatBus,
+}
+
+/// Pages, of which accesses are made.
+#[derive(Drop)]
+struct InPages {
+    bus: PagedBus,
+}
+
+impl Pieces for InSegments {
+    fn tell_piece(&mut self, text: &mut Text, piece: &str) {
+        say_access(text, &mut self.bus, piece);
+    }
+}
+
+impl Pieces for InPages {
+    fn tell_piece(&mut self, text: &mut Text, piece: &str) {
+        say_of_pages(text, &mut self.bus, piece);
+    }
+}
+
 /// A byte of a page.
 fn byte_of_page(bus: &PagedBus, number: u32, place: usize) -> Option<u8> {
     bus.page(number)?.get(place).copied()
@@ -122,11 +146,7 @@ fn say_of_pages(text: &mut Text, bus: &mut PagedBus, access: &str) {
 /// Adds what accesses of pages answer.
 fn tell_paged(text: &mut Text, built: Result<PagedBus, BusMemory>, question: &str) {
     match built {
-        Ok(mut bus) => {
-            for access in question.split(", ") {
-                say_of_pages(text, &mut bus, access);
-            }
-        }
+        Ok(bus) => text.tell_pieces(&mut InPages { bus }, question, ", "),
         Err(_fault) => text.want_memory(),
     }
 }
@@ -134,11 +154,7 @@ fn tell_paged(text: &mut Text, built: Result<PagedBus, BusMemory>, question: &st
 /// Adds what accesses of segments answer.
 fn tell_flat(text: &mut Text, built: Result<FlatBus, BusMemory>, question: &str) {
     match built {
-        Ok(mut bus) => {
-            for access in question.split(", ") {
-                say_access(text, &mut bus, access);
-            }
-        }
+        Ok(bus) => text.tell_pieces(&mut InSegments { bus }, question, ", "),
         Err(_fault) => text.want_memory(),
     }
 }

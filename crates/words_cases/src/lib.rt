@@ -1,4 +1,4 @@
-//! Runs the cases of data/ on words and on memories: a line is a question, ` : ` and the answer to it, by hand from
+//! Runs the cases of words/, in the data/ of layer_cases, on words and on memories: a line is a question, ` : ` and the answer to it, by hand from
 //! docs/memory-map.md and the standards that the pages under docs/ name. What differs is written, and of each file how many lines
 //! are right.
 #![tactic(auto)]
@@ -19,12 +19,12 @@ enum About {
 
 /// The files of rows in the order in which they are asked.
 static FILES: [(&str, About); 6] = [
-    ("numbers.txt", About::Numbers),
-    ("sample.txt", About::Memory(Memory::SampleFlat)),
-    ("sample.txt", About::Memory(Memory::SamplePaged)),
-    ("two_pages.txt", About::Memory(Memory::TwoPages)),
-    ("touching.txt", About::Memory(Memory::Touching)),
-    ("last_bytes.txt", About::Memory(Memory::LastBytes)),
+    ("words/numbers.txt", About::Numbers),
+    ("words/sample.txt", About::Memory(Memory::SampleFlat)),
+    ("words/sample.txt", About::Memory(Memory::SamplePaged)),
+    ("words/two_pages.txt", About::Memory(Memory::TwoPages)),
+    ("words/touching.txt", About::Memory(Memory::Touching)),
+    ("words/last_bytes.txt", About::Memory(Memory::LastBytes)),
 ];
 
 impl Telling for About {
@@ -36,9 +36,10 @@ impl Telling for About {
     }
 }
 
-fn main(host: HostRuntime) -> Result<(), Error> {
+/// Asks all rows.
+pub fn run(host: &HostRuntime) -> Result<(), Error> {
     for (name, about) in FILES.iter() {
-        run_telling(&host, *name, about)?;
+        run_telling(host, *name, about)?;
     }
     Ok(())
 }

@@ -1,4 +1,4 @@
-//! Runs the cases of data/ on the reader of generic entries and their language-specific data areas. Answers are by hand from
+//! Runs the cases of gnu/, in the data/ of layer_cases, on the reader of generic entries and their language-specific data areas. Answers are by hand from
 //! docs/gnu-tables.md.
 #![tactic(auto)]
 
@@ -28,30 +28,30 @@ struct File {
     about: About,
 }
 
-/// The files of data/, in the order in which they are asked.
+/// The files of rows, in the order in which they are asked.
 static FILES: [File; 6] = [
     File {
-        name: "signed.txt",
+        name: "gnu/signed.txt",
         about: About::Signed,
     },
     File {
-        name: "unsigned.txt",
+        name: "gnu/unsigned.txt",
         about: About::Unsigned,
     },
     File {
-        name: "entries.txt",
+        name: "gnu/entries.txt",
         about: About::Entries,
     },
     File {
-        name: "changes.txt",
+        name: "gnu/changes.txt",
         about: About::Changes,
     },
     File {
-        name: "tables.txt",
+        name: "gnu/tables.txt",
         about: About::Tables,
     },
     File {
-        name: "translations.txt",
+        name: "gnu/translations.txt",
         about: About::Translations,
     },
 ];
@@ -69,9 +69,10 @@ impl Telling for About {
     }
 }
 
-fn main(host: HostRuntime) -> Result<(), Error> {
+/// Asks all rows.
+pub fn run(host: &HostRuntime) -> Result<(), Error> {
     for file in FILES.iter() {
-        run_telling(&host, file.name, &file.about)?;
+        run_telling(host, file.name, &file.about)?;
     }
     Ok(())
 }

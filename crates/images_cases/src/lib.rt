@@ -1,4 +1,4 @@
-//! Runs the cases of data/ on the reader and the writer of ELF images and on the exception index. Answers are by hand from docs/elf.md and
+//! Runs the cases of images/, in the data/ of layer_cases, on the reader and the writer of ELF images and on the exception index. Answers are by hand from docs/elf.md and
 //! docs/unwind-index.md.
 #![tactic(auto)]
 
@@ -19,9 +19,9 @@ enum About {
 
 /// The files of rows in the order in which they are asked.
 static FILES: [(&str, About); 3] = [
-    ("reading.txt", About::ByHand),
-    ("refused.txt", About::ByHand),
-    ("indexes.txt", About::Indexes),
+    ("images/reading.txt", About::ByHand),
+    ("images/refused.txt", About::ByHand),
+    ("images/indexes.txt", About::Indexes),
 ];
 
 /// What the rows of a file ask, and the text of the file by hand.
@@ -40,14 +40,15 @@ impl<'a> Telling for Asked<'a> {
     }
 }
 
-fn main(host: HostRuntime) -> Result<(), Error> {
-    let by_hand = fs::read_to_string(&host, "hand.bytes")?;
+/// Asks all rows.
+pub fn run(host: &HostRuntime) -> Result<(), Error> {
+    let by_hand = fs::read_to_string(host, "images/hand.bytes")?;
     for (name, about) in FILES.iter() {
         let asked = Asked {
             about,
             by_hand: by_hand.as_str(),
         };
-        run_telling(&host, *name, &asked)?;
+        run_telling(host, *name, &asked)?;
     }
     Ok(())
 }

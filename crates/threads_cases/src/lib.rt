@@ -1,0 +1,20 @@
+//! Runs the cases of threads/, in the data/ of layer_cases: calls over the memory of several threads, texts of schedules, and lines with tags. A line is a question, ` : ` and
+//! the answer to it, by hand from docs/threads.md. What differs is written, and of each file how many lines are right.
+#![tactic(auto)]
+
+mod exceptions;
+mod memory;
+mod texts;
+
+use case_rows::run_telling;
+use memory::InMemory;
+use std::io::Error;
+use texts::{Schedules, Tagged};
+
+/// Asks all rows.
+pub fn run(host: &HostRuntime) -> Result<(), Error> {
+    run_telling(host, "threads/guards.txt", &InMemory)?;
+    run_telling(host, "threads/slots.txt", &InMemory)?;
+    run_telling(host, "threads/schedules.txt", &Schedules)?;
+    run_telling(host, "threads/tags.txt", &Tagged)
+}
