@@ -10,3 +10,4 @@ pub mod Near
 pub mod RecipeLaws
 pub mod Fresh
 pub mod Next
+pub mod Saves

@@ -1,10 +1,11 @@
 //! Codes are run on the registers of a frame, over a memory (IHI 0038, "Frame unwinding instructions"). docs/unwind-bytecode.md has
 //! the table.
-ghost use Rattle.std.specs.Prelude.{◌≡◌, ◌+◌, ◌-◌, ◌*◌, ◌/◌, ◌%◌, ◌^◌, ◌<◌, ◌≤◌, ◌==◌, length, IfOk, IfErr, Ok, Err};
+ghost use Rattle.std.specs.Prelude.{◌≡◌, List, ◌∷◌, ◌+◌, ◌-◌, ◌*◌, ◌/◌, ◌%◌, ◌^◌, ◌<◌, ◌≤◌, ◌==◌, length, IfOk, IfErr, Ok, Err};
 ghost use Rattle.std.specs.Int.{bit_at};
 ghost use Rattle.thumb_core.specs.Words.{load_words, loads_from, listed};
 ghost use Rattle.unwind_codes.specs.Bytes.{IsCode};
-ghost use Rattle.unwind_codes.specs.Cut.{cut};
+ghost use Rattle.unwind_codes.specs.Cut.{Item, Is, cut};
+ghost use Rattle.unwind_codes.specs.declared.code.Code.TheVariants.{PopRangeAndLr, Finish};
 ghost use Rattle.unwind_codes.specs.Meaning.{effect};
 ghost use Rattle.eh_bytecode.specs.Meaning.{begins, finished, address_of, pops, after, unwound, step_of, answer};
 
@@ -12,7 +13,7 @@ use crate::codes::Codes;
 use eh_bus::bus::Bus;
 use eh_bus::fault::BusFault;
 use unwind_codes::Code;
-use unwind_codes::code::LONG_LEAST;
+use unwind_codes::code::{FINISH, LONG_LEAST, POP_RANGE_AND_LR};
 
 /// The registers r0 to r15 of a frame.
 #[derive(Clone, Copy)]
@@ -173,9 +174,47 @@ impl Unwinding {
     }
 }
 
+/// Unwinds a frame by codes that pop r4 to r4+n and the link register, and then finish.
+#[inline(always)]
+fn unwind_saves<B: Bus>(last: u8, vrs: &mut Vrs, bus: &B) -> UnwindEnd
+    requires { last < 8 }
+    ensures { (more : List Item) → (result, vrs.new) ≡ answer vrs.old (unwound (B.memory bus.now).segments vrs.old.r (Is (PopRangeAndLr last) ∷ Is Finish ∷ more)) }
+{
+    let mut state = Unwinding::begin(vrs);
+    match state.apply(Code::PopRangeAndLr(last), bus) {
+        Next::Stops(end) => end,
+        Next::Goes => {
+            state.finish(vrs);
+            UnwindEnd::Finished
+        }
+        Next::Finishes => {
+            state.finish(vrs);
+            UnwindEnd::Finished
+        }
+    }
+}
+
 /// Unwinds a frame by the codes that are left, over the words of a memory. `vrs` changes only where the codes finish; then it has the
-/// caller's registers.
+/// caller's registers. Codes that pop what most functions push are known by their first two bytes.
 pub fn unwind<B: Bus>(codes: &Codes, vrs: &mut Vrs, bus: &B) -> UnwindEnd
+    ensures { (result, vrs.new) ≡ answer vrs.old (unwound (B.memory bus.now).segments vrs.old.r (cut codes.now)) }
+{
+    let mut left = codes.again();
+    if let Some(first) = left.next() {
+        if first >= POP_RANGE_AND_LR && first < FINISH {
+            if let Some(second) = left.next() {
+                if second == FINISH {
+                    return unwind_saves(first % 8, vrs, bus);
+                }
+            }
+        }
+    }
+    unwind_each(codes, vrs, bus)
+}
+
+/// The same, code by code.
+#[inline(never)]
+fn unwind_each<B: Bus>(codes: &Codes, vrs: &mut Vrs, bus: &B) -> UnwindEnd
     ensures { (result, vrs.new) ≡ answer vrs.old (unwound (B.memory bus.now).segments vrs.old.r (cut codes.now)) }
 {
     let mut state = Unwinding::begin(vrs);

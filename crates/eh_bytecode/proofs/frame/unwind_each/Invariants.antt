@@ -1,7 +1,7 @@
 use Rattle.std.proofs.Common.{◌≡◌, ◌-◌, ◌≤◌, length}
 use Rattle.unwind_codes.specs.Cut.{cut, cut_from}
 use Rattle.eh_bytecode.specs.Meaning.{runs, unwound}
-use Rattle.eh_bytecode.proofs.frame.unwind.Given as goal
+use Rattle.eh_bytecode.proofs.frame.unwind_each.Given as goal
 
 abbrev pub invariant-loop-first : goal.invariant-loop-first
 invariant-loop-first g l = record {
