@@ -1,6 +1,8 @@
 //! A landing pad is entered (IHI 0038, "Phase 2 unwinding"; docs/machine.md, "Landing").
 ghost use Rattle.std.specs.Prelude.{◌≡◌, IsSome};
 ghost use Rattle.eh_cxa.specs.Words.{block_slot};
+ghost use Rattle.eh_phase.specs.Calls.{frame_at};
+ghost use Rattle.eh_phase.specs.Landings.{lands};
 ghost use Rattle.eh_gates.specs.State.{state_of};
 ghost use Rattle.eh_gates.specs.Landing.{landed, pad_event, words_of, enter_cleanup, enter_handler, entered};
 
@@ -8,7 +10,7 @@ use crate::state::{Core, Turned};
 use eh_bus::bus::Bus;
 use eh_bytecode::Vrs;
 use eh_cxa::{CleanupWords, begin_cleanup, land};
-use eh_phase::Entered;
+use eh_phase::{Cursor, Landing};
 use eh_trace::event::MAX_BYTES;
 use eh_trace::{Event, EventKind, Events};
 use thumb_core::ends::{Cause, End};
@@ -18,7 +20,7 @@ use thumb_core::regs::{Regs, SP};
 fn landed(regs: &Regs, vrs: &Vrs, pad: u32, first: u32) -> Regs
     ensures { result ≡ landed regs.now vrs.now.r pad first }
 {
-    let r = vrs.r;
+    let r = &vrs.r;
     Regs {
         r: [
             first,
@@ -76,16 +78,16 @@ fn enter_cleanup<B: Bus>(
     bus: &mut B,
     events: &mut Events,
     block: u32,
-    frame: (Vrs, u32),
+    vrs: &Vrs,
+    pad: u32,
     words: &CleanupWords,
 )
     requires { IsSome (block_slot block) }
-    ensures { state_of core.new (B.memory bus.new) events.new ≡ enter_cleanup (state_of core.old (B.memory bus.old) events.old) block frame.0.r frame.1 words.now }
+    ensures { state_of core.new (B.memory bus.new) events.new ≡ enter_cleanup (state_of core.old (B.memory bus.old) events.old) block vrs.now.r pad words.now }
 {
-    let (vrs, pad) = frame;
     let sp = vrs.r[SP as usize];
     begin_cleanup(bus, &mut core.globals, block, words);
-    core.regs = landed(&core.regs, &vrs, pad, 0);
+    core.regs = landed(&core.regs, vrs, pad, 0);
     bus.release_below(sp);
     events.push(pad_event(EventKind::Cleanup, pad, sp, 0));
 }
@@ -96,54 +98,52 @@ fn enter_handler<B: Bus>(
     bus: &mut B,
     events: &mut Events,
     block: u32,
-    frame: (Vrs, u32),
+    vrs: &Vrs,
+    pad: u32,
     event: Event,
 )
     requires block { IsSome (block_slot block) }
     requires count { event.count ≡ 0 }
-    ensures { state_of core.new (B.memory bus.new) events.new ≡ enter_handler (state_of core.old (B.memory bus.old) events.old) block frame.0.r frame.1 event }
+    ensures { state_of core.new (B.memory bus.new) events.new ≡ enter_handler (state_of core.old (B.memory bus.old) events.old) block vrs.now.r pad event }
 {
-    let (vrs, pad) = frame;
     land(bus, block);
-    core.regs = landed(&core.regs, &vrs, pad, block);
+    core.regs = landed(&core.regs, vrs, pad, block);
     bus.release_below(vrs.r[SP as usize]);
     events.push(event);
 }
 
-/// Does what phase 2 enters, for the exception of a control block; the handler of a catch is given `object`.
+/// Does what phase 2 enters in a frame, for the exception of a control block; the handler of a catch is given `object`.
 pub(crate) fn entered<B: Bus>(
     core: &mut Core,
     bus: &mut B,
     events: &mut Events,
     block: u32,
     object: u32,
-    what: Entered,
+    frame: &Cursor,
+    landing: Landing,
 ) -> Turned
     requires { IsSome (block_slot block) }
-    ensures { (result, state_of core.new (B.memory bus.new) events.new) ≡ entered (state_of core.old (B.memory bus.old) events.old) block object what }
+    ensures { (result, state_of core.new (B.memory bus.new) events.new) ≡ entered (state_of core.old (B.memory bus.old) events.old) block object (lands (frame_at frame.now) landing) }
 {
-    match what {
-        Entered::Cleanup {
-            vrs,
-            pad,
-            next,
-            site,
-        } => {
-            let words = words_of(&vrs, next, site);
-            enter_cleanup(core, bus, events, block, (vrs, pad), &words);
+    let vrs = &frame.vrs;
+    let sp = vrs.r[SP as usize];
+    match landing {
+        Landing::Cleanup { pad, next } => {
+            let words = words_of(vrs, next, frame.site);
+            enter_cleanup(core, bus, events, block, vrs, pad, &words);
             Turned::Went
         }
-        Entered::Catch { vrs, pad } => {
-            let event = pad_event(EventKind::Catch, pad, vrs.r[SP as usize], object);
-            enter_handler(core, bus, events, block, (vrs, pad), event);
+        Landing::Catch { pad } => {
+            let event = pad_event(EventKind::Catch, pad, sp, object);
+            enter_handler(core, bus, events, block, vrs, pad, event);
             Turned::Went
         }
-        Entered::Spec { vrs, pad } => {
-            let event = pad_event(EventKind::Unexpected, pad, vrs.r[SP as usize], 0);
-            enter_handler(core, bus, events, block, (vrs, pad), event);
+        Landing::Spec { pad } => {
+            let event = pad_event(EventKind::Unexpected, pad, sp, 0);
+            enter_handler(core, bus, events, block, vrs, pad, event);
             Turned::Went
         }
-        Entered::Unexpected => Turned::Ended(End::Terminate(Cause::Unexpected)),
-        Entered::Terminate(cause) => Turned::Ended(End::Terminate(cause)),
+        Landing::Unexpected => Turned::Ended(End::Terminate(Cause::Unexpected)),
+        Landing::Terminate(cause) => Turned::Ended(End::Terminate(cause)),
     }
 }

@@ -9,7 +9,7 @@ use crate::state::{Core, Turned};
 use crate::throwing::frame_of;
 use eh_bus::bus::Bus;
 use eh_cxa::{BarrierWords, CxaFault, barrier, end_cleanup, innermost_sp};
-use eh_phase::{Goal, Tables, advance, caller_at};
+use eh_phase::{Cursor, Goal, Tables, find_landing, to_caller};
 use eh_trace::Events;
 use thumb_core::regs::SP;
 
@@ -38,16 +38,25 @@ pub(crate) fn end_cleanup_gate<B: Bus>(
     if innermost_sp(bus, &core.globals).is_none() {
         return Turned::Ended(fault_end(CxaFault::NoCleanup, 0, pc));
     }
-    let Some(vrs) = caller_at(t, bus, &frame_of(&core.regs), pc) else {
-        return Turned::Ended(fault_end(CxaFault::CleanupElsewhere, 0, pc));
+    let mut cursor = Cursor {
+        vrs: frame_of(&core.regs),
+        site: pc,
+        innermost: true,
     };
-    let sp = vrs.r[SP as usize];
+    let mut near = events.near();
+    if !to_caller(t, bus, &mut cursor.vrs, pc, &mut near.gate) {
+        return Turned::Ended(fault_end(CxaFault::CleanupElsewhere, 0, pc));
+    }
+    let sp = cursor.vrs.r[SP as usize];
     match end_cleanup(bus, &mut core.globals, sp) {
         Err(fault) => Turned::Ended(fault_end(fault, sp, pc)),
         Ok((block, words)) => {
             let b = barrier(bus, block);
-            let what = advance(t, bus, &vrs, words.site, words.next, &goal_in(&b));
-            entered(core, bus, events, block, b.object, what)
+            cursor.site = words.site;
+            let goal = goal_in(&b);
+            let landing = find_landing(t, bus, &mut cursor, words.next, &goal, &mut near.frame);
+            events.keep_near(near);
+            entered(core, bus, events, block, b.object, &cursor, landing)
         }
     }
 }

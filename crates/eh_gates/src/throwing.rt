@@ -16,7 +16,7 @@ use eh_cxa::{
     set_barrier, start_throw, thrown,
 };
 use eh_match::Match;
-use eh_phase::{Barrier, Found, Goal, Tables, Thrown, advance, search};
+use eh_phase::{Barrier, Cursor, Found, Goal, Tables, Thrown, find_landing, search};
 use eh_trace::event::MAX_BYTES;
 use eh_trace::{Event, EventKind, Events};
 use thumb_core::ends::{Cause, End, TrapKind};
@@ -29,7 +29,7 @@ pub const POINTER_AT: u32 = 4 * BARRIER_POINTER - BLOCK;
 pub(crate) fn frame_of(regs: &Regs) -> Vrs
     ensures { result.r ≡ all_of regs.now }
 {
-    let r = regs.r;
+    let r = &regs.r;
     Vrs {
         r: [
             r[0], r[1], r[2], r[3], r[4], r[5], r[6], r[7], r[8], r[9], r[10], r[11], r[12], r[13],
@@ -90,8 +90,15 @@ pub fn throw_to<B: Bus>(
         sp: b.sp,
         desc: b.desc,
     };
-    let what = advance(t, bus, &frame_of(&core.regs), site, 0, &goal);
-    entered(core, bus, events, block, words.object, what)
+    let mut cursor = Cursor {
+        vrs: frame_of(&core.regs),
+        site,
+        innermost: true,
+    };
+    let mut near = events.near();
+    let landing = find_landing(t, bus, &mut cursor, 0, &goal, &mut near.frame);
+    events.keep_near(near);
+    entered(core, bus, events, block, words.object, &cursor, landing)
 }
 
 /// One of the first `count` bytes of an object, and 0 after them.

@@ -12,3 +12,4 @@ pub mod Turns
 pub mod Speaks
 pub mod Rises
 pub mod Passing
+pub mod Covers

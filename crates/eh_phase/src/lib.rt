@@ -10,6 +10,6 @@ pub mod verdict;
 pub mod walk;
 
 pub use phase1::{Barrier, Found, search};
-pub use phase2::{Entered, Goal, advance};
+pub use phase2::{Entered, Goal, Landing, advance, find_landing};
 pub use verdict::Thrown;
-pub use walk::{Tables, caller_at};
+pub use walk::{Cursor, Tables, caller_at, to_caller};

@@ -6,9 +6,10 @@ ghost use Rattle.eh_phase.specs.Calls.{frame_at, meeting, stack_of};
 ghost use Rattle.eh_phase.specs.Passed.{said_at};
 
 use crate::verdict::{Thrown, Verdict, verdict_of};
-use crate::walk::{Covered, Cursor, NO_ROW, Tables, covered_near, go_out};
+use crate::walk::{Covered, Cursor, NO_ROW, Tables, covered_by_table, go_out};
 use eh_bus::bus::Bus;
 use eh_bytecode::{Codes, Vrs};
+use eh_index::EntryBody;
 use eh_match::Match;
 use thumb_core::ends::Cause;
 
@@ -73,12 +74,26 @@ fn silent_codes<'a, B: Bus>(
 ) -> Result<Codes<'a>, Verdict>
     ensures { result ≡ said_at (meeting t.now.index t.now.types.now (B.memory bus.now).segments what.now) t.now.index site }
 {
-    let Some(Covered { codes, descs }) = covered_near(&t.index, site, near) else {
+    let (entry, row) = t.index.find_near(site, *near);
+    *near = row;
+    let Some(entry) = entry else {
         return Err(Verdict::Terminate(Cause::CannotUnwind));
     };
-    match verdict_of(t, bus, what, site, descs) {
-        Some(said) => Err(said),
-        None => Ok(codes),
+    match entry.body {
+        EntryBody::CantUnwind => Err(Verdict::Terminate(Cause::CannotUnwind)),
+        EntryBody::Inline(word) => match Codes::inline(word) {
+            Ok(codes) => Ok(codes),
+            Err(_) => Err(Verdict::Terminate(Cause::CannotUnwind)),
+        },
+        EntryBody::Table(address) => {
+            let Some(Covered { codes, descs }) = covered_by_table(&t.index, &entry, address) else {
+                return Err(Verdict::Terminate(Cause::CannotUnwind));
+            };
+            match verdict_of(t, bus, what, site, descs) {
+                Some(said) => Err(said),
+                None => Ok(codes),
+            }
+        }
     }
 }
 

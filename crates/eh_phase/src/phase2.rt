@@ -1,5 +1,5 @@
 //! Phase 2: the landing pad that is entered next (docs/phases.md, "Phase 2").
-ghost use Rattle.std.specs.Prelude.{◌≡◌, ◌&&◌, not, None, Ok, Err, MatchResult, option_map};
+ghost use Rattle.std.specs.Prelude.{◌≡◌, ◌&&◌, not, true, None, Ok, Err, MatchResult, option_map};
 ghost use Rattle.eh_phase.specs.Firsts.{first_some};
 ghost use Rattle.eh_phase.specs.Landings.{lands};
 ghost use Rattle.eh_phase.specs.Phases.{Frame, stands_at, is_goal, spec_entered, entered_by, entered_item, from_address, phase2};
@@ -9,10 +9,11 @@ ghost use Rattle.eh_phase.specs.Passed.{enters_at};
 
 use crate::phase1::Passed;
 use crate::verdict::is_in_scope;
-use crate::walk::{Covered, Cursor, NO_ROW, Tables, covered_near, go_out};
+use crate::walk::{Covered, Cursor, NO_ROW, Tables, covered_by_table, go_out};
 use eh_bus::bus::Bus;
 use eh_bytecode::{Codes, Vrs};
 use eh_desc::{Desc, DescFault, DescKind, Descs};
+use eh_index::EntryBody;
 use thumb_core::ends::Cause;
 
 /// A barrier as phase 2 knows it.
@@ -204,12 +205,26 @@ fn quiet_codes<'a>(
     ensures { let enters = enters_at goal.now next t.now.index (frame_at cursor.now) in
         MatchResult result (λ codes. enters ≡ Ok codes) (λ landing. enters ≡ Err (lands (frame_at cursor.now) landing)) }
 {
-    let Some(Covered { codes, descs }) = covered_near(&t.index, cursor.site, near) else {
+    let (entry, row) = t.index.find_near(cursor.site, *near);
+    *near = row;
+    let Some(entry) = entry else {
         return Err(Landing::Terminate(Cause::CannotUnwind));
     };
-    match landing_in(goal, next, cursor, descs) {
-        Some(landing) => Err(landing),
-        None => Ok(codes),
+    match entry.body {
+        EntryBody::CantUnwind => Err(Landing::Terminate(Cause::CannotUnwind)),
+        EntryBody::Inline(word) => match Codes::inline(word) {
+            Ok(codes) => Ok(codes),
+            Err(_) => Err(Landing::Terminate(Cause::CannotUnwind)),
+        },
+        EntryBody::Table(address) => {
+            let Some(Covered { codes, descs }) = covered_by_table(&t.index, &entry, address) else {
+                return Err(Landing::Terminate(Cause::CannotUnwind));
+            };
+            match landing_in(goal, next, cursor, descs) {
+                Some(landing) => Err(landing),
+                None => Ok(codes),
+            }
+        }
     }
 }
 
@@ -231,26 +246,46 @@ pub fn advance<B: Bus>(
         site,
         innermost: true,
     };
-    let mut next = next;
     let mut near = NO_ROW;
-    let mut here = match quiet_codes(t, goal, next, &cursor, &mut near) {
-        Ok(codes) => Passed { site, codes },
-        Err(landing) => return enter(&cursor, landing),
+    let landing = find_landing(t, bus, &mut cursor, next, goal, &mut near);
+    enter(&cursor, landing)
+}
+
+/// The same from a frame in place: the walk is left at the frame that is entered. `near` is the row to seek from, best the one found last,
+/// and any number else; it becomes the row found last.
+pub fn find_landing<B: Bus>(
+    t: &Tables,
+    bus: &B,
+    cursor: &mut Cursor,
+    next: u32,
+    goal: &Goal,
+    near: &mut u32,
+) -> Landing
+    requires { cursor.old.innermost ≡ true }
+    ensures { lands (frame_at cursor.new) result ≡ phase2 goal.now next (frames_of t.now.index (stack_of (B.memory bus.now)) None cursor.old.site cursor.old.vrs.r) }
+{
+    let mut next = next;
+    let mut here = match quiet_codes(t, goal, next, cursor, near) {
+        Ok(codes) => Passed {
+            site: cursor.site,
+            codes,
+        },
+        Err(landing) => return landing,
     };
     loop {
-        if let Some(cause) = go_out(&here.codes, bus, None, &mut cursor) {
-            return Entered::Terminate(cause);
+        if let Some(cause) = go_out(&here.codes, bus, None, cursor) {
+            return Landing::Terminate(cause);
         }
         if next == 0 && here.site == cursor.site && cursor.vrs.r[13] != goal.sp {
             continue;
         }
         next = 0;
-        match quiet_codes(t, goal, 0, &cursor, &mut near) {
+        match quiet_codes(t, goal, 0, cursor, near) {
             Ok(codes) => here = Passed {
                 site: cursor.site,
                 codes,
             },
-            Err(landing) => return enter(&cursor, landing),
+            Err(landing) => return landing,
         }
     }
 }

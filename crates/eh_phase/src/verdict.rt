@@ -125,14 +125,14 @@ fn heard<B: Bus>(
     bus: &B,
     what: &Thrown,
     site: u32,
-    item: Result<Desc, DescFault>,
+    item: &Result<Desc, DescFault>,
 ) -> Option<Verdict>
-    ensures { result ≡ heard (meeting t.now.index t.now.types.now (B.memory bus.now).segments what.now) site item }
+    ensures { result ≡ heard (meeting t.now.index t.now.types.now (B.memory bus.now).segments what.now) site item.now }
 {
     match item {
         Ok(desc) => {
-            if is_in_scope(&desc, site) {
-                says(t, bus, what, &desc)
+            if is_in_scope(desc, site) {
+                says(t, bus, what, desc)
             } else {
                 None
             }
@@ -154,7 +154,7 @@ pub(crate) fn verdict_of<B: Bus>(
     ensures { result ≡ verdict_of (meeting t.now.index t.now.types.now (B.memory bus.now).segments what.now) site descs.entry }
 {
     for item in descs {
-        let said = heard(t, bus, what, site, item);
+        let said = heard(t, bus, what, site, &item);
         if said.is_some() {
             return said;
         }

@@ -1,5 +1,7 @@
 //! The walk over frames, of which it keeps one (docs/phases.md, "Frames").
-ghost use Rattle.std.specs.Prelude.{◌≡◌, Some, None, Ok, Err, MatchBool, MatchOption};
+ghost use Rattle.std.specs.Prelude.{◌≡◌, Some, None, Ok, Err, MatchBool, MatchOption, option_map};
+ghost use Rattle.unwind_codes.specs.declared.row.EntryBody.TheVariants.{Table};
+ghost use Rattle.eh_phase.specs.declared.walk.Covered.{Covered};
 ghost use Rattle.unwind_codes.specs.Cut.{cut};
 ghost use Rattle.eh_bytecode.specs.Meaning.{unwound};
 ghost use Rattle.eh_phase.specs.Frames.{covered_by, covered_at, is_no_frame, is_above, caller_of, caller_at, checked, outer, site_of};
@@ -40,56 +42,40 @@ pub struct Cursor {
     pub innermost: bool,
 }
 
-/// The codes and the descriptors of an entry. None where there is none, where it can't be unwound, and where its codes can't be read.
+/// The codes and the descriptors of an entry with a table at an address. None where its codes can't be read.
 #[inline(always)]
-fn covered_by<'a>(index: &Index<'_, 'a>, entry: Option<Entry>) -> Option<Covered<'a>>
-    ensures { result ≡ covered_by index.now entry }
+pub(crate) fn covered_by_table<'a>(
+    index: &Index<'_, 'a>,
+    entry: &Entry,
+    address: u32,
+) -> Option<Covered<'a>>
+    requires { entry.now.body ≡ Table address }
+    ensures { result ≡ covered_by index.now (Some entry.now) }
 {
-    let entry = entry?;
+    let bytes = index.table(entry)?;
+    let Ok(codes) = Codes::table(bytes) else {
+        return None;
+    };
+    let descs = Descs::after_codes(entry.start, address, bytes);
+    Some(Covered { codes, descs })
+}
+
+/// The codes of an entry. None where it can't be unwound, and where they can't be read.
+#[inline(always)]
+pub(crate) fn codes_by<'a>(index: &Index<'_, 'a>, entry: &Entry) -> Option<Codes<'a>>
+    ensures { result ≡ option_map (λ (c : Covered). c.codes) (covered_by index.now (Some entry.now)) }
+{
     match entry.body {
         EntryBody::CantUnwind => None,
-        EntryBody::Inline(word) => {
-            let Ok(codes) = Codes::inline(word) else {
-                return None;
-            };
-            Some(Covered {
-                codes,
-                descs: Descs::none(),
-            })
-        }
-        EntryBody::Table(address) => {
-            let bytes = index.table(&entry)?;
-            let Ok(codes) = Codes::table(bytes) else {
-                return None;
-            };
-            let descs = Descs::after_codes(entry.start, address, bytes);
-            Some(Covered { codes, descs })
-        }
+        EntryBody::Inline(word) => match Codes::inline(word) {
+            Ok(codes) => Some(codes),
+            Err(_) => None,
+        },
+        EntryBody::Table(_) => match Codes::table(index.table(entry)?) {
+            Ok(codes) => Some(codes),
+            Err(_) => None,
+        },
     }
-}
-
-/// The codes and the descriptors of a site. None where no entry covers it, where the entry can't be unwound, and where its codes
-/// can't be read.
-#[tactic(auto, unfolding(crate::specs::Frames::covered_at))]
-fn covered_at<'a>(index: &Index<'_, 'a>, site: u32) -> Option<Covered<'a>>
-    ensures { result ≡ covered_at index.now site }
-{
-    covered_by(index, index.find(site))
-}
-
-/// The same, sought from a row on outwards: best the one that was found last, and any number else. It becomes the row of the site.
-#[inline(always)]
-#[tactic(auto, unfolding(crate::specs::Frames::covered_at))]
-pub(crate) fn covered_near<'a>(
-    index: &Index<'_, 'a>,
-    site: u32,
-    near: &mut u32,
-) -> Option<Covered<'a>>
-    ensures { result ≡ covered_at index.now site }
-{
-    let (entry, row) = index.find_near(site, *near);
-    *near = row;
-    covered_by(index, entry)
 }
 
 #[inline(always)]
@@ -129,28 +115,36 @@ fn unwinds<B: Bus>(codes: &Codes, bus: &B, vrs: &mut Vrs) -> bool
     }
 }
 
-/// The registers that codes give of those of a frame, where they finish.
-fn caller<B: Bus>(codes: &Codes, bus: &B, vrs: &Vrs) -> Option<Vrs>
-    ensures { result ≡ caller_of (unwound (B.memory bus.now).segments vrs.now.r (cut codes.now)) }
-{
-    let mut next = *vrs;
-    if unwinds(codes, bus, &mut next) {
-        Some(next)
-    } else {
-        None
-    }
-}
-
 /// The registers that the codes of the entry give which covers a site, of those of the frame that stands there. None where no entry
 /// covers it, where the entry can't be unwound or its codes can't be read, and where they end otherwise than finished. Nothing is
 /// asked of the new stack pointer.
 pub fn caller_at<B: Bus>(t: &Tables, bus: &B, from: &Vrs, site: u32) -> Option<Vrs>
     ensures { result ≡ caller_at t.now.index (B.memory bus.now).segments site from.now.r }
 {
-    match covered_at(&t.index, site) {
-        None => None,
-        Some(Covered { codes, descs: _ }) => caller(&codes, bus, from),
+    let mut vrs = *from;
+    let mut near = NO_ROW;
+    if to_caller(t, bus, &mut vrs, site, &mut near) {
+        Some(vrs)
+    } else {
+        None
     }
+}
+
+/// The same in place: answers whether the registers of a frame have become those of its caller. `near` is the row to seek from, best the
+/// one found last, and any number else; it becomes the row found last.
+#[tactic(auto, unfolding(crate::specs::Frames::covered_at))]
+pub fn to_caller<B: Bus>(t: &Tables, bus: &B, vrs: &mut Vrs, site: u32, near: &mut u32) -> bool
+    ensures { let caller = caller_at t.now.index (B.memory bus.now).segments site vrs.old.r in MatchBool result (caller ≡ Some vrs.new) (caller ≡ None) }
+{
+    let (entry, row) = t.index.find_near(site, *near);
+    *near = row;
+    let Some(entry) = entry else {
+        return false;
+    };
+    let Some(codes) = codes_by(&t.index, &entry) else {
+        return false;
+    };
+    unwinds(&codes, bus, vrs)
 }
 
 /// The cause by which registers are none of the frame outside one whose stack pointer is `sp`.

@@ -20,6 +20,15 @@ pub struct Events {
     cleanups: u64,
     catches: u64,
     unexpected: u64,
+    near: NearRows,
+}
+
+/// The rows of an index that were found last, at the gate of an ended cleanup and of the frame that was landed in: the look-ups of the next
+/// event begin there. They play no part in the events, and any numbers do.
+#[derive(Clone, Copy)]
+pub struct NearRows {
+    pub gate: u32,
+    pub frame: u32,
 }
 
 impl Model for Events {
@@ -61,6 +70,10 @@ impl Events {
             cleanups: 0,
             catches: 0,
             unexpected: 0,
+            near: NearRows {
+                gate: u32::MAX,
+                frame: u32::MAX,
+            },
         })
     }
 
@@ -86,6 +99,20 @@ impl Events {
         if self.kept.len() < MAX_KEPT {
             self.kept.push(e).unwrap();
         }
+    }
+
+    /// The rows from which the next look-ups begin.
+    #[inline(always)]
+    pub fn near(&self) -> NearRows {
+        self.near
+    }
+
+    /// Keeps them for the next event.
+    #[inline(always)]
+    pub fn keep_near(&mut self, rows: NearRows)
+        ensures { self.new ≡ self.old }
+    {
+        self.near = rows;
     }
 
     /// How many events of a kind came; a total stops at the greatest `u64`.

@@ -8,7 +8,7 @@ pub mod names;
 pub mod text;
 
 pub use event::{Event, EventKind, TraceMemory};
-pub use events::Events;
+pub use events::{Events, NearRows};
 pub use lines::trace_lines;
 pub use names::TypeNames;
 pub use text::push_named_place;

@@ -1,4 +1,4 @@
-use Rattle.std.proofs.Common.{rules, ◌≡◌, ◌∙◌, ℕ, subst, true, None, Ok, Err}
+use Rattle.std.proofs.Common.{rules, ◌≡◌, ℕ, subst, None, Ok, Err}
 use Rattle.eh_phase.specs.declared.walk.Cursor.{Cursor}
 use Rattle.eh_phase.specs.Phases.{phase2}
 use Rattle.eh_phase.specs.Frames.{frames_of, outer}
@@ -7,21 +7,21 @@ use Rattle.eh_phase.specs.Landings.{lands}
 use Rattle.eh_phase.specs.Passed.{enters_at}
 use Rattle.eh_phase.proofs.Steps.{Advances, lower}
 use Rattle.eh_phase.proofs.Passing.{quiet_entered, quiet_ended, quiet_on, stays_quiet}
-use Rattle.eh_phase.proofs.phase2.advance.Goals as goal
+use Rattle.eh_phase.proofs.phase2.find_landing.Goals as goal
 
 pub returns-in-Err : goal.returns-in-Err
 returns-in-Err g c =
     let stack = stack_of (g.B.Bus.memory c.args.bus.now) in
-    let first : Cursor = record { vrs = c.args.from.now; site = c.args.site; innermost = true } in
-    let s : Advances c.args.goal.now c.args.next c.args.t.now.index stack (phase2 c.args.goal.now c.args.next (frames_of c.args.t.now.index stack None c.args.site c.args.from.now.r)) first = search rules in
+    let first : Cursor = c.args.cursor.now in
+    let s : Advances c.args.goal.now c.args.next c.args.t.now.index stack (phase2 c.args.goal.now c.args.next (frames_of c.args.t.now.index stack None c.args.cursor.now.site c.args.cursor.now.vrs.r)) first = search rules in
     let k : enters_at c.args.goal.now c.args.next c.args.t.now.index (frame_at first) ≡ Err (lands (frame_at first) c.in-Err.landing) = c.in-Err.ensures in
-    c.enter.ensures ∙ quiet_entered _ _ _ stack _ first _ s k
+    quiet_entered _ _ _ stack _ first _ s k
 
 pub loop-cause-init : goal.loop-cause-init
 loop-cause-init g c =
     let stack = stack_of (g.B.Bus.memory c.args.bus.now) in
-    let first : Cursor = record { vrs = c.args.from.now; site = c.args.site; innermost = true } in
-    let s : Advances c.args.goal.now c.args.next c.args.t.now.index stack (phase2 c.args.goal.now c.args.next (frames_of c.args.t.now.index stack None c.args.site c.args.from.now.r)) first = search rules in
+    let first : Cursor = c.args.cursor.now in
+    let s : Advances c.args.goal.now c.args.next c.args.t.now.index stack (phase2 c.args.goal.now c.args.next (frames_of c.args.t.now.index stack None c.args.cursor.now.site c.args.cursor.now.vrs.r)) first = search rules in
     let k : enters_at c.args.goal.now c.args.next c.args.t.now.index (frame_at first) ≡ Ok c.in-Ok.codes = c.in-Ok.ensures in
     (s, k, λ e. stays_quiet c.args.goal.now c.args.t.now.index (frame_at first) c.in-Ok.codes (subst (λ (n : ℕ). enters_at c.args.goal.now n c.args.t.now.index (frame_at first) ≡ Ok c.in-Ok.codes) e k))
 
@@ -67,4 +67,4 @@ returns-in-Err-quiet_codes g c =
     let o : cursor_of (outer stack None c.loop-cause.cursor.innermost c.loop-cause.here.codes c.loop-cause.cursor.vrs.r) ≡ Ok c.go_out.new.cursor = c.in_default.ensures in
     let s = quiet_on c.args.goal.now c.loop-cause.next c.args.t.now.index stack _ c.loop-cause.cursor c.go_out.new.cursor _ c.loop-cause.invariant.0 c.loop-cause.invariant.1 o in
     let k : enters_at c.args.goal.now 0 c.args.t.now.index (frame_at c.go_out.new.cursor) ≡ Err (lands (frame_at c.go_out.new.cursor) c.in-Err-quiet_codes.landing) = c.in-Err-quiet_codes.ensures in
-    c.enter-in-Err-quiet_codes.ensures ∙ quiet_entered _ _ _ stack _ c.go_out.new.cursor _ s k
+    quiet_entered _ _ _ stack _ c.go_out.new.cursor _ s k
