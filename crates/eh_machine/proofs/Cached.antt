@@ -1,5 +1,5 @@
 -- What a decode cache has of an address is what is fetched there, where its halfwords stand.
-use Rattle.std.proofs.Common.{◌≡◌, ℕ, ◌<◌, List, length, true, slice_index_or, slice_set, sym, subst, ◌∙◌, inl, inr}
+use Rattle.std.proofs.Common.{◌≡◌, ℕ, ◌<◌, Bool, List, length, true, slice_index_or, slice_set, sym, subst, ◌∙◌, inl, inr}
 use Rattle.std.proofs.lemmas.Bool.{cases_eq}
 use Rattle.std.proofs.lemmas.List.{get_or-set_same, get_or-set_other}
 use Rattle.eh_bus.specs.Memory.{Memory}
@@ -22,13 +22,14 @@ is_fetched p m a line of same stand = record {
   roles = subst (λ (x : ℕ). HasRoles p x line.fetched) same of.roles;
 }
 
-pub is_of_line : (p : Program) (m : Memory) (a : ℕ) (h : Halfwords) (at : Fetched) (round : ℕ) → IsFetched p a m at → HasHalfwords m a h
-    → IsLine p (record { address = a; halfwords = h; fetched = at; confirmed = round; is_kept = true })
-is_of_line p m a h at round is stand = λ e. record {
+pub is_of_line : (p : Program) (m : Memory) (a : ℕ) (h : Halfwords) (at : Fetched) (round : ℕ) (begins : Bool) → IsFetched p a m at → begins ≡ (p.look a).is_function → HasHalfwords m a h
+    → IsLine p (record { address = a; halfwords = h; fetched = at; confirmed = round; is_kept = true; begins = begins })
+is_of_line p m a h at round begins is told stand = λ e. record {
   pair = is_pair m a h stand;
   decoded = sym (by_halfwords (profile_in p) m a h stand) ∙ is.there;
   range = is.range;
   roles = is.roles;
+  begins = told;
 }
 
 pub set_line : (p : Program) (lines : List CacheLine) (n : ℕ) (line : CacheLine) → n < length lines → ((k : ℕ) (d : CacheLine) → k < LINES → IsLine p (slice_index_or lines k d)) → IsLine p line

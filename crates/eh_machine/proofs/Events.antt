@@ -18,7 +18,11 @@ use Rattle.eh_gates.specs.declared.state.Turned.{Turned}
 use Rattle.eh_gates.specs.declared.state.Turned.TheVariants.{Went, Ended}
 use Rattle.elf_image.specs.Image.{Image}
 use Rattle.machines_agree.specs.eh_types.Graph.{Row}
-use Rattle.eh_gates.specs.State.{State, Outcome, tables_of}
+use Rattle.eh_gates.specs.State.{State, Outcome, tables_of, state_of}
+use Rattle.eh_gates.specs.declared.state.Core.{Core}
+use Rattle.eh_trace.specs.Trace.{Trace}
+use Rattle.eh_bus.specs.Memory.{Memory}
+use Rattle.eh_machine.specs.Passes.{PassesOn}
 use Rattle.eh_gates.specs.Gates.{gate_of}
 use Rattle.machines_agree.specs.two_machines.Program.{Program, program_tables}
 use Rattle.machines_agree.specs.two_machines.Machine.{Passed, passed, event_of, in_state, acted, onward, machine_event, passed_fails, may_fail, with_pc_of}
@@ -180,6 +184,15 @@ pub given_gate : (before now : Option (List ℕ)) (p : Program) (s t : State) (n
     (λ end. TurnedOnce p s bytes (Ended end) (record t { regs = regs }) left before now))
 given_gate before now p s t number pc regs result e low back g =
     record { bytes = g.bytes; left = g.left; are = g.are; done = plain_gate_told (Some g.bytes) (Some g.left) before now p s t number pc regs result e low back g.done }
+
+-- ---- of a call that tried an instruction
+
+module _ (p : Program) (core core' : Core) (m m' : Memory) (events : Trace) (h : PassesOn p core m core' m') where
+  pub went_told : (told before : Option (List ℕ)) → IfSome told (λ input. TurnedOnce p (state_of core m events) input Went (state_of core' m' events) told before before)
+  went_told told before = plain_turned told before p (state_of core m events) h.what (state_of core' m' events) (h.passes.does events) h.no_gate
+
+  pub went_given : (before : Option (List ℕ)) → OnGiven (λ bytes left. TurnedOnce p (state_of core m events) bytes Went (state_of core' m' events) left before before)
+  went_given before = given_plain before p (state_of core m events) h.what (state_of core' m' events) (h.passes.does events) h.no_gate
 
 -- ---- from a state that is the one before
 

@@ -1,24 +1,28 @@
 -- One instruction up to its gate, from what its step and its tests have done.
-use Rattle.std.proofs.Common.{◌≡◌, ℕ, ◌+◌, ◌*◌, ◌%◌, ◌^◌, ◌<◌, ◌≤◌, nat_lt, Bool, true, false, ◌&&◌, Option, Some, None, Result, Ok, Err, slice_index, length, refl, sym, ap, subst, ◌∙◌, cond, arith}
+use Rattle.std.proofs.Common.{◌≡◌, ℕ, ℤ, ◌+◌, ◌*◌, ◌%◌, ◌^◌, ◌<◌, ◌≤◌, nat_lt, Bool, true, false, ◌&&◌, Option, Some, None, Result, Ok, Err, slice_index, length, refl, sym, ap, subst, ◌∙◌, cond, arith}
 use Rattle.std.proofs.lemmas.Bool.{ltb-false, le-ltb}
+use Rattle.std.proofs.lemmas.List.{get_or-set_other}
 use Rattle.std.proofs.Math.Nat.{le_trans}
 use Rattle.std.specs.Option.{option_or}
 use Rattle.eh_bus.specs.Memory.{Memory, guard_all, released}
 use Rattle.eh_bus.specs.Map.{IsMap}
 use Rattle.eh_bus.specs.declared.fault.BusFault.{BusFault}
 use Rattle.eh_bus.specs.declared.fault.BusFault.TheVariants as bus
-use Rattle.eh_cxa.specs.Words.{word}
+use Rattle.eh_cxa.specs.Words.{Pool, word, block_slot}
+use Rattle.eh_cxa.specs.declared.globals.Globals.{Globals}
 use Rattle.eh_cxa.specs.Cleanup.{innermost_of}
 use Rattle.guest_gates.specs.Ends.{bus_end, trap_end, is_fault}
 use Rattle.thumb_isa.specs.Range.{InRange}
 use Rattle.thumb_isa.specs.declared.instr.Instr.{Instr}
+use Rattle.thumb_isa.specs.declared.instr.Instr.TheVariants.{ShiftImm, AddSubReg, AddSubImm3, Imm8, Alu, CmpHigh, Adr, AddRdSp, AddSp, SubSp, Extend, Rev, Hint, Barrier, MovW, MovT, Div, AddHigh, MovHigh, BCond, Cbz, B, BWide, Bl, Blx, Bx, Svc, LdrLit, MemReg, MemImm, MemSp, Push, Pop, Stm, Ldm}
 use Rattle.thumb_core.specs.Outcome.{Outcome as Stepping}
-use Rattle.thumb_core.specs.Registers.{even, reg as reg_of}
+use Rattle.thumb_core.specs.Registers.{even, word_in, with_reg, with_pc, with_next, reg as reg_of}
+use Rattle.thumb_core.specs.Branch.{link_of, target_of}
 use Rattle.thumb_isa.specs.declared.profile.Profile.{Profile}
 use Rattle.thumb_core.specs.Step.{step_for, instr_for, effect}
 use Rattle.thumb_core.specs.Stores.{stores_of, stores_of_some}
 use Rattle.thumb_core.specs.Laws.{Leaves, LeavesMemory}
-use Rattle.thumb_core.specs.declared.regs.TheConstants.{SP}
+use Rattle.thumb_core.specs.declared.regs.TheConstants.{SP, LR}
 use Rattle.thumb_core.specs.declared.regs.CoreTrap.{CoreTrap}
 use Rattle.thumb_core.specs.declared.regs.CoreTrap.TheVariants as core
 use Rattle.thumb_core.specs.declared.regs.Regs.{Regs}
@@ -29,7 +33,7 @@ use Rattle.thumb_core.specs.declared.ends.End.{End}
 use Rattle.thumb_core.specs.declared.ends.End.TheVariants as the_end
 use Rattle.step_ahead.specs.declared.undo_record.UndoRecord.{UndoRecord}
 use Rattle.step_ahead.specs.declared.undo_record.UndoRecord.TheVariants.{Nothing}
-use Rattle.step_ahead.specs.Ahead.{branches, branches_some, pushed, pushes_some, IsAhead, IsFallThrough, IsJump}
+use Rattle.step_ahead.specs.Ahead.{branches, branches_some, pushed, pushes_some, is_fall_through, IsAhead, IsFallThrough, IsJump}
 use Rattle.step_ahead.specs.declared.instruction.Ahead.{Ahead as Told}
 use Rattle.step_ahead.specs.UndoRecord.{restore, Restores, InStack, lowest}
 use Rattle.step_ahead.proofs.Stored.{AreWords, OnGo, on_go, step_is, effect_pushed, nothing_back}
@@ -41,7 +45,7 @@ use Rattle.frame_check.specs.Accepts.{Accepted}
 use Rattle.machines_agree.specs.two_machines.Program.{Program, profile_in}
 use Rattle.machines_agree.specs.two_machines.Checked.{program_of}
 use Rattle.image_memory.specs.Profiles.{profile_of}
-use Rattle.eh_machine.specs.Passes.{Passes, Tried, IsFetched}
+use Rattle.eh_machine.specs.Passes.{Passes, Tried, IsFetched, goes_to}
 use Rattle.eh_machine.specs.declared.pass.Fetched.{Fetched}
 use Rattle.machines_agree.specs.two_machines.Machine.{Passed, raises, leaves_cleanup, control_flow_trap, refusal, tests, reguarded, reguarded_at, saved_words, tested, stepped, passed, with_pc_of}
 
@@ -77,8 +81,12 @@ module _ (p : Program) (before : Core) (m : Memory) (after : Core) (new : Memory
   went_on what does gate = record { does = does; inside = tt; gate = gate }
 
   -- an instruction that was tried and done
-  pub was_done : Passes p before m (Ok Done) after new → Tried p before m true after new
-  was_done h = record { done = λ e. h; left = λ e. absurd (cc) }
+  pub was_done : (what : Stepped) → ((number : ℕ) → what ≡ Gate number → ⊥) → Passes p before m (Ok what) after new → Tried p before m true after new
+  was_done what never h = record { done = λ e. record { what = what; no_gate = never; passes = h }; left = λ e. absurd (cc) }
+
+  -- one that wasn't
+  pub was_left : after ≡ before → new ≡ m → Tried p before m false after new
+  was_left core memory = record { done = λ e. absurd (cc); left = λ e. (core, memory) }
 
 -- ---- after a call that changed nothing
 
@@ -183,7 +191,7 @@ guarded_is p s regs m new saves count sp ea ec es high e =
     go false f guards = refl
 
 -- no word is pushed and sp stays: the guards stay
-reguarded_none : (saves sp : ℕ) (m : Memory) → reguarded saves 0 sp sp m ≡ m
+pub reguarded_none : (saves sp : ℕ) (m : Memory) → reguarded saves 0 sp sp m ≡ m
 reguarded_none saves sp m = go (nat_lt sp sp) (not_below sp)
   where
     not_below : (n : ℕ) → nat_lt n n ≡ false
@@ -210,6 +218,19 @@ gate_stays p saves count old sp number s regs m new l em ec eo es en =
 -- what was done is a gate
 pub gate_done : (what : Stepped) (number : ℕ) → ◌≡◌ {A = Result Stepped End} (Ok what) (Ok (Gate number)) → what ≡ Gate number
 gate_done what number e = cc
+
+abbrev instr_or : Instr → Option (Instr × ℕ) → Instr
+instr_or i None = i
+instr_or i (Some at) = at.0
+
+-- a gate is done by an SVC alone
+pub not_gate : (i : Instr) (size : ℕ) (what : Stepped) (regs : Regs) (m : Memory) (after : Regs) → Leaves (Some (i, size)) what regs m after
+    → ((imm : ℕ) → i ≡ Svc imm → ⊥) → (number : ℕ) → what ≡ Gate number → ⊥
+not_gate i size (Gate n) regs m after l never number e = never n (ap (instr_or i) l.1)
+not_gate i size Done regs m after l never number e = absurd (cc)
+not_gate i size (Call target ret) regs m after l never number e = absurd (cc)
+not_gate i size (Return to) regs m after l never number e = absurd (cc)
+not_gate i size (Trap trap) regs m after l never number e = absurd (cc)
 
 pub gate_passes : (p : Program) (what : Stepped) (saves count old sp number : ℕ) (s : State) (regs : Regs) (m new : Memory) → what ≡ Gate number
     → Leaves (instr_for (profile_in p) s.memory s.regs.pc) what s.regs s.memory regs → LeavesMemory what s.memory m
@@ -262,6 +283,15 @@ module _ (profile : Profile) (regs : Regs) (m : Memory) (at : Instr × ℕ) wher
   -- one that stores nothing
   pub none_stored : AreWords regs → instr_for profile m regs.pc ≡ Some at → stores_of at.0 regs ≡ None → Restores profile Nothing regs m
   none_stored small there e = nothing_back profile regs m small (ap (λ (o : Option (Instr × ℕ)). stores_of_some o regs) there ∙ e)
+
+  -- .. leaves the memory
+  pub none_changed : (what : Stepped) (after : Regs) (new : Memory) → AreWords regs → instr_for profile m regs.pc ≡ Some at → stores_of at.0 regs ≡ None
+      → (what, after, new) ≡ effect at.0 at.1 regs m → Goes what → LeavesMemory what m new → new ≡ m
+  none_changed Done after new small there none e h l = none_stored small there none after new (sym (at_step (Done, after, new) there e))
+  none_changed (Call target ret) after new small there none e h l = l
+  none_changed (Return to) after new small there none e h l = l
+  none_changed (Gate number) after new small there none e h l = l
+  none_changed (Trap trap) after new small there none e h l = absurd (h trap refl)
 
 -- what it has done leaves the words that it pushes in the stack
 pub in_stack : (regs : Regs) (m : Memory) (at : Instr × ℕ) (n : ℕ) (what : Stepped) (after : Regs) (new : Memory) → IsMap m → length regs.r ≡ 15 → n ≡ length (pushed at.0)
@@ -330,6 +360,89 @@ no_test p s at n low what after there told home on room next =
 pub as_done : (p : Program) (s t : State) (what : Stepped) → what ≡ Done → ◌≡◌ {A = Passed} (Ok what, t) (passed p s) → ◌≡◌ {A = Passed} (Ok Done, t) (passed p s)
 as_done p s t what is e = let one : Stepped → Passed = λ w. (Ok w, t) in sym (ap one is) ∙ e
 
+-- what goes straight on goes to what follows it
+pub goes_after : (i : Instr) (size a : ℕ) → is_fall_through i ≡ true → goes_to i size a ≡ even ((a + size) % 2 ^ 32)
+goes_after (Bl off) size a e = absurd (cc)
+goes_after (ShiftImm op d k n) size a e = refl
+goes_after (AddSubReg sub d n k) size a e = refl
+goes_after (AddSubImm3 sub d n imm) size a e = refl
+goes_after (Imm8 op d imm) size a e = refl
+goes_after (Alu op d k) size a e = refl
+goes_after (CmpHigh n k) size a e = refl
+goes_after (Adr d off) size a e = refl
+goes_after (AddRdSp d off) size a e = refl
+goes_after (AddSp off) size a e = refl
+goes_after (SubSp off) size a e = refl
+goes_after (Extend op d k) size a e = refl
+goes_after (Rev op d k) size a e = refl
+goes_after (Hint n) size a e = refl
+goes_after (Barrier op option) size a e = refl
+goes_after (MovW d imm) size a e = refl
+goes_after (MovT d imm) size a e = refl
+goes_after (Div signed d n k) size a e = refl
+goes_after (AddHigh d k) size a e = refl
+goes_after (MovHigh d k) size a e = refl
+goes_after (BCond c off) size a e = refl
+goes_after (Cbz nonzero n off) size a e = refl
+goes_after (B off) size a e = refl
+goes_after (BWide off) size a e = refl
+goes_after (Blx k) size a e = refl
+goes_after (Bx k) size a e = refl
+goes_after (Svc imm) size a e = refl
+goes_after (LdrLit t off) size a e = refl
+goes_after (MemReg op t n k) size a e = refl
+goes_after (MemImm op t n off) size a e = refl
+goes_after (MemSp is_load t off) size a e = refl
+goes_after (Push list) size a e = refl
+goes_after (Pop list) size a e = refl
+goes_after (Stm n list) size a e = refl
+goes_after (Ldm n list) size a e = refl
+
+-- ---- a call of a function
+
+-- with sp as it was and in the running stack no test ends the run
+none_called : (p : Program) (landing : Option ℕ) (low pc old : ℕ) (taken : Bool) (target ret : ℕ) (regs : Regs) → slice_index regs.r SP ≡ old → low ≤ slice_index regs.r SP
+    → (p.look target).is_function ≡ true → refusal p (landing, low) (pc, old) taken (Call target ret) regs ≡ None
+none_called p landing low pc old taken target ret regs same above function =
+    go (raises (p.look pc).lowers old (slice_index regs.r SP)) (leaves_cleanup landing old (slice_index regs.r SP)) (nat_lt (slice_index regs.r SP) low)
+    ((p.look target).is_function) (not_raised (p.look pc).lowers old (slice_index regs.r SP) (omega (arith, same))) (not_left landing old (slice_index regs.r SP) (omega (arith, same)))
+    (le-ltb (slice_index regs.r SP) low above) function
+  where
+    go : (r a b f : Bool) → r ≡ false → a ≡ false → b ≡ false → f ≡ true
+        → option_or (cond r (Some (the_end.Trap kind.SpRaised (slice_index regs.r SP) pc)) (cond a (Some (the_end.Trap kind.SpInCleanup (slice_index regs.r SP) pc)) (cond b (Some (the_end.Trap kind.StackLimit (slice_index regs.r SP) pc)) None)))
+        (cond f None (Some (the_end.Trap kind.BadCallTarget target pc))) ≡ None
+    go true a b f er ea eb ef = absurd (cc)
+    go false true b f er ea eb ef = absurd (cc)
+    go false false true f er ea eb ef = absurd (cc)
+    go false false false false er ea eb ef = absurd (cc)
+    go false false false true er ea eb ef = refl
+
+-- what a BL does
+abbrev called : ℤ → ℕ → Regs → Stepped
+called off size regs = Call (goes_to (Bl off) size regs.pc) (link_of size regs)
+
+abbrev after_call : ℤ → ℕ → Regs → Regs
+after_call off size regs = with_pc (with_reg regs LR (link_of size regs)) (target_of off regs)
+
+pub call_passes : (p : Program) (s : State) (off : ℤ) (size low : ℕ) (what : Stepped) (regs : Regs) (m : Memory) → (p.look s.regs.pc).is_instr ≡ true
+    → instr_for (profile_in p) s.memory s.regs.pc ≡ Some (Bl off, size) → (what, regs, m) ≡ effect (Bl off) size s.regs s.memory
+    → (p.look (goes_to (Bl off) size s.regs.pc)).is_function ≡ true → low ≡ s.memory.home.0 → low ≤ reg s SP
+    → ◌≡◌ {A = Passed} (Ok what, record s { regs = regs; memory = m }) (passed p s)
+call_passes p s off size low what regs m reached there e function home above =
+    let call = called off size s.regs in
+    let after = after_call off size s.regs in
+    let landing = innermost_of (word s.memory) s.globals in
+    let count : pushes_some (instr_for (profile_in p) s.memory s.regs.pc) ≡ 0 = ap (λ (o : Option (Instr × ℕ)). pushes_some o) there in
+    let sp : slice_index after.r SP ≡ reg s SP = get_or-set_other s.regs.r 14 13 (word_in LR (link_of size s.regs)) 0 (omega arith) in
+    let did : (call, after, s.memory) ≡ step_for (profile_in p) s.regs s.memory = at_step (profile_in p) s.regs s.memory (Bl off, size) (call, after, s.memory) there refl in
+    let low_is : s.memory.home.0 ≤ slice_index after.r SP = subst (λ (k : ℕ). k ≤ slice_index after.r SP) home (omega (arith, above, sp)) in
+    let t : tests p s call after ≡ None =
+    none_called p landing s.memory.home.0 s.regs.pc (reg s SP) (branches_some (instr_for (profile_in p) s.memory s.regs.pc) s.regs)
+    (goes_to (Bl off) size s.regs.pc) (link_of size s.regs) after sp low_is function in
+    let one : Stepping → Passed = λ o. (Ok o.0, record s { regs = o.1; memory = o.2 }) in
+    ap one e ∙ tested_passes p s call after s.memory reached did (λ trap x. cc) s.memory t
+    (guarded_is p s after s.memory s.memory (p.look s.regs.pc).saves 0 (slice_index after.r SP) refl (sym count) refl (omega (arith, sp)) refl)
+
 -- ---- a branch that is taken
 
 -- with sp as it was and in the running stack no test ends the run
@@ -360,3 +473,21 @@ jump_passes p s at to low reached there told home above =
     ∙ none_stops p landing s.memory.home.0 s.regs.pc (reg s SP) after refl (subst (λ (k : ℕ). k ≤ reg s SP) home above) in
     tested_passes p s Done after s.memory reached did (λ trap e. cc) s.memory t
     (guarded_is p s after s.memory s.memory (p.look s.regs.pc).saves 0 (reg s SP) refl (sym count) refl (omega arith) refl)
+
+-- no cleanup is in progress where their chain has no head
+pub no_cleanup : (w : Pool) (g : Globals) → g.cleanup ≡ 0 → innermost_of w g ≡ None
+unfolding block_slot
+no_cleanup w g e = rw e refl
+
+-- where sp stays no cleanup is left, so the landing sp plays no part
+pub no_landing : (p : Program) (landing : Option ℕ) (low pc old : ℕ) (b : Bool) (what : Stepped) (regs : Regs) → slice_index regs.r SP ≡ old
+    → refusal p (None, low) (pc, old) b what regs ≡ refusal p (landing, low) (pc, old) b what regs
+no_landing p landing low pc old b what regs same =
+    let new = slice_index regs.r SP in
+    let with : Bool → Option End = λ x. option_or (cond (raises (p.look pc).lowers old new) (Some (the_end.Trap kind.SpRaised new pc))
+    (cond x (Some (the_end.Trap kind.SpInCleanup new pc)) (cond (nat_lt new low) (Some (the_end.Trap kind.StackLimit new pc)) None))) (control_flow_trap p b pc what regs) in
+    ap with (sym (not_left landing old new (omega (arith, same))))
+
+-- pc back, as it was before a gate
+pub back_at : (core : Core) (size : ℕ) (regs : Regs) → regs ≡ with_next size core.regs → record core { regs = record regs { pc = core.regs.pc } } ≡ core
+back_at core size regs e = ap (λ (r : Regs). record core { regs = record r { pc = core.regs.pc } }) e

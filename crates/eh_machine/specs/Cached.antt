@@ -19,6 +19,7 @@ pub record IsOfLine (p : Program) (line : CacheLine) : Type 0 where
   pub decoded : instr_of (decoded_for (profile_in p) line.halfwords.first line.halfwords.second) ≡ Some (at_of line.fetched)
   pub range : InRange line.fetched.instr
   pub roles : HasRoles p line.address line.fetched
+  pub begins : line.begins ≡ (p.look line.address).is_function
 
 abbrev pub IsLine : Program → CacheLine → Type 0
 IsLine p line = line.is_kept ≡ true → IsOfLine p line

@@ -1,14 +1,16 @@
 -- What a call that does one instruction up to its gate has done.
-use Rattle.std.specs.Prelude.{◌≡◌, ◌+◌, ◌%◌, ◌^◌, ◌≤◌, ℕ, Bool, true, false, length, Some, Result, Ok, IfErr}
+use Rattle.std.specs.Prelude.{◌≡◌, ◌+◌, ◌%◌, ◌^◌, ◌≤◌, ℕ, ℤ, Bool, true, false, length, Some, Result, Ok, IfErr}
 use Rattle.eh_bus.specs.Memory.{Memory}
 use Rattle.guest_gates.specs.Ends.{is_fault}
 use Rattle.thumb_isa.specs.Range.{InRange}
 use Rattle.thumb_isa.specs.declared.instr.Instr.{Instr}
+use Rattle.thumb_isa.specs.declared.instr.Instr.TheVariants.{Bl}
+use Rattle.thumb_core.specs.Data.{forward}
 use Rattle.thumb_core.specs.Registers.{even}
 use Rattle.thumb_core.specs.Step.{instr_for}
 use Rattle.thumb_core.specs.declared.regs.Regs.{Regs}
 use Rattle.thumb_core.specs.declared.regs.Stepped.{Stepped}
-use Rattle.thumb_core.specs.declared.regs.Stepped.TheVariants.{Done, Gate}
+use Rattle.thumb_core.specs.declared.regs.Stepped.TheVariants.{Gate}
 use Rattle.thumb_core.specs.declared.ends.End.{End}
 use Rattle.step_ahead.specs.Ahead.{branches, pushed}
 use Rattle.eh_trace.specs.Trace.{Trace}
@@ -23,11 +25,17 @@ use Rattle.machines_agree.specs.two_machines.Machine.{Passed, passed, with_pc_of
 abbrev pub at_of : Fetched → Instr × ℕ
 at_of at = (at.instr, at.size)
 
--- by the checker: it was reached, whether it is a lowering place, whether a function begins after it, and which words that it pushes are saves
+-- where one at an address goes on to by itself: a BL to its target, any other to what follows it
+abbrev pub goes_to : Instr → ℕ → ℕ → ℕ
+goes_to (Bl off) size a = even (forward ((a + 4) % 2 ^ 32) off % 2 ^ 32)
+goes_to i size a = even ((a + size) % 2 ^ 32)
+
+-- by the checker: it was reached, whether it is a lowering place, whether a function begins where it goes on to by itself, and which words that
+-- it pushes are saves
 pub record HasRoles (p : Program) (a : ℕ) (at : Fetched) : Type 0 where
   pub reached : (p.look a).is_instr ≡ true
   pub lowers : at.lowers ≡ (p.look a).lowers
-  pub last : at.is_last ≡ (p.look (even ((a + at.size) % 2 ^ 32))).is_function
+  pub meets : at.meets_function ≡ (p.look (goes_to at.instr at.size a)).is_function
   pub saves : at.saves ≡ (p.look a).saves
 
 -- it stands there by the rows of the program's profile, with fields that an instruction has
@@ -35,6 +43,11 @@ pub record IsFetched (p : Program) (a : ℕ) (m : Memory) (at : Fetched) : Type 
   pub there : instr_for (profile_in p) m a ≡ Some (at_of at)
   pub range : InRange at.instr
   pub roles : HasRoles p a at
+
+-- a BL
+pub record IsCall (i : Instr) : Type 0 where
+  pub off : ℤ
+  pub is : i ≡ Bl off
 
 -- whether it branches, and how many words it pushes
 pub record Tells (i : Instr) (regs : Regs) (is_taken : Bool) (pushes : ℕ) : Type 0 where
@@ -51,7 +64,13 @@ pub record Passes (p : Program) (core : Core) (m : Memory) (result : Result Step
   pub inside : IfErr result (λ end. is_fault end ≡ false)
   pub gate : (number : ℕ) (events : Trace) → result ≡ Ok (Gate number) → with_pc_of (state_of core' m' events) core.regs.pc ≡ state_of core m events
 
+-- an instruction that is no gate has passed, whatever it did
+pub record PassesOn (p : Program) (core : Core) (m : Memory) (core' : Core) (m' : Memory) : Type 0 where
+  pub what : Stepped
+  pub no_gate : (number : ℕ) → what ≡ Gate number → ⊥
+  pub passes : Passes p core m (Ok what) core' m'
+
 -- the same of a call that tries an instruction: where it was done it went on, else nothing is changed
 pub record Tried (p : Program) (core : Core) (m : Memory) (is_done : Bool) (core' : Core) (m' : Memory) : Type 0 where
-  pub done : is_done ≡ true → Passes p core m (Ok Done) core' m'
+  pub done : is_done ≡ true → PassesOn p core m core' m'
   pub left : is_done ≡ false → (core' ≡ core) × (m' ≡ m)

@@ -2,6 +2,7 @@
 //! (docs/machine.md, "An event").
 ghost use Rattle.std.specs.Prelude.{◌≡◌, ◌<◌, ◌≤◌, true, false, IfSome};
 ghost use Rattle.eh_bus.specs.Memory.{Memory};
+ghost use Rattle.machines_agree.specs.two_machines.Checked.{program_of};
 ghost use Rattle.machines_agree.specs.two_machines.Program.{Program};
 ghost use Rattle.eh_machine.specs.Cached.{IsCache, IsLine, IsConfirmed, IsCounting, IsOfRound, StandFast};
 ghost use Rattle.eh_machine.specs.Passes.{IsFetched};
@@ -11,6 +12,7 @@ use crate::pass::Fetched;
 use crate::read_only::stand_fast;
 use code_halfwords::halfwords::{Halfwords, halfwords_at, still_stand};
 use eh_bus::bus::Bus;
+use frame_check::Accepted;
 use thumb_isa::instr::Instr;
 
 /// How many lines a cache has.
@@ -26,6 +28,8 @@ pub(crate) struct CacheLine {
     confirmed: u32,
     /// Whether it is the line of something that was fetched; the others are never confirmed, so an event needn't ask.
     is_kept: bool,
+    /// Whether a function begins at the address.
+    begins: bool,
 }
 
 /// What was fetched last at the addresses of each line. What is kept holds of the program whatever the memory holds: a line is taken only where
@@ -67,11 +71,12 @@ fn empty_line() -> CacheLine
             instr: Instr::Hint { n: 0 },
             size: 2,
             lowers: false,
-            is_last: false,
+            meets_function: false,
             saves: 0,
         },
         confirmed: NO_ROUND,
         is_kept: false,
+        begins: false,
     }
 }
 
@@ -133,6 +138,17 @@ impl DecodeCache {
         Some(&line.fetched)
     }
 
+    /// Whether a function begins at an address. Where it has a line of its own, the checker isn't asked.
+    #[inline(always)]
+    pub(crate) fn begins_at(&self, a: &Accepted, address: u32) -> bool
+        ensures { IsCache (program_of a.now) self.now → result ≡ ((program_of a.now).look address).is_function }
+    {
+        match self.line(address) {
+            Some(line) if line.is_kept => line.begins,
+            _ => a.is_function(address),
+        }
+    }
+
     /// Puts a line in place of the one that has its number.
     fn put(&mut self, line: CacheLine)
         ensures cache { (p : Program) → IsCache p self.old → IsLine p line → IsCache p self.new }
@@ -149,10 +165,10 @@ impl DecodeCache {
         if is_fast { self.round } else { NO_ROUND }
     }
 
-    /// Keeps what was fetched at an address, confirmed where its halfwords stand fast there.
-    pub(crate) fn keep<B: Bus>(&mut self, address: u32, fetched: Fetched, bus: &mut B)
+    /// Keeps what was fetched at an address, and whether a function begins there; confirmed where its halfwords stand fast there.
+    pub(crate) fn keep<B: Bus>(&mut self, address: u32, fetched: Fetched, begins: bool, bus: &mut B)
         ensures same { B.memory bus.new ≡ B.memory bus.old }
-        ensures cache { (p : Program) → IsCache p self.old → IsFetched p address (B.memory bus.old) fetched → IsCache p self.new }
+        ensures cache { (p : Program) → IsCache p self.old → IsFetched p address (B.memory bus.old) fetched → begins ≡ (p.look address).is_function → IsCache p self.new }
         ensures confirmed { IsConfirmed (B.memory bus.old) self.old → IsConfirmed (B.memory bus.old) self.new }
     {
         let Some(halfwords) = halfwords_at(address, bus) else {
@@ -166,6 +182,7 @@ impl DecodeCache {
             fetched,
             confirmed,
             is_kept: true,
+            begins,
         });
     }
 

@@ -6,7 +6,7 @@ ghost use Rattle.given_input.specs.Given.{OnGiven};
 ghost use Rattle.machines_agree.specs.two_machines.Checked.{program_of};
 ghost use Rattle.step_ahead.specs.Ahead.{IsAhead};
 ghost use Rattle.eh_machine.specs.Cached.{IsCache, IsConfirmed};
-ghost use Rattle.eh_machine.specs.Passes.{IsFetched, Passes};
+ghost use Rattle.eh_machine.specs.Passes.{IsFetched, Passes, Tried};
 ghost use Rattle.eh_machine.specs.Turns.{TurnedOnce, CountsFaults};
 ghost use Rattle.eh_machine.specs.Follows.{FollowsOnce};
 
@@ -57,7 +57,7 @@ pub fn turn<B: Bus, I: Source, O: Sink>(
 {
     holds(a);
     match fetch_checked(a, core, &shared.bus) {
-        Ok(at) => turn_at(a, &at, core, shared, events, input, out),
+        Ok(at) => turn_at(a, None, &at, core, shared, events, input, out),
         Err(end) => Turned::Ended(end),
     }
 }
@@ -88,10 +88,61 @@ pub(crate) fn turn_confirmed<B: Bus, I: Source, O: Sink>(
         TurnedOnce (program_of a.now) old bytes result new left (O.written out.old) (O.written out.new)) }
     ensures faults { CountsFaults (λ end. result ≡ Turned.Ended end) (I.faults input.old) (I.faults input.new) (O.faults out.old) (O.faults out.new) }
 {
+    if went_fast(a, cache, core, &mut shared.bus) {
+        return Turned::Went;
+    }
+    turn_slowly(a, cache, core, shared, events, input, out)
+}
+
+/// Whether what stands at pc is confirmed and took the fast path. Else nothing is changed. Most events are this and no more, so it answers
+/// nothing else.
+#[inline(always)]
+pub(crate) fn went_fast<B: Bus>(
+    a: &Accepted,
+    cache: &DecodeCache,
+    core: &mut Core,
+    bus: &mut B,
+) -> bool
+    requires cache { IsCache (program_of a.now) cache.now }
+    requires confirmed { IsConfirmed (B.memory bus.old) cache.now }
+    ensures { Tried (program_of a.now) core.old (B.memory bus.old) result core.new (B.memory bus.new) }
+{
+    let Some(at) = cache.find_confirmed(core.regs.pc) else {
+        return false;
+    };
+    let ahead = look_ahead(at.instr, &core.regs);
+    fast_path(a, Some(cache), at, ahead, core, bus)
+}
+
+/// An event of the others: of what isn't confirmed, and of what the fast path doesn't do.
+pub(crate) fn turn_slowly<B: Bus, I: Source, O: Sink>(
+    a: &Accepted,
+    cache: &mut DecodeCache,
+    core: &mut Core,
+    shared: &mut Shared<B>,
+    events: &mut Events,
+    input: &mut I,
+    out: &mut O,
+) -> Turned
+    requires cache { IsCache (program_of a.now) cache.old }
+    requires confirmed { IsConfirmed (B.memory shared.old.bus) cache.old }
+    ensures cache { IsCache (program_of a.now) cache.new }
+    ensures confirmed { IsConfirmed (B.memory shared.new.bus) cache.new }
+    ensures told { IfSome (I.left input.old) (λ bytes.
+        let old : State = state_of core.old (B.memory shared.old.bus) events.old in
+        let new : State = state_of core.new (B.memory shared.new.bus) events.new in
+        TurnedOnce (program_of a.now) old bytes result new (I.left input.new) (O.written out.old) (O.written out.new)) }
+    ensures given { OnGiven (λ bytes left.
+        let old : State = state_of core.old (B.memory shared.old.bus) events.old in
+        let new : State = state_of core.new (B.memory shared.new.bus) events.new in
+        TurnedOnce (program_of a.now) old bytes result new left (O.written out.old) (O.written out.new)) }
+    ensures faults { CountsFaults (λ end. result ≡ Turned.Ended end) (I.faults input.old) (I.faults input.new) (O.faults out.old) (O.faults out.new) }
+{
     let Some(at) = cache.find_confirmed(core.regs.pc) else {
         return turn_unconfirmed(a, cache, core, shared, events, input, out);
     };
-    turn_at(a, at, core, shared, events, input, out)
+    let ahead = look_ahead(at.instr, &core.regs);
+    slow_path(a, at, ahead, core, shared, events, input, out)
 }
 
 /// What stands at pc, which isn't confirmed: as its line has it, where the memory still gives it, and else fetched.
@@ -141,14 +192,16 @@ fn turn_unconfirmed<B: Bus, I: Source, O: Sink>(
         Ok(at) => at,
         Err(end) => return Turned::Ended(end),
     };
-    cache.keep(core.regs.pc, at, &mut shared.bus);
-    turn_at(a, &at, core, shared, events, input, out)
+    let begins = a.is_function(core.regs.pc);
+    cache.keep(core.regs.pc, at, begins, &mut shared.bus);
+    turn_at(a, Some(cache), &at, core, shared, events, input, out)
 }
 
 /// The event of the instruction `at` pc. Most take the fast path, by tests that are told before they are done; the others are done first.
 #[inline(always)]
 fn turn_at<B: Bus, I: Source, O: Sink>(
     a: &Accepted,
+    cache: Option<&DecodeCache>,
     at: &Fetched,
     core: &mut Core,
     shared: &mut Shared<B>,
@@ -156,7 +209,8 @@ fn turn_at<B: Bus, I: Source, O: Sink>(
     input: &mut I,
     out: &mut O,
 ) -> Turned
-    requires { IsFetched (program_of a.now) core.old.regs.pc (B.memory shared.old.bus) at.now }
+    requires cache { IfSome cache (λ c. IsCache (program_of a.now) c.now) }
+    requires fetched { IsFetched (program_of a.now) core.old.regs.pc (B.memory shared.old.bus) at.now }
     ensures told { IfSome (I.left input.old) (λ bytes.
         let old : State = state_of core.old (B.memory shared.old.bus) events.old in
         let new : State = state_of core.new (B.memory shared.new.bus) events.new in
@@ -170,7 +224,7 @@ fn turn_at<B: Bus, I: Source, O: Sink>(
 {
     let ahead = look_ahead(at.instr, &core.regs);
     // most instructions, and they are not to pay for what the others go on to
-    if fast_path(at, ahead, core, &mut shared.bus) {
+    if fast_path(a, cache, at, ahead, core, &mut shared.bus) {
         return Turned::Went;
     }
     slow_path(a, at, ahead, core, shared, events, input, out)

@@ -10,7 +10,7 @@ ghost use Rattle.eh_machine.specs.Follows.{FollowsRun};
 
 use crate::accepted::holds;
 use crate::decode_cache::DecodeCache;
-use crate::event::{Shared, turn_confirmed};
+use crate::event::{Shared, turn_slowly, went_fast};
 use eh_bus::bus::Bus;
 use eh_gates::{Core, Turned};
 use eh_port::{Sink, Source};
@@ -54,7 +54,11 @@ impl<'a, B: Bus> Machine<'a, B> {
         // counted here, so that an event needn't write it to where the machine stands
         let mut left = self.left;
         while left > 0 {
-            match turn_confirmed(
+            if went_fast(accepted, &cache, &mut self.core, &mut self.shared.bus) {
+                left -= 1;
+                continue;
+            }
+            match turn_slowly(
                 accepted,
                 &mut cache,
                 &mut self.core,

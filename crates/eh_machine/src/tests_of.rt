@@ -1,10 +1,12 @@
 //! The tests between an instruction and what it goes on to (docs/machine.md, "An event").
-ghost use Rattle.std.specs.Prelude.{◌≡◌, ℕ, ◌<◌, ◌≤◌, ◌*◌, true, false, IfSome};
+ghost use Rattle.std.specs.Prelude.{◌≡◌, ℕ, ◌<◌, ◌≤◌, ◌*◌, true, false, None, IfSome};
 ghost use Rattle.guest_gates.specs.Ends.{is_fault};
 ghost use Rattle.step_ahead.specs.UndoRecord.{lowest};
 ghost use Rattle.machines_agree.specs.two_machines.Checked.{program_of};
+ghost use Rattle.eh_machine.specs.Cached.{IsCache};
 ghost use Rattle.machines_agree.specs.two_machines.Machine.{leaves_cleanup, sp_end, fell_off, goes_after, control_flow_trap, refusal};
 
+use crate::decode_cache::DecodeCache;
 use eh_gates::gates::{ALLOCATE_GATE, BEGIN_CATCH_GATE, END_CATCH_GATE, FREE_GATE, UNCAUGHT_GATE};
 use frame_check::Accepted;
 use guest_gates::{INPUT_GATE, NO_CALLER, OUTPUT_GATE};
@@ -146,5 +148,45 @@ pub(crate) fn has_room(sp: u32, pushes: u32, low: u32) -> bool
     match sp.checked_sub(4 * pushes) {
         Some(after) => low <= after - after % 4,
         None => false,
+    }
+}
+
+/// Whether a function begins at an address, asked of a decode cache where there is one.
+#[inline(always)]
+fn begins_at(a: &Accepted, cache: Option<&DecodeCache>, address: u32) -> bool
+    requires { IfSome cache (λ c. IsCache (program_of a.now) c.now) }
+    ensures { result ≡ ((program_of a.now).look address).is_function }
+{
+    match cache {
+        Some(cache) => cache.begins_at(a, address),
+        None => a.is_function(address),
+    }
+}
+
+/// Whether no test forbids what was done, where no cleanup is in progress. `lowers` says whether
+/// it is a lowering place, `low` is the start of the running stack, `at` has pc and sp before the instruction. What is no return and doesn't go straight on is not let pass.
+#[inline(always)]
+pub(crate) fn lets_pass(
+    a: &Accepted,
+    cache: Option<&DecodeCache>,
+    lowers: bool,
+    low: u32,
+    at: (u32, u32),
+    branches: bool,
+    what: Stepped,
+    regs: &Regs,
+) -> bool
+    requires cache { IfSome cache (λ c. IsCache (program_of a.now) c.now) }
+    requires lowers { lowers ≡ ((program_of a.now).look at.0).lowers }
+    ensures { result ≡ true → refusal (program_of a.now) (None, low) at branches what regs.now ≡ None }
+{
+    let (pc, old) = at;
+    if sp_end(lowers, None, low, pc, old, regs.r[SP as usize]).is_some() {
+        return false;
+    }
+    match what {
+        Stepped::Done => branches || !begins_at(a, cache, regs.pc),
+        Stepped::Return { to } => to != NO_CALLER && !begins_at(a, cache, regs.pc),
+        Stepped::Call { .. } | Stepped::Gate(_) | Stepped::Trap(_) => false,
     }
 }

@@ -3,7 +3,7 @@ use Rattle.thumb_core.specs.declared.regs.Stepped.TheVariants.{Done}
 use Rattle.eh_gates.specs.State.{State, state_of}
 use Rattle.machines_agree.specs.two_machines.Program.{profile_in}
 use Rattle.eh_machine.specs.Passes.{at_of}
-use Rattle.eh_machine.proofs.Passing.{went_on, was_done, tested_passes, guarded_is, at_step, pushes_there, in_stack, straight, no_test, as_done}
+use Rattle.eh_machine.proofs.Passing.{went_on, was_done, tested_passes, guarded_is, at_step, pushes_there, in_stack, straight, no_test, as_done, goes_after}
 use Rattle.eh_machine.proofs.pass.fall_through.Goals as goal
 
 pub guard_pushed-requires : goal.guard_pushed-requires
@@ -36,11 +36,11 @@ returns g c = λ p is.
     let new = g.B.Bus.memory c.guard_pushed.new.bus in
     let on = straight c.args.core.now.regs old at c.args.pushes what regs m c.requires.told c.requires.range (omega arith) c.are_words.ensures (c.if-not-has_room.ensures.room refl)
     c.execute-what.ensures.effect c.in_default.not-Trap in
-    was_done p c.args.core.now old _ _ (went_on p c.args.core.now old _ _ Done (λ events.
+    was_done p c.args.core.now old _ _ Done (λ number e. absurd (cc)) (went_on p c.args.core.now old _ _ Done (λ events.
     let s : State = state_of c.args.core.now old events in
     let did = at_step (profile_in p) s.regs old at (what, regs, m) is.there c.execute-what.ensures.effect in
     let t = no_test p s at c.args.pushes c.home-low.result.0 what regs is.there c.requires.told (ap (λ (h : ℕ × ℕ). h.0) c.home-low.ensures) on
-    (c.if-not-has_room.ensures.low refl) (sym is.roles.last ∙ c.if-at.false) in
+    (c.if-not-has_room.ensures.low refl) (ap (λ (x : ℕ). (p.look x).is_function) (sym (goes_after at.0 at.1 s.regs.pc c.requires.told.fall_through)) ∙ sym is.roles.meets ∙ c.if-at.false) in
     as_done p s _ what on.done (tested_passes p s what regs m is.roles.reached did c.in_default.not-Trap new t
     (guarded_is p s regs m new _ c.args.pushes _ is.roles.saves (pushes_there (profile_in p) s.regs old at c.args.pushes is.there c.requires.told.count) refl on.high c.guard_pushed.ensures)))
     (λ number events gate. absurd (cc)))

@@ -26,7 +26,7 @@ returns-in-Ok-clause-fetched g c = record {
   roles = record {
     reached = sym c.is_instr-known.ensures.role ∙ c.if-not-known.false;
     lowers = c.lowers_at.ensures.role;
-    last = c.begins_after.ensures;
+    meets = c.meets_function.ensures;
     saves = c.saves_at.ensures.role;
   };
 }

@@ -8,7 +8,7 @@ use Rattle.eh_machine.proofs.pass.jump.Goals as goal
 pub returns : goal.returns
 returns g c = λ p is.
     let m = g.B.Bus.memory c.args.bus.now in
-    was_done p c.args.core.now m _ _ (went_on p c.args.core.now m _ _ Done (λ events.
+    was_done p c.args.core.now m _ _ Done (λ number e. absurd (cc)) (went_on p c.args.core.now m _ _ Done (λ events.
     jump_passes p (state_of c.args.core.now m events) (at_of c.args.at.now) c.args.to c.home-low.result.0 is.roles.reached is.there c.requires.told
     (ap (λ (h : ℕ × ℕ). h.0) c.home-low.ensures) (omega arith))
     (λ number events gate. absurd (cc)))

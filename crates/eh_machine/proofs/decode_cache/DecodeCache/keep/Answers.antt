@@ -3,8 +3,8 @@ use Rattle.eh_machine.proofs.Cached.{is_of_line}
 use Rattle.eh_machine.proofs.decode_cache.DecodeCache.keep.Goals as goal
 
 pub returns-clause-cache : goal.returns-clause-cache
-returns-clause-cache g c = λ p cache is.
-    c.put.ensures.cache p cache (is_of_line p (g.B.Bus.memory c.args.bus.now) c.args.address c.in-Some.halfwords c.args.fetched c.round_of-confirmed.result is c.in-Some.ensures)
+returns-clause-cache g c = λ p cache is begins.
+    c.put.ensures.cache p cache (is_of_line p (g.B.Bus.memory c.args.bus.now) c.args.address c.in-Some.halfwords c.args.fetched c.round_of-confirmed.result c.args.begins is begins c.in-Some.ensures)
 
 pub returns-clause-confirmed : goal.returns-clause-confirmed
 returns-clause-confirmed g c = λ is.
