@@ -1,5 +1,5 @@
 -- Codes that pop r4 to r4+n and the link register, and then finish.
-use Rattle.std.proofs.Common.{◌≡◌, ℕ, ◌+◌, ◌%◌, ◌<◌, ◌≤◌, ◌^◌, List, ◌∷◌, arith, ◌∙◌, ap, sym}
+use Rattle.std.proofs.Common.{◌≡◌, ℕ, ◌%◌, ◌<◌, ◌≤◌, ◌^◌, List, ◌∷◌, arith, ◌∙◌, ap, sym}
 use Rattle.std.specs.Prelude.{Ok, Err}
 use Rattle.eh_bus.specs.Segment.{Segment}
 use Rattle.unwind_codes.specs.declared.code.Code.{Code}
@@ -43,3 +43,6 @@ saves_cut codes rest more first last e f low high is =
     ∙ cut_code 0 (first ∷ 0xB0 ∷ more) (PopRangeAndLr (first % 2 ^ 3)) 1 (sym (range_and_lr first (0xB0 ∷ more) low high))
     ∙ ap (λ l. Is (PopRangeAndLr (first % 2 ^ 3)) ∷ l) (cut_code 1 (0xB0 ∷ more) Finish 1 (sym (finish 0xB0 more (omega arith))))
     ∙ ap (λ n. Is (PopRangeAndLr n) ∷ Is Finish ∷ cut_from 2 more) (let k : first % 2 ^ 3 ≡ last = sym is in k)
+
+pub finish_cut : (codes rest : List ℕ) → codes ≡ 0xB0 ∷ rest → cut codes ≡ Is Finish ∷ cut_from 1 rest
+finish_cut codes rest e = ap cut e ∙ cut_code 0 (0xB0 ∷ rest) Finish 1 (sym (finish 0xB0 rest (omega arith)))

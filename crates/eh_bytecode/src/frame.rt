@@ -2,6 +2,7 @@
 //! the table.
 ghost use Rattle.std.specs.Prelude.{◌≡◌, List, ◌∷◌, ◌+◌, ◌-◌, ◌*◌, ◌/◌, ◌%◌, ◌^◌, ◌<◌, ◌≤◌, ◌==◌, length, IfOk, IfErr, Ok, Err};
 ghost use Rattle.std.specs.Int.{bit_at};
+ghost use Rattle.eh_bus.specs.Segment.{Segment};
 ghost use Rattle.thumb_core.specs.Words.{load_words, loads_from, listed};
 ghost use Rattle.unwind_codes.specs.Bytes.{IsCode};
 ghost use Rattle.unwind_codes.specs.Cut.{Item, Is, cut};
@@ -194,13 +195,26 @@ fn unwind_saves<B: Bus>(last: u8, vrs: &mut Vrs, bus: &B) -> UnwindEnd
     }
 }
 
+/// Unwinds a frame by codes that finish first.
+#[inline(always)]
+fn unwind_at_once(vrs: &mut Vrs) -> UnwindEnd
+    ensures { (segments : List Segment) (more : List Item) → (result, vrs.new) ≡ answer vrs.old (unwound segments vrs.old.r (Is Finish ∷ more)) }
+{
+    let state = Unwinding::begin(vrs);
+    state.finish(vrs);
+    UnwindEnd::Finished
+}
+
 /// Unwinds a frame by the codes that are left, over the words of a memory. `vrs` changes only where the codes finish; then it has the
-/// caller's registers. Codes that pop what most functions push are known by their first two bytes.
+/// caller's registers. Codes that finish first are known by their first byte, and those that pop what most functions push by two.
 pub fn unwind<B: Bus>(codes: &Codes, vrs: &mut Vrs, bus: &B) -> UnwindEnd
     ensures { (result, vrs.new) ≡ answer vrs.old (unwound (B.memory bus.now).segments vrs.old.r (cut codes.now)) }
 {
     let mut left = codes.again();
     if let Some(first) = left.next() {
+        if first == FINISH {
+            return unwind_at_once(vrs);
+        }
         if first >= POP_RANGE_AND_LR && first < FINISH {
             if let Some(second) = left.next() {
                 if second == FINISH {

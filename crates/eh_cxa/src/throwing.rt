@@ -62,6 +62,7 @@ pub fn set_barrier<B: Bus>(bus: &mut B, ucb: u32, w: &BarrierWords)
 }
 
 /// The barrier that stands in the control block.
+#[inline(always)]
 pub fn barrier<B: Bus>(bus: &B, ucb: u32) -> BarrierWords
     requires { IsSome (block_slot ucb) }
     ensures { result ≡ barrier_of (word (B.memory bus.now)) (block_slot ucb) }

@@ -212,6 +212,7 @@ impl<'i, 'a> Index<'i, 'a> {
     /// The same entry, sought from a row outwards: two rows are read where its row is that one or the one before it, and in the worst
     /// case a few more than `find` reads. `near` is any number; best is the row of the entry that was found last. The second of the
     /// result is the row of this one.
+    #[inline(always)]
     pub fn find_near(&self, site: u32, near: u32) -> (Option<Entry>, u32)
         ensures covering { result.0 ≡ covering (entries_of self.now) site }
         ensures stands { IfSome result.0 (IsEntry self.now) }

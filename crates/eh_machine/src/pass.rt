@@ -101,7 +101,7 @@ pub(crate) fn fast_path<B: Bus>(
     }
 }
 
-/// The same of those that move sp or leave their function: the kinds that a function's calls consist of. Each has code of its own.
+/// The same of those that move sp or leave their function: the kinds that a function's calls consist of.
 #[inline(always)]
 fn fast_other<B: Bus>(
     a: &Accepted,
@@ -119,6 +119,26 @@ fn fast_other<B: Bus>(
     match at.instr {
         Instr::Bl { off } => call(at, Instr::Bl { off }, core, bus),
         Instr::Pop { list } => do_and_test(a, cache, at, Instr::Pop { list }, branches, core, bus),
+        _ => fast_seldom(a, cache, at, branches, core, bus),
+    }
+}
+
+/// The same of the others, by a call of its own: so that what most functions have at their calls and returns is built into the loop.
+#[inline(never)]
+fn fast_seldom<B: Bus>(
+    a: &Accepted,
+    cache: Option<&DecodeCache>,
+    at: &Fetched,
+    branches: bool,
+    core: &mut Core,
+    bus: &mut B,
+) -> bool
+    requires cache { IfSome cache (λ c. IsCache (program_of a.now) c.now) }
+    requires fetched { IsFetched (program_of a.now) core.old.regs.pc (B.memory bus.old) at.now }
+    requires told { IsOther at.now.instr core.old.regs branches }
+    ensures { Tried (program_of a.now) core.old (B.memory bus.old) result core.new (B.memory bus.new) }
+{
+    match at.instr {
         Instr::Bx { m } => do_and_test(a, cache, at, Instr::Bx { m }, branches, core, bus),
         Instr::AddSp { off } => do_and_test(
             a,

@@ -1,7 +1,7 @@
-use Rattle.std.proofs.Common.{rules, ◌≡◌, ◌∷◌, sym, ap, ◌∙◌, List, arith}
+use Rattle.std.proofs.Common.{rules, ◌≡◌, ℕ, ◌∷◌, sym, ap, ◌∙◌, List, arith}
 use Rattle.unwind_codes.specs.Cut.{Item}
 use Rattle.eh_bytecode.specs.Meaning.{unwound, answer}
-use Rattle.eh_bytecode.proofs.Saves.{saves_cut}
+use Rattle.eh_bytecode.proofs.Saves.{saves_cut, finish_cut}
 use Rattle.eh_bytecode.proofs.frame.unwind.Goals as goal
 
 pub returns-then-second : goal.returns-then-second
@@ -11,3 +11,9 @@ returns-then-second g c =
     c.unwind_saves.ensures _
     ∙ ap (λ (items : List Item). answer c.args.vrs.now (unwound (g.B.Bus.memory c.args.bus.now).segments c.args.vrs.now.r items))
     (sym (saves_cut _ _ _ c.in-Some.first _ e1 e2 (omega arith) (omega arith) (omega arith)))
+
+pub returns-then-first : goal.returns-then-first
+returns-then-first g c =
+    let e1 : c.args.codes.now ≡ 0xB0 ∷ c.next.new.self = sym c.again-left.ensures ∙ c.in-Some.ensures.steps ∙ ap (λ (b : ℕ). b ∷ c.next.new.self) (search rules) in
+    c.unwind_at_once.ensures _ _
+    ∙ ap (λ (items : List Item). answer c.args.vrs.now (unwound (g.B.Bus.memory c.args.bus.now).segments c.args.vrs.now.r items)) (sym (finish_cut _ _ e1))
