@@ -1,12 +1,12 @@
 -- Pages as they are made: a page is added, a byte claimed, a run of bytes filled, a segment laid.
-use Rattle.std.proofs.Common.{◌≡◌, ◌≢◌, ℕ, zero, suc, ◌+◌, ◌-◌, ◌*◌, ◌/◌, ◌%◌, ◌<◌, ◌≤◌, ◌⊎◌, inl, inr, Bool, true, false, ◌==◌, nat_lt, List, [], ◌∷◌, ◌++◌, length, get_or, map, take, drop, set, Option, Some, None, Result, Ok, Err, append_assoc, drop-cons, refl, sym, ap, ◌∙◌, arith, le-leb}
-use Rattle.std.proofs.lemmas.List.{get_or-set_same, get_or-set_other, length-set, length-append, get_or_append_left, get_or-append-add, get_or_push, get_or_past, same_lists, length-map, map-append, length-replicate, take-append-drop, take_more}
+use Rattle.std.proofs.Common.{◌≡◌, ℕ, zero, suc, ◌+◌, ◌-◌, ◌*◌, ◌/◌, ◌%◌, ◌<◌, ◌≤◌, ◌⊎◌, inl, inr, Bool, true, false, ◌==◌, nat_lt, List, [], ◌∷◌, ◌++◌, length, get_or, map, take, drop, set, Option, Some, None, Result, Ok, Err, append_assoc, drop-cons, refl, sym, ap, ◌∙◌, arith, le-leb, replicate}
+use Rattle.std.proofs.lemmas.List.{get_or-set_same, get_or-set_other, length-set, length-append, get_or_append_left, get_or-append-add, get_or_push, get_or_past, same_lists, length-map, map-append, length-replicate, take-append-drop, take_more, places, length-take, get_or-take, get_or-drop, get_or-append_right, get_or-replicate}
 use Rattle.std.proofs.lemmas.Grind.{same_number_lists}
 use Rattle.std.proofs.lemmas.Bool.{ltb-true, ltb-false, eqb-true, eqb-false}
 use Rattle.std.specs.Prelude.{IsTrue, OnOk, IfOk}
 use Rattle.eh_list.specs.Bytes.{zeros, length-zeros}
 use Rattle.eh_bus.specs.Segment.{Segment, holds}
-use Rattle.bus_memories.specs.Pages.{Pages, ArePages, AreUsed, Ready, Claimed, Filled, Lays, with_page, no_pages, no_places, cell_in, cell_of, byte_at_cell, owner_at_cell, byte_of, owner_of, segment_at, segments_at, covers, bytes_from}
+use Rattle.bus_memories.specs.Pages.{Pages, ArePages, AreUsed, Ready, Filled, Lays, with_page, no_pages, no_places, cell_in, cell_of, byte_at_cell, owner_at_cell, byte_of, owner_of, segment_at, segments_at, covers, bytes_from}
 use Rattle.bus_memories.specs.declared.part.Part.{Part}
 use Rattle.eh_bus.specs.declared.segment.SegmentSpec.{SegmentSpec}
 use Rattle.eh_bus.specs.Map.{AreApart}
@@ -16,7 +16,7 @@ use Rattle.eh_bus.proofs.BuiltLemmas.{length-segment_of, apart_all, image_ends}
 use Rattle.eh_bus.proofs.PartLaws.{get_or-zeros}
 use Rattle.std.proofs.Math.Seq.{take-length}
 use Rattle.eh_bus.proofs.MapLaws.{one_apart}
-use Rattle.bus_memories.proofs.PageLaws.{no_part, cell_back, cell_owned, at_part, holds_covers, covered, covering, length-from, from_at, part_same}
+use Rattle.bus_memories.proofs.PageLaws.{no_part, cell_back, cell_next, cell_room, cell_owned, at_part, holds_covers, covered, covering, length-from, from_at, part_same}
 
 length-no_places : (n : ℕ) → length (no_places n) ≡ n
 unfolding no_places
@@ -137,98 +137,188 @@ page_ready p new a at x room e n s = rw (n, s) (made (absent (get_or p.places (a
 pub cell_ready : (p : Pages) (a at : ℕ) → ArePages p → cell_of p a ≡ Some at → Ready p p a at
 cell_ready p a at x e = record { sound = x; cell = e; places = refl; byte = λ b. refl; owner = λ b. refl; firsts = λ q h. inl ((h, refl)) }
 
--- ---- a byte is claimed
+-- ---- a run of bytes in one page is claimed
 
-pub claimed : (old mid new : Pages) (a at byte i : ℕ) → AreUsed old → Ready old mid a at → new ≡ record mid { bytes = set mid.bytes at byte; owners = set mid.owners at (Some i) } → Claimed old new a byte i
-claimed old mid new a at byte i used r n = rw n made
+length_put : {X : Type 0} (at n : ℕ) (new xs : List X) → length new ≡ n → at + n ≤ length xs → length (take at xs ++ (new ++ drop (at + n) xs)) ≡ length xs
+length_put at n new xs e h = grind (arith, places)
+
+put_inside : {X : Type 0} (at n k : ℕ) (new xs : List X) (d : X) → length new ≡ n → at + n ≤ length xs → k < n → get_or (take at xs ++ (new ++ drop (at + n) xs)) (at + k) d ≡ get_or new k d
+put_inside at n k new xs d e h l = grind (arith, places)
+
+put_outside : {X : Type 0} (at n j : ℕ) (new xs : List X) (d : X) → length new ≡ n → at + n ≤ length xs → ((j < at) ⊎ (at + n ≤ j)) → get_or (take at xs ++ (new ++ drop (at + n) xs)) j d ≡ get_or xs j d
+put_outside at n j new xs d e h o = grind (arith, places)
+
+-- these bytes, as many as there is room for, and zeros after them
+given_length : (size : ℕ) (given : List ℕ) → length (take size given ++ zeros (size - length given)) ≡ size
+given_length size given = omega (arith, length-append (take size given) (zeros (size - length given)), length-zeros (size - length given), length-take size given)
+
+given_at : (size k : ℕ) (given : List ℕ) → k < size → get_or (take size given ++ zeros (size - length given)) k 0 ≡ get_or given k 0
+given_at size k given h = go (nat_lt k (length given)) refl
   where
-    other : (b : ℕ) → b ≢ a → (o : Option ℕ) → cell_of mid b ≡ o
-        → (byte_at_cell (set mid.bytes at byte) o ≡ byte_at_cell mid.bytes o) × (owner_at_cell (set mid.owners at (Some i)) o ≡ owner_at_cell mid.owners o)
-    other b ne None e = (refl, refl)
-    other b ne (Some s) e =
-        let apart : s ≢ at = λ f. let g : Some s ≡ Some (at + 0) = ap Some (omega arith) in absurd (ne (let h = cell_back mid a at b 0 r.sound r.cell (omega arith) (e ∙ g) in omega arith)) in
-        (get_or-set_other mid.bytes at s byte 0 apart, get_or-set_other mid.owners at s (Some i) None apart)
+    go : (t : Bool) → nat_lt k (length given) ≡ t → get_or (take size given ++ zeros (size - length given)) k 0 ≡ get_or given k 0
+    go true t =
+        let l = ltb-true k (length given) t in
+        get_or_append_left (take size given) (zeros (size - length given)) 0 k (omega (arith, length-take size given)) ∙ get_or-take size given k 0 h
+    go false t =
+        let l = ltb-false k (length given) t in
+        get_or-append_right (take size given) (zeros (size - length given)) (length given) k 0 (omega (arith, length-take size given)) l
+        ∙ get_or-zeros (size - length given) (k - length given) ∙ sym (get_or_past given k 0 l)
 
-    byte_there : (b : ℕ) → b ≢ a → byte_at_cell (set mid.bytes at byte) (cell_of mid b) ≡ byte_of old b
-    byte_there b ne = (other b ne (cell_of mid b) refl).0 ∙ r.byte b
+-- the bytes of the pages where a run of cells is written
+record AreWritten {X : Type 0} (old new : List X) (at size : ℕ) (value : ℕ → X) (d : X) : Type 0 where
+  sized : length new ≡ length old
+  inside : (k : ℕ) → k < size → get_or new (at + k) d ≡ value k
+  outside : (j : ℕ) → ((j < at) ⊎ (at + size ≤ j)) → get_or new j d ≡ get_or old j d
 
-    owner_there : (b : ℕ) → b ≢ a → owner_at_cell (set mid.owners at (Some i)) (cell_of mid b) ≡ owner_of old b
-    owner_there b ne = (other b ne (cell_of mid b) refl).1 ∙ r.owner b
+run_filled : (old mid new : Pages) (a at size : ℕ) (given : List ℕ) (i : ℕ) → AreUsed old → Ready old mid a at → 0 < size → a % PAGE_SIZE + size ≤ PAGE_SIZE
+    → new.places ≡ mid.places → new.firsts ≡ mid.firsts → AreWritten mid.bytes new.bytes at size (λ k. get_or given k 0) 0 → AreWritten mid.owners new.owners at size (λ k. Some i) None
+    → Filled old new a size given i
+run_filled old mid new a at size given i used r some fits same_places same_firsts bytes owners = made
+  where
+    cell : (b : ℕ) → cell_of new b ≡ cell_of mid b
+    cell b = ap (λ (places : List (Option ℕ)). cell_in (get_or places (b / PAGE_SIZE) None) b) same_places
 
-    owner_here : owner_at_cell (set mid.owners at (Some i)) (cell_of mid a) ≡ Some i
-    owner_here = ap (owner_at_cell (set mid.owners at (Some i))) r.cell ∙ get_or-set_same mid.owners at (Some i) None (cell_owned mid a at r.sound r.cell)
+    away : (b s : ℕ) → ((b < a) ⊎ (a + size ≤ b)) → cell_of mid b ≡ Some s → ((s < at) ⊎ (at + size ≤ s))
+    away b s o e = go (nat_lt s at) refl (nat_lt s (at + size)) refl
+      where
+        go : (t : Bool) → nat_lt s at ≡ t → (u : Bool) → nat_lt s (at + size) ≡ u → ((s < at) ⊎ (at + size ≤ s))
+        go true t u v = inl (ltb-true _ _ t)
+        go false t false u = inr (ltb-false _ _ u)
+        go false t true u =
+            let low = ltb-false _ _ t in
+            let high = ltb-true _ _ u in
+            let to : Some s ≡ Some (at + (s - at)) = ap Some (omega arith) in
+            let back : b ≡ a + (s - at) = cell_back mid a at b (s - at) r.sound r.cell (omega arith) (e ∙ to) in
+            absurd (clash back low high o)
+          where
+            clash : b ≡ a + (s - at) → at ≤ s → s < at + size → ((b < a) ⊎ (a + size ≤ b)) → ⊥
+            clash back low high (inl o) = omega arith
+            clash back low high (inr o) = omega arith
 
-    byte_here : byte_at_cell (set mid.bytes at byte) (cell_of mid a) ≡ byte
-    byte_here = ap (byte_at_cell (set mid.bytes at byte)) r.cell ∙ get_or-set_same mid.bytes at byte 0 (let q = cell_owned mid a at r.sound r.cell in omega (arith, (r.sound).owners))
+    byte_outside : (b : ℕ) → ((b < a) ⊎ (a + size ≤ b)) → byte_of new b ≡ byte_of old b
+    byte_outside b o = ap (byte_at_cell new.bytes) (cell b) ∙ go (cell_of mid b) refl ∙ r.byte b
+      where
+        go : (c : Option ℕ) → cell_of mid b ≡ c → byte_at_cell new.bytes c ≡ byte_at_cell mid.bytes c
+        go None e = refl
+        go (Some s) e = bytes.outside s (away b s o e)
 
-    has : (b : ℕ) → (owner_of old b ≡ None → ⊥) → (t : Bool) → (b == a) ≡ t → owner_at_cell (set mid.owners at (Some i)) (cell_of mid b) ≡ None → ⊥
-    has b own true t e = let same = eqb-true b a t in absurd (let g : Some i ≡ None = sym owner_here ∙ ap (λ (c : ℕ). owner_at_cell (set mid.owners at (Some i)) (cell_of mid c)) (sym same) ∙ e in cc)
-    has b own false t e = own (sym (owner_there b (eqb-false b a t)) ∙ e)
+    owner_outside : (b : ℕ) → ((b < a) ⊎ (a + size ≤ b)) → owner_of new b ≡ owner_of old b
+    owner_outside b o = ap (owner_at_cell new.owners) (cell b) ∙ go (cell_of mid b) refl ∙ r.owner b
+      where
+        go : (c : Option ℕ) → cell_of mid b ≡ c → owner_at_cell new.owners c ≡ owner_at_cell mid.owners c
+        go None e = refl
+        go (Some s) e = owners.outside s (away b s o e)
 
-    first : (q : ℕ) → ((q < length old.firsts) × (get_or mid.firsts q 0 ≡ get_or old.firsts q 0)) ⊎ (get_or mid.firsts q 0 ≡ a)
-        → owner_at_cell (set mid.owners at (Some i)) (cell_of mid (get_or mid.firsts q 0)) ≡ None → ⊥
-    first q (inl p) e = has (get_or old.firsts q 0) (used.used q p.0) (get_or old.firsts q 0 == a) refl (ap (λ (c : ℕ). owner_at_cell (set mid.owners at (Some i)) (cell_of mid c)) (sym p.1) ∙ e)
-    first q (inr p) e = absurd (let g : Some i ≡ None = sym owner_here ∙ ap (λ (c : ℕ). owner_at_cell (set mid.owners at (Some i)) (cell_of mid c)) (sym p) ∙ e in cc)
+    here : (k : ℕ) → k < size → cell_of new (a + k) ≡ Some (at + k)
+    here k h = cell (a + k) ∙ cell_next mid a at k r.cell (omega arith)
 
-    blank : (b : ℕ) → owner_at_cell (set mid.owners at (Some i)) (cell_of mid b) ≡ None → (t : Bool) → (b == a) ≡ t → byte_at_cell (set mid.bytes at byte) (cell_of mid b) ≡ 0
-    blank b e true t = let same = eqb-true b a t in absurd (let g : Some i ≡ None = sym owner_here ∙ ap (λ (c : ℕ). owner_at_cell (set mid.owners at (Some i)) (cell_of mid c)) (sym same) ∙ e in cc)
-    blank b e false t = let ne = eqb-false b a t in byte_there b ne ∙ used.blank b (sym (owner_there b ne) ∙ e)
+    byte_inside : (k : ℕ) → k < size → byte_of new (a + k) ≡ get_or given k 0
+    byte_inside k h = ap (byte_at_cell new.bytes) (here k h) ∙ bytes.inside k h
 
-    made : Claimed old (record mid { bytes = set mid.bytes at byte; owners = set mid.owners at (Some i) }) a byte i
+    owner_inside : (k : ℕ) → k < size → owner_of new (a + k) ≡ Some i
+    owner_inside k h = ap (owner_at_cell new.owners) (here k h) ∙ owners.inside k h
+
+    owned_here : (b : ℕ) → a ≤ b → b < a + size → owner_of new b ≡ None → ⊥
+    owned_here b low high e =
+        let to : a + (b - a) ≡ b = omega arith in
+        let g : Some i ≡ None = sym (owner_inside (b - a) (omega arith)) ∙ ap (owner_of new) to ∙ e in
+        absurd (cc)
+
+    -- an address lies outside, or it has an owner
+    where_is : (b : ℕ) → owner_of new b ≡ None → ((b < a) ⊎ (a + size ≤ b))
+    where_is b e = go (nat_lt b a) refl (nat_lt b (a + size)) refl
+      where
+        go : (t : Bool) → nat_lt b a ≡ t → (u : Bool) → nat_lt b (a + size) ≡ u → ((b < a) ⊎ (a + size ≤ b))
+        go true t u v = inl (ltb-true _ _ t)
+        go false t false u = inr (ltb-false _ _ u)
+        go false t true u = absurd (owned_here b (ltb-false _ _ t) (ltb-true _ _ u) e)
+
+    first : (q : ℕ) → ((q < length old.firsts) × (get_or mid.firsts q 0 ≡ get_or old.firsts q 0)) ⊎ (get_or mid.firsts q 0 ≡ a) → owner_of new (get_or mid.firsts q 0) ≡ None → ⊥
+    first q (inl p) e =
+        let f = rw p.1 at e in
+        used.used q p.0 (sym (owner_outside (get_or old.firsts q 0) (where_is (get_or old.firsts q 0) f)) ∙ f)
+    first q (inr p) e = owned_here a (omega arith) (omega arith) (rw p at e)
+
+    made : Filled old new a size given i
     made = record {
       sound = record {
-        number = (r.sound).number;
-        place = (r.sound).place;
-        bytes = length-set mid.bytes at byte ∙ (r.sound).bytes;
-        owners = length-set mid.owners at (Some i) ∙ (r.sound).owners ∙ sym (length-set mid.bytes at byte);
+        number = rw (same_places, same_firsts) (r.sound).number;
+        place = rw (same_places, same_firsts) (r.sound).place;
+        bytes = bytes.sized ∙ (r.sound).bytes ∙ ap (λ (fs : List ℕ). length fs * PAGE_SIZE) (sym same_firsts);
+        owners = owners.sized ∙ (r.sound).owners ∙ sym bytes.sized;
       };
-      used = record { used = λ q h e. first q (r.firsts q h) e; blank = λ b e. blank b e (b == a) refl };
-      places = r.places;
-      byte_here = byte_here;
-      owner_here = owner_here;
-      byte_there = byte_there;
-      owner_there = owner_there;
+      used = record {
+        used = λ q h e. first q (r.firsts q (rw same_firsts at h)) (rw same_firsts at e);
+        blank = λ b e. let o = where_is b e in byte_outside b o ∙ used.blank b (sym (owner_outside b o) ∙ e);
+      };
+      places = ap length same_places ∙ r.places;
+      byte_inside = byte_inside;
+      owner_inside = owner_inside;
+      byte_outside = byte_outside;
+      owner_outside = owner_outside;
+    }
+
+pub run_claimed : (old mid new : Pages) (a at size : ℕ) (given : List ℕ) (i : ℕ) → AreUsed old → Ready old mid a at → 0 < size → a % PAGE_SIZE + size ≤ PAGE_SIZE
+    → new ≡ record mid { bytes = take at mid.bytes ++ ((take size given ++ zeros (size - length given)) ++ drop (at + size) mid.bytes); owners = take at mid.owners ++ (replicate size (Some i) ++ drop (at + size) mid.owners) }
+    → Filled old new a size given i
+run_claimed old mid new a at size given i used r some fits n = rw n (run_filled old mid _ a at size given i used r some fits refl refl bytes owners)
+  where
+    room : at + size ≤ length mid.bytes
+    room = cell_room mid a at size r.sound r.cell fits
+
+    owner_room : at + size ≤ length mid.owners
+    owner_room = omega (arith, room, (r.sound).owners)
+
+    bytes : AreWritten mid.bytes (take at mid.bytes ++ ((take size given ++ zeros (size - length given)) ++ drop (at + size) mid.bytes)) at size (λ k. get_or given k 0) 0
+    bytes = record {
+      sized = length_put at size _ mid.bytes (given_length size given) room;
+      inside = λ k h. put_inside at size k _ mid.bytes 0 (given_length size given) room h ∙ given_at size k given h;
+      outside = λ j o. put_outside at size j _ mid.bytes 0 (given_length size given) room o;
+    }
+
+    owners : AreWritten mid.owners (take at mid.owners ++ (replicate size (Some i) ++ drop (at + size) mid.owners)) at size (λ k. Some i) None
+    owners = record {
+      sized = length_put at size _ mid.owners (length-replicate size (Some i)) owner_room;
+      inside = λ k h. put_inside at size k _ mid.owners None (length-replicate size (Some i)) owner_room h ∙ get_or-replicate size k (Some i) None h;
+      outside = λ j o. put_outside at size j _ mid.owners None (length-replicate size (Some i)) owner_room o;
     }
 
 -- ---- a run of bytes is filled
 
-pub filled_none : (p : Pages) (start : ℕ) (given : List ℕ) (i : ℕ) → ArePages p → AreUsed p → Filled p p start 0 given i
-filled_none p start given i x u = record {
-  sound = x;
-  used = u;
-  places = refl;
-  byte_inside = λ k h. absurd (omega arith);
-  owner_inside = λ k h. absurd (omega arith);
-  byte_outside = λ b o. refl;
-  owner_outside = λ b o. refl;
-}
-
-pub filled_more : (old mid new : Pages) (start k : ℕ) (given : List ℕ) (i : ℕ) → Filled old mid start k given i → Claimed mid new (start + k) (get_or given k 0) i → Filled old new start (k + 1) given i
-filled_more old mid new start k given i f c = record {
-  sound = c.sound;
-  used = c.used;
-  places = c.places ∙ f.places;
-  byte_inside = λ j h. byte_inside j h (j == k) refl;
-  owner_inside = λ j h. owner_inside j h (j == k) refl;
-  byte_outside = λ b o. c.byte_there b (away b o) ∙ f.byte_outside b (less b o);
-  owner_outside = λ b o. c.owner_there b (away b o) ∙ f.owner_outside b (less b o);
+-- a run goes on where the run before it ends
+pub filled_more : (old mid new : Pages) (start k n : ℕ) (given : List ℕ) (i : ℕ) → Filled old mid start k given i → Filled mid new (start + k) n (drop k given) i → Filled old new start (k + n) given i
+filled_more old mid new start k n given i f g = record {
+  sound = g.sound;
+  used = g.used;
+  places = g.places ∙ f.places;
+  byte_inside = λ j h. byte_inside j h (nat_lt j k) refl;
+  owner_inside = λ j h. owner_inside j h (nat_lt j k) refl;
+  byte_outside = λ b o. g.byte_outside b (after b o) ∙ f.byte_outside b (before b o);
+  owner_outside = λ b o. g.owner_outside b (after b o) ∙ f.owner_outside b (before b o);
 }
   where
-    away : (b : ℕ) → ((b < start) ⊎ (start + (k + 1) ≤ b)) → b ≢ start + k
-    away b (inl o) = omega arith
-    away b (inr o) = omega arith
+    after : (b : ℕ) → ((b < start) ⊎ (start + (k + n) ≤ b)) → ((b < start + k) ⊎ (start + k + n ≤ b))
+    after b (inl o) = inl (omega arith)
+    after b (inr o) = inr (omega arith)
 
-    less : (b : ℕ) → ((b < start) ⊎ (start + (k + 1) ≤ b)) → ((b < start) ⊎ (start + k ≤ b))
-    less b (inl o) = inl o
-    less b (inr o) = inr (omega arith)
+    before : (b : ℕ) → ((b < start) ⊎ (start + (k + n) ≤ b)) → ((b < start) ⊎ (start + k ≤ b))
+    before b (inl o) = inl o
+    before b (inr o) = inr (omega arith)
 
-    byte_inside : (j : ℕ) → j < k + 1 → (t : Bool) → (j == k) ≡ t → byte_of new (start + j) ≡ get_or given j 0
-    byte_inside j h true t = let same = eqb-true j k t in rw same c.byte_here
-    byte_inside j h false t = let ne = eqb-false j k t in c.byte_there (start + j) (λ e. ne (omega arith)) ∙ f.byte_inside j (omega (arith, ne))
+    byte_inside : (j : ℕ) → j < k + n → (t : Bool) → nat_lt j k ≡ t → byte_of new (start + j) ≡ get_or given j 0
+    byte_inside j h true t = let l = ltb-true j k t in g.byte_outside (start + j) (inl (omega arith)) ∙ f.byte_inside j l
+    byte_inside j h false t =
+        let l = ltb-false j k t in
+        let to : start + k + (j - k) ≡ start + j = omega arith in
+        let at : k + (j - k) ≡ j = omega arith in
+        ap (byte_of new) (sym to) ∙ g.byte_inside (j - k) (omega arith) ∙ get_or-drop k given (j - k) 0 ∙ ap (λ (m : ℕ). get_or given m 0) at
 
-    owner_inside : (j : ℕ) → j < k + 1 → (t : Bool) → (j == k) ≡ t → owner_of new (start + j) ≡ Some i
-    owner_inside j h true t = let same = eqb-true j k t in rw same c.owner_here
-    owner_inside j h false t = let ne = eqb-false j k t in c.owner_there (start + j) (λ e. ne (omega arith)) ∙ f.owner_inside j (omega (arith, ne))
+    owner_inside : (j : ℕ) → j < k + n → (t : Bool) → nat_lt j k ≡ t → owner_of new (start + j) ≡ Some i
+    owner_inside j h true t = let l = ltb-true j k t in g.owner_outside (start + j) (inl (omega arith)) ∙ f.owner_inside j l
+    owner_inside j h false t =
+        let l = ltb-false j k t in
+        let to : start + k + (j - k) ≡ start + j = omega arith in
+        ap (owner_of new) (sym to) ∙ g.owner_inside (j - k) (omega arith)
 
 -- ---- a segment is laid
 

@@ -1,5 +1,5 @@
 -- Memory kept in pages: where the byte at an address stands, and the segments that the parts of the pages make.
-use Rattle.std.specs.Prelude.{◌≡◌, ℕ, zero, suc, ◌+◌, ◌-◌, ◌*◌, ◌/◌, ◌%◌, ◌<◌, ◌≤◌, Bool, true, ◌&&◌, nat_le, List, [], ◌∷◌, ◌++◌, ◌⊎◌, ◌≢◌, length, map, replicate, slice_set, slice_index, slice_index_or, Option, Some, None, IsTrue}
+use Rattle.std.specs.Prelude.{◌≡◌, ℕ, zero, suc, ◌+◌, ◌-◌, ◌*◌, ◌/◌, ◌%◌, ◌<◌, ◌≤◌, Bool, true, ◌&&◌, nat_le, List, [], ◌∷◌, ◌++◌, ◌⊎◌, length, map, replicate, slice_set, slice_index, slice_index_or, Option, Some, None, IsTrue}
 use Rattle.eh_list.specs.Bytes.{zeros}
 use Rattle.eh_bus.specs.Segment.{Segment, holds}
 use Rattle.eh_bus.specs.Memory.{Memory, number_in}
@@ -151,16 +151,6 @@ pub record Ready (old new : Pages) (a at : ℕ) : Type 0 where
   pub byte : (b : ℕ) → byte_of new b ≡ byte_of old b
   pub owner : (b : ℕ) → owner_of new b ≡ owner_of old b
   pub firsts : (q : ℕ) → q < length new.firsts → ((q < length old.firsts) × (slice_index new.firsts q ≡ slice_index old.firsts q)) ⊎ (slice_index new.firsts q ≡ a)
-
--- the byte at a has this value and this owner, and nothing else has changed
-pub record Claimed (old new : Pages) (a byte i : ℕ) : Type 0 where
-  pub sound : ArePages new
-  pub used : AreUsed new
-  pub places : length new.places ≡ length old.places
-  pub byte_here : byte_of new a ≡ byte
-  pub owner_here : owner_of new a ≡ Some i
-  pub byte_there : (b : ℕ) → b ≢ a → byte_of new b ≡ byte_of old b
-  pub owner_there : (b : ℕ) → b ≢ a → owner_of new b ≡ owner_of old b
 
 -- the bytes from start on have these values, then zeros, and this owner, and nothing else has changed
 pub record Filled (old new : Pages) (start size : ℕ) (given : List ℕ) (i : ℕ) : Type 0 where

@@ -14,11 +14,11 @@ ghost use Rattle.eh_bus.specs.declared.fault.BusFault.{BusFault as Fault};
 ghost use Rattle.eh_bus.specs.declared.fault.BusFault.TheVariants.{Unmapped};
 
 use crate::access::{fetch_fault, is_aligned, load_fault, store_fault};
-use crate::pages::Pages;
+use crate::pages::{Pages, left_of_page};
 use crate::part::{Part, Span};
 use eh_bus::bus::Bus;
 use eh_bus::fault::{BusFault, BusMemory};
-use eh_bus::map::{PAGE_SIZE, POOL_SIZE, POOL_START, STACK_END, STACK_SIZE, STACK_START};
+use eh_bus::map::{POOL_SIZE, POOL_START, STACK_END, STACK_SIZE, STACK_START};
 use eh_bus::segment::SegmentSpec;
 use stack_guards::guards::Guards;
 use std::alloc::{AllocError, Global};
@@ -437,13 +437,6 @@ fn small_cell(pages: &Pages, a: u32) -> Option<u32> {
         Some(at) => u32::try_from(at).ok(),
         None => None,
     }
-}
-
-/// How many bytes lie between the byte at so many after `start` and the end of its page.
-fn left_of_page(start: u32, k: u32) -> u32
-    ensures { result ≡ PAGE_SIZE - (start + k) % PAGE_SIZE }
-{
-    PAGE_SIZE - (start % PAGE_SIZE + k % PAGE_SIZE) % PAGE_SIZE
 }
 
 /// The addresses of a segment, from its first on, whose bytes stand one after the other.

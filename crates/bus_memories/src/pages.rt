@@ -2,7 +2,8 @@
 ghost use Rattle.std.specs.Prelude.{◌≡◌, ℕ, ◌+◌, ◌-◌, ◌*◌, ◌/◌, ◌%◌, ◌<◌, ◌≤◌, ◌∷◌, [], length, take, drop, ◌++◌, Some, None, IfOk, OnOk, cond, ◌==◌, ◌&&◌, nat_le, nat_lt, slice_index_or, slice_index, slice_set, replicate};
 ghost use Rattle.byteorder.specs.Endian.{little_number, little_bytes};
 ghost use Rattle.eh_bus.specs.Segment.{AreBytes};
-ghost use Rattle.bus_memories.specs.Pages.{Pages as Lists, ArePages, AreUsed, Ready, Claimed, Filled, with_page, no_pages, no_places, cell_of, byte_of, owner_of};
+ghost use Rattle.eh_list.specs.Bytes.{zeros};
+ghost use Rattle.bus_memories.specs.Pages.{Pages as Lists, ArePages, AreUsed, Ready, Filled, with_page, no_pages, no_places, cell_of, byte_of, owner_of};
 
 use crate::segment::{put8, put16, put32};
 use byteorder::{ByteOrder, LittleEndian};
@@ -158,25 +159,27 @@ impl Pages {
         }
     }
 
-    /// Gives the byte at a cell a value and an owner.
-    fn set(&mut self, at: usize, byte: u8, owner: u32)
-        requires bytes { at < length self.old.bytes }
-        requires owners { at < length self.old.owners }
-        ensures { self.new ≡ record self.old { bytes = slice_set self.old.bytes at byte; owners = slice_set self.old.owners at (Some owner) } }
+    /// Gives the bytes from a cell on the first `size` of these values, then zeros, and an owner.
+    fn set_run(&mut self, at: usize, size: usize, given: &[u8], owner: u32)
+        requires bytes { at + size ≤ length self.old.bytes }
+        requires owners { at + size ≤ length self.old.owners }
+        ensures { self.new ≡ record self.old { bytes = take at self.old.bytes ++ ((take size given.now ++ zeros (size - length given.now)) ++ drop (at + size) self.old.bytes); owners = take at self.old.owners ++ (replicate size (Some owner) ++ drop (at + size) self.old.owners) } }
     {
-        self.bytes[at] = byte;
-        self.owners[at] = Some(owner);
+        put_given(&mut self.bytes, at, size, given);
+        put_owner(&mut self.owners, at, size, owner);
     }
 
-    /// Gives the byte at `a` a value and an owner.
-    fn claim(&mut self, a: u32, byte: u8, owner: u32) -> Result<(), AllocError>
+    /// Gives the bytes from `a` on, which lie in one page, the first `size` of these values, then zeros, and an owner.
+    fn claim_run(&mut self, a: u32, size: u32, given: &[u8], owner: u32) -> Result<(), AllocError>
+        requires some { 0 < size }
+        requires one_page { a % PAGE_SIZE + size ≤ PAGE_SIZE }
         requires room { a / PAGE_SIZE < length self.old.places }
         requires sound { ArePages self.old }
         requires used { AreUsed self.old }
-        ensures { OnOk result (Claimed self.old self.new a byte owner) }
+        ensures { OnOk result (Filled self.old self.new a size given.now owner) }
     {
         let at = self.ready(a)?;
-        self.set(at, byte, owner);
+        self.set_run(at, size as usize, given, owner);
         Ok(())
     }
 
@@ -195,19 +198,41 @@ impl Pages {
         ensures filled { OnOk result (Filled self.old self.new start size given.now owner) }
         ensures bytes { AreBytes given.now }
     {
-        for k in 0..size {
-            let byte = byte_or_zero(given, k as usize);
-            self.claim(start + k, byte, owner)?;
+        let mut done = 0;
+        'pages: while done < size {
+            let run = left_of_page(start, done).min(size - done);
+            let rest = &given[(done as usize).min(given.len())..];
+            self.claim_run(start + done, run, rest, owner)?;
+            done += run;
         }
         Ok(())
     }
 }
 
-/// The byte at a place, or 0 after the last.
-fn byte_or_zero(given: &[u8], k: usize) -> u8
-    ensures { result ≡ slice_index given.now k }
+/// How many bytes lie between the byte at so many after `start` and the end of its page.
+pub(crate) fn left_of_page(start: u32, k: u32) -> u32
+    ensures { result ≡ PAGE_SIZE - (start + k) % PAGE_SIZE }
 {
-    if k < given.len() { given[k] } else { 0 }
+    PAGE_SIZE - (start % PAGE_SIZE + k % PAGE_SIZE) % PAGE_SIZE
+}
+
+/// Puts the first `size` of these bytes at a place, and zeros where there are fewer.
+#[tactic(auto, unfolding(eh_list::specs::Bytes::zeros))]
+fn put_given(bytes: &mut [u8], at: usize, size: usize, given: &[u8])
+    requires { at + size ≤ length bytes.old }
+    ensures { bytes.new ≡ take at bytes.old ++ ((take size given.now ++ zeros (size - length given.now)) ++ drop (at + size) bytes.old) }
+{
+    let count = size.min(given.len());
+    bytes[at..at + count].copy_from_slice(&given[..count]);
+    bytes[at + count..at + size].fill(0);
+}
+
+/// Gives a run of bytes to a segment.
+fn put_owner(owners: &mut [Option<u32>], at: usize, size: usize, owner: u32)
+    requires { at + size ≤ length owners.old }
+    ensures { owners.new ≡ take at owners.old ++ (replicate size (Some owner) ++ drop (at + size) owners.old) }
+{
+    owners[at..at + size].fill(Some(owner));
 }
 
 /// Adds bytes that no segment has. Without memory nothing is added.
