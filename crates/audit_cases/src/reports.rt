@@ -21,6 +21,14 @@ const MOST_LINES: usize = 40;
 /// How many bytes of a line are told; of more how many there are.
 const MOST_BYTES: usize = 120;
 
+/// Where a file of this layer's folder stands.
+fn path_of(text: &mut Text, name: &str) -> Option<String> {
+    let mut path = Text::new(text.alloc());
+    path.say("audit/");
+    path.say(name);
+    text.taken(path.finish())
+}
+
 /// What `ehabi_audit` is asked.
 #[derive(Drop)]
 pub struct Reports<'a> {
@@ -50,9 +58,10 @@ impl Reports<'_> {
         }
     }
 
-    /// `file NAME`: a file of the folder where the program runs.
+    /// `file NAME`: a file of this layer's folder.
     fn read(&self, text: &mut Text, name: &str) -> Option<Vec<u8>> {
-        match fs::read(self.host, name) {
+        let path = path_of(text, name)?;
+        match fs::read(self.host, path.as_str()) {
             Ok(bytes) => Some(bytes),
             Err(why) => {
                 text.refuse(Unanswered::Failed(why));
@@ -61,9 +70,10 @@ impl Reports<'_> {
         }
     }
 
-    /// `source NAME`: the image of a source of the folder where the program runs, linked with the stubs.
+    /// `source NAME`: the image of a source of this layer's folder, linked with the stubs.
     fn linked(&self, text: &mut Text, name: &str) -> Option<Vec<u8>> {
-        match fs::read_to_string(self.host, name) {
+        let path = path_of(text, name)?;
+        match fs::read_to_string(self.host, path.as_str()) {
             Ok(source) => image_of(text, source),
             Err(why) => {
                 text.refuse(Unanswered::Failed(why));

@@ -11,5 +11,8 @@ fn main(host: HostRuntime) -> Result<(), Error> {
     exceptions_cases::run(&host)?;
     threads_cases::run(&host)?;
     sources_cases::run(&host)?;
-    gnu_cases::run(&host)
+    gnu_cases::run(&host)?;
+    tables_cases::run(&host)?;
+    checker_cases::run(&host)?;
+    audit_cases::run(&host)
 }

@@ -8,6 +8,7 @@ pub fn say_number(text: &mut Text, name: &str, number: u32) {
     text.say_hex(number);
 }
 
+/// Adds `yes` or `no`.
 pub fn say_yes_or_no(text: &mut Text, is_so: bool) {
     text.say(if is_so { "yes" } else { "no" });
 }

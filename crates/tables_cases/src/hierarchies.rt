@@ -10,12 +10,36 @@ use std::io::Error;
 
 /// The files of rows, each with those of its types and of its objects.
 pub static HIERARCHIES: [(&str, &str, &str); 6] = [
-    ("classes.txt", "hierarchies.types", "hierarchies.objects"),
-    ("pointers.txt", "hierarchies.types", "hierarchies.objects"),
-    ("words.txt", "hierarchies.types", "hierarchies.objects"),
-    ("plain.txt", "plain.types", "none.objects"),
-    ("virtual.txt", "virtual.types", "none.objects"),
-    ("names.txt", "names.types", "none.objects"),
+    (
+        "tables/classes.txt",
+        "tables/hierarchies.types",
+        "tables/hierarchies.objects",
+    ),
+    (
+        "tables/pointers.txt",
+        "tables/hierarchies.types",
+        "tables/hierarchies.objects",
+    ),
+    (
+        "tables/words.txt",
+        "tables/hierarchies.types",
+        "tables/hierarchies.objects",
+    ),
+    (
+        "tables/plain.txt",
+        "tables/plain.types",
+        "tables/none.objects",
+    ),
+    (
+        "tables/virtual.txt",
+        "tables/virtual.types",
+        "tables/none.objects",
+    ),
+    (
+        "tables/names.txt",
+        "tables/names.types",
+        "tables/none.objects",
+    ),
 ];
 
 /// Asks what is caught in a hierarchy of types, with its objects.

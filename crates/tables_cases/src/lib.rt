@@ -1,4 +1,4 @@
-//! Runs the cases of data/ on the readers of the unwind tables, of types, matching and the two phases. Answers are by hand from
+//! Runs the cases of tables/, in the data/ of layer_cases, on the readers of the unwind tables, of types, matching and the two phases. Answers are by hand from
 //! IHI 0038, the Itanium C++ ABI and the pages under docs/, or, where a file says so, from compilers.
 #![tactic(auto)]
 
@@ -34,10 +34,10 @@ enum About {
 
 /// The files of rows that need no other file, but for the last.
 static FILES: [(&str, About); 4] = [
-    ("unwinding.txt", About::Unwindings),
-    ("recipes.txt", About::Recipes),
-    ("descriptors.txt", About::Descriptors),
-    ("rows.txt", About::Rows),
+    ("tables/unwinding.txt", About::Unwindings),
+    ("tables/recipes.txt", About::Recipes),
+    ("tables/descriptors.txt", About::Descriptors),
+    ("tables/rows.txt", About::Rows),
 ];
 
 impl Telling for About {
@@ -54,20 +54,21 @@ impl Telling for About {
 
 /// Asks what is read of types in images, of which some have names.
 fn run_types(host: &HostRuntime) -> Result<(), Error> {
-    let images = fs::read_to_string(host, "graphs.images")?;
+    let images = fs::read_to_string(host, "tables/graphs.images")?;
     let images = Images {
         named: images.as_str(),
     };
-    run_telling(host, "types.txt", &images)
+    run_telling(host, "tables/types.txt", &images)
 }
 
-fn main(host: HostRuntime) -> Result<(), Error> {
+/// Asks all rows.
+pub fn run(host: &HostRuntime) -> Result<(), Error> {
     for (name, about) in FILES.iter() {
-        run_telling(&host, *name, about)?;
+        run_telling(host, *name, about)?;
     }
-    run_types(&host)?;
+    run_types(host)?;
     for (name, types, objects) in HIERARCHIES.iter() {
-        run_hierarchy(&host, *name, *types, *objects)?;
+        run_hierarchy(host, *name, *types, *objects)?;
     }
-    run_telling(&host, "phases.txt", &About::Phases)
+    run_telling(host, "tables/phases.txt", &About::Phases)
 }
