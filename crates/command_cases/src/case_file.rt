@@ -1,6 +1,7 @@
 //! A file of cases, line by line.
 use crate::calls::answer;
 use crate::definitions::define;
+use crate::programs::Programs;
 use crate::texts::{Texts, text_of};
 use std::alloc::{AllocError, Global};
 use std::fs;
@@ -26,14 +27,15 @@ fn tell(host: &HostRuntime, case: (&str, &str), call: &str, got: &[u8]) -> Resul
 }
 
 /// Asks a call, and counts it. What differs is written.
-fn ask_call(
+fn ask_call<P: Programs>(
     host: &HostRuntime,
+    programs: &P,
     cases: &mut Cases,
     case: (&str, &str),
     call: &str,
     want: &[u8],
 ) -> Result<(), Error> {
-    let got = answer(host.alloc(), &mut cases.texts, call)?;
+    let got = answer(programs, host.alloc(), &mut cases.texts, call)?;
     cases.asked = cases.asked.saturating_add(1);
     if got.as_slice() == want {
         cases.right = cases.right.saturating_add(1);
@@ -43,35 +45,47 @@ fn ask_call(
 }
 
 /// Asks calls, with ` | ` between them, which all have the answer of a case.
-fn ask(
+fn ask<P: Programs>(
     host: &HostRuntime,
+    programs: &P,
     cases: &mut Cases,
     case: (&str, &str),
     calls: &str,
 ) -> Result<(), Error> {
     let want = text_of(host.alloc(), &cases.texts, case.1)?;
     for call in calls.split(" | ") {
-        ask_call(host, cases, case, call, want.as_slice())?;
+        ask_call(host, programs, cases, case, call, want.as_slice())?;
     }
     Ok(())
 }
 
 /// Defines what a row defines, with the row in the place of `[row]`.
-fn define_for(alloc: Global, cases: &mut Cases, row: &str) -> Result<(), AllocError> {
+fn define_for<P: Programs>(
+    programs: &P,
+    alloc: Global,
+    cases: &mut Cases,
+    row: &str,
+) -> Result<(), AllocError> {
     for line in &cases.row_texts {
         let line = line.replace(alloc, "[row]", row)?;
         if let Some((name, value)) = line.split_once(" = ") {
-            define(alloc, &mut cases.texts, name, value)?;
+            define(programs, alloc, &mut cases.texts, name, value)?;
         }
     }
     Ok(())
 }
 
 /// Asks the calls of a row.
-fn ask_row(host: &HostRuntime, cases: &mut Cases, row: &str, answer: &str) -> Result<(), Error> {
-    define_for(host.alloc(), cases, row)?;
+fn ask_row<P: Programs>(
+    host: &HostRuntime,
+    programs: &P,
+    cases: &mut Cases,
+    row: &str,
+    answer: &str,
+) -> Result<(), Error> {
+    define_for(programs, host.alloc(), cases, row)?;
     let calls = cases.calls.replace(host.alloc(), "[row]", row)?;
-    ask(host, cases, (row, answer), calls.as_str())
+    ask(host, programs, cases, (row, answer), calls.as_str())
 }
 
 /// A row with a change in it, `FRONT<ONE|OTHER>BACK`.
@@ -105,28 +119,35 @@ impl Change<'_> {
 }
 
 /// Asks a row. One with a change is two rows, whose answers have ` | ` between them.
-fn take_row(host: &HostRuntime, cases: &mut Cases, row: &str, answer: &str) -> Result<(), Error> {
+fn take_row<P: Programs>(
+    host: &HostRuntime,
+    programs: &P,
+    cases: &mut Cases,
+    row: &str,
+    answer: &str,
+) -> Result<(), Error> {
     let Some(change) = change_of(row) else {
-        return ask_row(host, cases, row, answer);
+        return ask_row(host, programs, cases, row, answer);
     };
     let (first, second) = answer.split_once(" | ").unwrap_or((answer, ""));
     for (one, answer) in [(change.one, first), (change.other, second)] {
         let row = change.row(host.alloc(), one)?;
-        ask_row(host, cases, row.as_str(), answer)?;
+        ask_row(host, programs, cases, row.as_str(), answer)?;
     }
     Ok(())
 }
 
 /// Takes a line with a question and its answer.
-fn take_case(
+fn take_case<P: Programs>(
     host: &HostRuntime,
+    programs: &P,
     cases: &mut Cases,
     question: &str,
     answer: &str,
 ) -> Result<(), Error> {
     match question.strip_prefix("$") {
-        Some(calls) => ask(host, cases, (question, answer), calls.trim()),
-        None => take_row(host, cases, question, answer),
+        Some(calls) => ask(host, programs, cases, (question, answer), calls.trim()),
+        None => take_row(host, programs, cases, question, answer),
     }
 }
 
@@ -157,10 +178,15 @@ impl Cases {
     }
 
     /// Takes a line that says `NAME = VALUE`, and whether it does.
-    fn take_text(&mut self, alloc: Global, line: &str) -> Result<bool, AllocError> {
+    fn take_text<P: Programs>(
+        &mut self,
+        programs: &P,
+        alloc: Global,
+        line: &str,
+    ) -> Result<bool, AllocError> {
         match line.split_once(" = ") {
             Some((name, value)) => {
-                define(alloc, &mut self.texts, name, value)?;
+                define(programs, alloc, &mut self.texts, name, value)?;
                 Ok(true)
             }
             None => Ok(false),
@@ -168,26 +194,36 @@ impl Cases {
     }
 
     /// Takes a line that defines something, and says whether it does.
-    fn take_definition(&mut self, alloc: Global, line: &str) -> Result<bool, AllocError> {
+    fn take_definition<P: Programs>(
+        &mut self,
+        programs: &P,
+        alloc: Global,
+        line: &str,
+    ) -> Result<bool, AllocError> {
         let (what, rest) = line.split_once(' ').unwrap_or((line, ""));
         match what {
             "rows" => self.begin_rows(alloc, rest)?,
             "each" => self.add_text(alloc, rest)?,
-            _ => return self.take_text(alloc, line),
+            _ => return self.take_text(programs, alloc, line),
         }
         Ok(true)
     }
 }
 
 /// Takes a line. One that says nothing is written.
-fn take_line(host: &HostRuntime, cases: &mut Cases, line: &str) -> Result<(), Error> {
+fn take_line<P: Programs>(
+    host: &HostRuntime,
+    programs: &P,
+    cases: &mut Cases,
+    line: &str,
+) -> Result<(), Error> {
     if line.is_empty() || line.starts_with('#') {
         return Ok(());
     }
     if let Some((question, answer)) = line.split_once(" : ") {
-        return take_case(host, cases, question, answer);
+        return take_case(host, programs, cases, question, answer);
     }
-    if cases.take_definition(host.alloc(), line)? {
+    if cases.take_definition(programs, host.alloc(), line)? {
         return Ok(());
     }
     println!(host; "nothing is asked: {line}")
@@ -217,12 +253,12 @@ fn joined(alloc: Global, text: &str) -> Result<String, AllocError> {
 }
 
 /// Runs the cases of a file: what differs is written, and how many answers are right.
-pub fn run_file(host: &HostRuntime, name: &str) -> Result<(), Error> {
+pub fn run_file<P: Programs>(host: &HostRuntime, programs: &P, name: &str) -> Result<(), Error> {
     let text = fs::read_to_string(host, name)?;
     let text = joined(host.alloc(), text.as_str())?;
     let mut cases = Cases::new(host.alloc());
     for line in text.lines() {
-        take_line(host, &mut cases, line)?;
+        take_line(host, programs, &mut cases, line)?;
     }
     let asked = cases.asked;
     let right = cases.right;

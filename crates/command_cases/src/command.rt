@@ -1,7 +1,7 @@
 //! Commands over files of the system or one in memory, and an output in memory.
+use crate::programs::Programs;
 use eh_files::{FileList, HostFiles, MemFile, SureFiles};
 use eh_port::{Bytes, HostSink, SureSource};
-use ehabi_top::ehabi_main;
 use std::alloc::{AllocError, Global};
 use std::io::Error;
 
@@ -34,7 +34,7 @@ fn output(alloc: Global) -> HostSink<Vec<u8>> {
 }
 
 /// What comes of `check` of a file of these bytes.
-pub fn checked(alloc: Global, bytes: &[u8]) -> Result<Came, AllocError> {
+pub fn checked<P: Programs>(programs: &P, alloc: Global, bytes: &[u8]) -> Result<Came, AllocError> {
     let mut list = Vec::new(alloc);
     list.push(file(alloc, "x", bytes)?)?;
     let mut files = SureFiles {
@@ -42,7 +42,7 @@ pub fn checked(alloc: Global, bytes: &[u8]) -> Result<Came, AllocError> {
     };
     let mut input = source(Vec::new(alloc));
     let mut out = output(alloc);
-    let status = ehabi_main(alloc, &["check", "x"], &mut files, &mut input, &mut out);
+    let status = programs.run(alloc, &["check", "x"], &mut files, &mut input, &mut out);
     Ok(Came {
         written: out.writer,
         status,
@@ -50,7 +50,12 @@ pub fn checked(alloc: Global, bytes: &[u8]) -> Result<Came, AllocError> {
 }
 
 /// What comes of a command over the files of the system and an input.
-pub fn called(host: &HostRuntime, words: &[&str], input: Vec<u8>) -> Came {
+pub fn called<P: Programs>(
+    host: &HostRuntime,
+    programs: &P,
+    words: &[&str],
+    input: Vec<u8>,
+) -> Came {
     let alloc = host.alloc();
     let mut files = HostFiles {
         host,
@@ -59,7 +64,7 @@ pub fn called(host: &HostRuntime, words: &[&str], input: Vec<u8>) -> Came {
     };
     let mut input = source(input);
     let mut out = output(alloc);
-    let status = ehabi_main(alloc, words, &mut files, &mut input, &mut out);
+    let status = programs.run(alloc, words, &mut files, &mut input, &mut out);
     Came {
         written: out.writer,
         status,
@@ -67,8 +72,17 @@ pub fn called(host: &HostRuntime, words: &[&str], input: Vec<u8>) -> Came {
 }
 
 /// The bytes that `build` writes of a source of the folder where the program runs.
-pub fn built(host: &HostRuntime, source: &str) -> Result<Vec<u8>, Error> {
-    let Came { written, status } = called(host, &["build", source], Vec::new(host.alloc()));
+pub fn built<P: Programs>(
+    host: &HostRuntime,
+    programs: &P,
+    source: &str,
+) -> Result<Vec<u8>, Error> {
+    let Came { written, status } = called(
+        host,
+        programs,
+        &["build", source],
+        Vec::new(host.alloc()),
+    );
     if status != 0 {
         println!(host; "{source} isn't built: status {status}")?;
     }

@@ -1,5 +1,6 @@
 //! Every first part of a file, and every byte of it changed, through `check`.
 use crate::command::{Came, checked};
+use crate::programs::Programs;
 use crate::rules::{Rule, rules_of, said};
 use std::alloc::{AllocError, Global};
 use std::fs;
@@ -31,14 +32,15 @@ impl<'a> Score<'a> {
     }
 
     /// Asks what comes of bytes. What differs from what is said of this place and value is written.
-    fn ask(
+    fn ask<P: Programs>(
         &mut self,
         host: &HostRuntime,
+        programs: &P,
         place: usize,
         value: u8,
         bytes: &[u8],
     ) -> Result<(), Error> {
-        let came = checked(host.alloc(), bytes)?;
+        let came = checked(programs, host.alloc(), bytes)?;
         let want = said(self.rules.as_slice(), place, value).unwrap_or("no row");
         self.asked = self.asked.saturating_add(1);
         if is_answer(&came, want) {
@@ -67,12 +69,17 @@ fn is_answer(came: &Came, answer: &str) -> bool {
 }
 
 /// Checks each first part of a file, from none of it to all, and writes how many answers are right.
-pub fn run_parts(host: &HostRuntime, name: &str, file: &[u8]) -> Result<(), Error> {
+pub fn run_parts<P: Programs>(
+    host: &HostRuntime,
+    programs: &P,
+    name: &str,
+    file: &[u8],
+) -> Result<(), Error> {
     let text = fs::read_to_string(host, name)?;
     let mut score = Score::new(host.alloc(), text.as_str())?;
     for count in 0..=file.len() {
         if let Some((part, _rest)) = file.split_at_checked(count) {
-            score.ask(host, count, 0, part)?;
+            score.ask(host, programs, count, 0, part)?;
         }
     }
     let Score { asked, right, .. } = score;
@@ -80,8 +87,9 @@ pub fn run_parts(host: &HostRuntime, name: &str, file: &[u8]) -> Result<(), Erro
 }
 
 /// Checks a file with a byte changed.
-fn ask_changed(
+fn ask_changed<P: Programs>(
     host: &HostRuntime,
+    programs: &P,
     score: &mut Score,
     file: &[u8],
     place: usize,
@@ -91,17 +99,22 @@ fn ask_changed(
     if let Some(byte) = bytes.get_mut(place) {
         *byte = value;
     }
-    score.ask(host, place, value, bytes.as_slice())
+    score.ask(host, programs, place, value, bytes.as_slice())
 }
 
 /// Checks a file with each byte changed to each of the values that it hasn't, and writes how many answers are right.
-pub fn run_changes(host: &HostRuntime, name: &str, file: &[u8]) -> Result<(), Error> {
+pub fn run_changes<P: Programs>(
+    host: &HostRuntime,
+    programs: &P,
+    name: &str,
+    file: &[u8],
+) -> Result<(), Error> {
     let text = fs::read_to_string(host, name)?;
     let mut score = Score::new(host.alloc(), text.as_str())?;
     for (place, old) in file.iter().enumerate() {
         for value in VALUES {
             if value != *old {
-                ask_changed(host, &mut score, file, place, value)?;
+                ask_changed(host, programs, &mut score, file, place, value)?;
             }
         }
     }

@@ -1,6 +1,7 @@
 //! What a name of a file of cases stands for: a text, bytes by their hexadecimal digits, an image made by hand, or one that is built.
 use crate::calls::written;
 use crate::hand_image::image_of;
+use crate::programs::Programs;
 use crate::texts::{Texts, text_of, times_of};
 use std::alloc::{AllocError, Global};
 
@@ -44,21 +45,32 @@ fn make_change(alloc: Global, bytes: &mut [u8], change: &str) -> Result<(), Allo
 }
 
 /// The image of sources, with a change of bytes where one is named: `FILE.. with NEW for OLD`.
-fn built(alloc: Global, texts: &mut Texts, rest: &str) -> Result<Vec<u8>, AllocError> {
+fn built<P: Programs>(
+    programs: &P,
+    alloc: Global,
+    texts: &mut Texts,
+    rest: &str,
+) -> Result<Vec<u8>, AllocError> {
     let (names, change) = rest.split_once(" with ").unwrap_or((rest, ""));
     let command = format!(in alloc; "build {names}")?;
-    let mut bytes = written(alloc, texts, command.as_str())?;
+    let mut bytes = written(programs, alloc, texts, command.as_str())?;
     make_change(alloc, bytes.as_mut_slice(), change)?;
     Ok(bytes)
 }
 
 /// Gives a name what it stands for. `''` is the name without letters.
-pub fn define(alloc: Global, texts: &mut Texts, name: &str, value: &str) -> Result<(), AllocError> {
+pub fn define<P: Programs>(
+    programs: &P,
+    alloc: Global,
+    texts: &mut Texts,
+    name: &str,
+    value: &str,
+) -> Result<(), AllocError> {
     let (what, rest) = value.split_once(' ').unwrap_or((value, ""));
     let bytes = match what {
         "hex" => bytes_of_digits(alloc, rest)?,
         "image" => image_of(alloc, texts, rest)?,
-        "built" => built(alloc, texts, rest)?,
+        "built" => built(programs, alloc, texts, rest)?,
         _ => text_of(alloc, texts, value)?,
     };
     texts.put(alloc, name.strip_prefix("''").unwrap_or(name), bytes)

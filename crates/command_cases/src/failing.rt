@@ -1,10 +1,9 @@
 //! How many calls of files, input and output a command makes, each of which fails in its turn.
 use crate::command::file;
+use crate::programs::Programs;
 use case_rows::{Asked, Unanswered};
 use eh_files::{FileList, MemFiles};
 use eh_port::{Bytes, CallNumbers, MemSink, MemSource};
-use ehabi_audit_top::audit_main;
-use ehabi_top::ehabi_main;
 use std::alloc::{AllocError, Global};
 use std::fs;
 
@@ -29,8 +28,9 @@ const WRITE_FAILED: u8 = 8;
 
 /// Commands over the files of the folder where the program runs, and two images.
 #[derive(Drop)]
-pub struct Calls<'a> {
+pub struct Calls<'a, P> {
     pub host: &'a HostRuntime,
+    pub programs: &'a P,
     pub reading: &'a [u8],
     pub unwell: &'a [u8],
 }
@@ -107,7 +107,7 @@ impl Outcome {
     }
 }
 
-impl Calls<'_> {
+impl<P: Programs> Calls<'_, P> {
     fn files(&self, alloc: Global) -> Result<FileList, Unanswered> {
         let mut files = Vec::new(alloc);
         for name in FILES {
@@ -147,9 +147,11 @@ impl Calls<'_> {
         let words = command.words.as_slice();
         let status = match words {
             [first, after @ ..] if *first == AUDIT => {
-                audit_main(alloc, after, &mut files, &mut out)
+                self.programs.audit(alloc, after, &mut files, &mut out)
             }
-            _ => ehabi_main(alloc, words, &mut files, &mut input, &mut out),
+            _ => self
+                .programs
+                .run(alloc, words, &mut files, &mut input, &mut out),
         };
         let read_faults = files.faults.saturating_add(input.faults);
         Ok(Outcome {
@@ -182,7 +184,7 @@ impl Calls<'_> {
     }
 }
 
-impl Asked for Calls<'_> {
+impl<P: Programs> Asked for Calls<'_, P> {
     /// How many calls of each port `COMMAND < INPUT` makes.
     fn answer(&self, alloc: Global, question: &str) -> Result<String, Unanswered> {
         let (words, input) = question.split_once(" < ").unwrap_or((question, ""));

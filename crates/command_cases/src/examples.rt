@@ -3,6 +3,7 @@
 //! that they link to.
 use crate::command::{Came, called};
 use crate::parts::{is_image_of, parts_of};
+use crate::programs::Programs;
 use std::alloc::{AllocError, Global};
 use std::fs;
 use std::io::Error;
@@ -110,7 +111,11 @@ fn head_of(alloc: Global, text: &str) -> Result<Head<'_>, AllocError> {
 }
 
 /// Whether what is built of sources is read as the image of the parts that they link to.
-fn is_built(host: &HostRuntime, sources: &[&str]) -> Result<bool, Error> {
+fn is_built<P: Programs>(
+    host: &HostRuntime,
+    programs: &P,
+    sources: &[&str],
+) -> Result<bool, Error> {
     let alloc = host.alloc();
     let mut words = Vec::new(alloc);
     words.push("build")?;
@@ -119,7 +124,7 @@ fn is_built(host: &HostRuntime, sources: &[&str]) -> Result<bool, Error> {
         words.push(*name)?;
         texts.push(fs::read_to_string(host, *name)?)?;
     }
-    let Came { written, status } = called(host, words.as_slice(), Vec::new(alloc));
+    let Came { written, status } = called(host, programs, words.as_slice(), Vec::new(alloc));
     Ok(match parts_of(alloc, texts.as_slice()) {
         Some(parts) => status == 0 && is_image_of(alloc, written.as_slice(), &parts),
         None => false,
@@ -138,7 +143,11 @@ fn sources_of<'a>(alloc: Global, words: &[&'a str]) -> Result<Vec<&'a str>, Allo
 }
 
 /// What comes of an example.
-fn verdict(host: &HostRuntime, name: &str) -> Result<&'static str, Error> {
+fn verdict<P: Programs>(
+    host: &HostRuntime,
+    programs: &P,
+    name: &str,
+) -> Result<&'static str, Error> {
     let path = format!(in host.alloc(); "examples/{name}")?;
     let text = fs::read_to_string(host, path.as_str())?;
     let Head {
@@ -151,10 +160,10 @@ fn verdict(host: &HostRuntime, name: &str) -> Result<&'static str, Error> {
         return Ok("no command");
     }
     let sources = sources_of(host.alloc(), words.as_slice())?;
-    if !sources.is_empty() && !is_built(host, sources.as_slice())? {
+    if !sources.is_empty() && !is_built(host, programs, sources.as_slice())? {
         return Ok("another image than its parts'");
     }
-    let Came { written, status } = called(host, words.as_slice(), input);
+    let Came { written, status } = called(host, programs, words.as_slice(), input);
     if written.as_slice() != wrote.as_slice() {
         return Ok("not what its head says");
     }
@@ -165,9 +174,9 @@ fn verdict(host: &HostRuntime, name: &str) -> Result<&'static str, Error> {
 }
 
 /// Runs the examples, and writes of each what comes of it.
-pub fn run_examples(host: &HostRuntime) -> Result<(), Error> {
+pub fn run_examples<P: Programs>(host: &HostRuntime, programs: &P) -> Result<(), Error> {
     for name in &EXAMPLES {
-        let verdict = verdict(host, name)?;
+        let verdict = verdict(host, programs, name)?;
         println!(host; "{name}: {verdict}")?;
     }
     Ok(())

@@ -1,10 +1,10 @@
 //! Calls of the program over texts as its files, with an input and an output in memory.
 use crate::listing::{entry, segments};
 use crate::outcome::{Outcome, push_status, told};
+use crate::programs::Programs;
 use crate::texts::Texts;
 use eh_files::{FileList, MemFiles, SureFiles};
 use eh_port::{Bytes, CallNumbers, HostSink, HostSource, MemSink, MemSource, SureSink, SureSource};
-use ehabi_top::ehabi_main;
 use std::alloc::{AllocError, Global};
 use std::io::Cursor;
 use std::mem;
@@ -88,7 +88,8 @@ fn give_back(texts: &mut Texts, files: FileList) {
 }
 
 /// Calls the program over files, an input and an output of which calls may fail.
-fn perform(
+fn perform<P: Programs>(
+    programs: &P,
     alloc: Global,
     texts: &mut Texts,
     call: &Call,
@@ -103,7 +104,7 @@ fn perform(
         failing,
         faults: 0,
     };
-    let status = ehabi_main(alloc, words, &mut held, &mut input, &mut out);
+    let status = programs.run(alloc, words, &mut held, &mut input, &mut out);
     let file_faults = held.faults;
     give_back(texts, held.files);
     Ok(Outcome {
@@ -115,7 +116,8 @@ fn perform(
 }
 
 /// What comes of a call over files, an input and an output that never fail: its status, and how many bytes it writes.
-fn perform_surely(
+fn perform_surely<P: Programs>(
+    programs: &P,
     alloc: Global,
     texts: &mut Texts,
     call: &Call,
@@ -128,14 +130,15 @@ fn perform_surely(
         files: take_files(alloc, texts),
     };
     let mut out = SureSink { taken: 0 };
-    let status = ehabi_main(alloc, words, &mut held, &mut input, &mut out);
+    let status = programs.run(alloc, words, &mut held, &mut input, &mut out);
     give_back(texts, held.files);
     let taken = out.taken;
     Ok(format!(in alloc; "status {status}\n{taken} bytes\n")?.into_bytes())
 }
 
 /// What comes of a call over a reader and a writer of std: what it writes, and its status.
-fn perform_by_std(
+fn perform_by_std<P: Programs>(
+    programs: &P,
     alloc: Global,
     texts: &mut Texts,
     call: &Call,
@@ -152,7 +155,7 @@ fn perform_by_std(
         writer: Vec::new(alloc),
         faults: 0,
     };
-    let status = ehabi_main(alloc, words, &mut held, &mut input, &mut out);
+    let status = programs.run(alloc, words, &mut held, &mut input, &mut out);
     give_back(texts, held.files);
     let mut told = out.writer;
     push_status(alloc, &mut told, status)?;
@@ -173,7 +176,8 @@ enum Asked {
 }
 
 /// What comes of a call with these words.
-fn come_of(
+fn come_of<P: Programs>(
+    programs: &P,
     alloc: Global,
     texts: &mut Texts,
     asked: Asked,
@@ -181,19 +185,24 @@ fn come_of(
     words: &[&str],
 ) -> Result<Vec<u8>, AllocError> {
     match asked {
-        Asked::Outcome => told(alloc, &perform(alloc, texts, call, words)?, call.input),
-        Asked::Written => perform(alloc, texts, call, words)?
+        Asked::Outcome => told(
+            alloc,
+            &perform(programs, alloc, texts, call, words)?,
+            call.input,
+        ),
+        Asked::Written => perform(programs, alloc, texts, call, words)?
             .out
             .written
             .as_slice()
             .to_vec(alloc),
-        Asked::Surely => perform_surely(alloc, texts, call, words),
-        Asked::ByStd => perform_by_std(alloc, texts, call, words),
+        Asked::Surely => perform_surely(programs, alloc, texts, call, words),
+        Asked::ByStd => perform_by_std(programs, alloc, texts, call, words),
     }
 }
 
 /// What comes of a call.
-fn called(
+fn called<P: Programs>(
+    programs: &P,
     alloc: Global,
     texts: &mut Texts,
     asked: Asked,
@@ -202,23 +211,33 @@ fn called(
     let call = call_of(text);
     let owned = words_of(alloc, call.command)?;
     let words: Vec<&str> = owned.iter().map(|word| word.as_str()).collect(alloc)?;
-    come_of(alloc, texts, asked, &call, words.as_slice())
+    come_of(programs, alloc, texts, asked, &call, words.as_slice())
 }
 
 /// What a command writes.
-pub fn written(alloc: Global, texts: &mut Texts, command: &str) -> Result<Vec<u8>, AllocError> {
-    called(alloc, texts, Asked::Written, command)
+pub fn written<P: Programs>(
+    programs: &P,
+    alloc: Global,
+    texts: &mut Texts,
+    command: &str,
+) -> Result<Vec<u8>, AllocError> {
+    called(programs, alloc, texts, Asked::Written, command)
 }
 
 /// The answer to a question: `COMMAND`, `sure COMMAND` or `std COMMAND`, or what is asked of an image, `entry FILE` and
 /// `segments FILE`.
-pub fn answer(alloc: Global, texts: &mut Texts, question: &str) -> Result<Vec<u8>, AllocError> {
+pub fn answer<P: Programs>(
+    programs: &P,
+    alloc: Global,
+    texts: &mut Texts,
+    question: &str,
+) -> Result<Vec<u8>, AllocError> {
     let (what, rest) = question.split_once(' ').unwrap_or((question, ""));
     match what {
         "entry" => entry(alloc, texts.get(rest).unwrap_or(b"")),
         "segments" => segments(alloc, texts.get(rest).unwrap_or(b"")),
-        "sure" => called(alloc, texts, Asked::Surely, rest),
-        "std" => called(alloc, texts, Asked::ByStd, rest),
-        _ => called(alloc, texts, Asked::Outcome, question),
+        "sure" => called(programs, alloc, texts, Asked::Surely, rest),
+        "std" => called(programs, alloc, texts, Asked::ByStd, rest),
+        _ => called(programs, alloc, texts, Asked::Outcome, question),
     }
 }
