@@ -1,11 +1,11 @@
 //! Threads that are started and run by schedules, with what they wrote (docs/threads.md). In a row `|` stands for a line feed.
-use crate::answers;
-use crate::desk::{sink, source};
 use bus_memories::paged::PagedBus;
 use case_rows::{Unanswered, decimal, first_word};
 use eh_port::MemSink;
 use eh_trace::trace_lines;
 use frame_check::Accepted;
+use machine_rows::desk::{sink, source};
+use machine_rows::{Commanded, answers};
 use std::alloc::{AllocError, Global};
 use thread_memory::THREADS;
 use thread_run::{Thread, Threads};
@@ -160,17 +160,23 @@ fn answer(alloc: Global, turns: &mut Turns, what: &str, rest: &str) -> Result<St
     }
 }
 
-/// The answer to the last of some commands with `; ` between them, at the start of a run.
-pub fn last_answer(
-    alloc: Global,
-    accepted: &Accepted,
-    commands: &str,
-) -> Result<String, Unanswered> {
-    let mut turns = Turns::start(alloc, accepted)?;
-    let mut said = String::new(alloc);
-    for command in commands.split("; ") {
-        let (what, rest) = first_word(command);
-        said = answer(alloc, &mut turns, what, rest)?;
+/// Threads by a schedule.
+pub struct Threading;
+
+impl Commanded for Threading {
+    /// The answer to the last of the commands.
+    fn answer_over(
+        &self,
+        alloc: Global,
+        accepted: &Accepted,
+        commands: &str,
+    ) -> Result<String, Unanswered> {
+        let mut turns = Turns::start(alloc, accepted)?;
+        let mut said = String::new(alloc);
+        for command in commands.split("; ") {
+            let (what, rest) = first_word(command);
+            said = answer(alloc, &mut turns, what, rest)?;
+        }
+        Ok(said)
     }
-    Ok(said)
 }

@@ -1,10 +1,10 @@
 //! Walks and forced unwinding from where a machine stands whose registers were changed (docs/walks.md). Numbers are hexadecimal.
-use crate::answers;
-use crate::desk::Desk;
 use case_rows::{Unanswered, first_word, number_at, numbers};
 use eh_trace::EventKind;
 use eh_walk::{Backtrace, ForceFault, WalkFrame, backtrace, force};
 use frame_check::Accepted;
+use machine_rows::desk::Desk;
+use machine_rows::{Commanded, answers};
 use std::alloc::{AllocError, Global};
 
 /// The walk from where a machine stands, of at most so many frames.
@@ -123,18 +123,24 @@ fn answer(alloc: Global, desk: &mut Desk, what: &str, given: &[u32]) -> Result<S
     Ok(text?)
 }
 
-/// The answer to the last of some commands with `; ` between them, at the start of a run.
-pub fn last_answer(
-    alloc: Global,
-    accepted: &Accepted,
-    commands: &str,
-) -> Result<String, Unanswered> {
-    let mut desk = Desk::start(alloc, accepted)?;
-    let mut said = String::new(alloc);
-    for command in commands.split("; ") {
-        let (what, rest) = first_word(command);
-        let given = numbers(alloc, rest)?;
-        said = answer(alloc, &mut desk, what, given.as_slice())?;
+/// A machine from whose state frames are walked.
+pub struct Walking;
+
+impl Commanded for Walking {
+    /// The answer to the last of the commands.
+    fn answer_over(
+        &self,
+        alloc: Global,
+        accepted: &Accepted,
+        commands: &str,
+    ) -> Result<String, Unanswered> {
+        let mut desk = Desk::start(alloc, accepted)?;
+        let mut said = String::new(alloc);
+        for command in commands.split("; ") {
+            let (what, rest) = first_word(command);
+            let given = numbers(alloc, rest)?;
+            said = answer(alloc, &mut desk, what, given.as_slice())?;
+        }
+        Ok(said)
     }
-    Ok(said)
 }

@@ -12,7 +12,7 @@ use Rattle.two_machines.specs.Checked.{program_of}
 use Rattle.two_machines.specs.Activations.{recorded_start}
 use Rattle.stands_for.specs.Stands.{StandsFor}
 use Rattle.eh_machine.specs.Follows.{StartsAlike, FollowsRun}
-use Rattle.machine_cases.specs.Stood.{Stood}
+use Rattle.machine_rows.specs.Stood.{Stood}
 
 no_fault : (end : End) → (end ≡ ReadFault → Rose 0 0) → (end ≡ WriteFault → Rose 0 0) → is_fault end ≡ false
 no_fault (Exit number) read write = refl

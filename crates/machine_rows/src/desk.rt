@@ -49,6 +49,7 @@ fn turn_once(machine: &mut Machine<PagedBus>, input: &mut SureSource, out: &mut 
 }
 
 impl<'c> Desk<'c> {
+    /// A machine as it stands, with nothing written.
     pub fn of(alloc: Global, machine: Machine<'c, PagedBus>) -> Desk<'c> {
         let before = machine.core;
         Desk {
@@ -102,6 +103,7 @@ impl<'c> Desk<'c> {
         }
     }
 
+    /// Changes a register; from 15 on it is pc.
     pub fn set_reg(&mut self, number: u32, value: u32) {
         let regs = &mut self.machine.core.regs;
         if number < 15 {

@@ -2,7 +2,7 @@
 ghost use Rattle.std.specs.Prelude.{◌≡◌, [], IfOk};
 ghost use Rattle.bus_memories.specs.Paged.{memory_of};
 ghost use Rattle.eh_gates.specs.State.{state_of};
-ghost use Rattle.machine_cases.specs.Stood.{Stood};
+ghost use Rattle.machine_rows.specs.Stood.{Stood};
 
 use crate::answers;
 use crate::desk::Desk;

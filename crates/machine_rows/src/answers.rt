@@ -12,6 +12,7 @@ pub fn push(all: &mut String, answer: &str) -> Result<(), AllocError> {
     all.push_str(answer)
 }
 
+/// The answer of what says nothing.
 pub fn nothing(alloc: Global) -> String {
     String::new(alloc)
 }
@@ -28,6 +29,7 @@ pub fn words(alloc: Global, words: &[u32]) -> Result<String, AllocError> {
     Ok(text)
 }
 
+/// `yes` or `no`.
 pub fn yes_or_no(alloc: Global, is_so: bool) -> Result<String, AllocError> {
     let said = if is_so { "yes" } else { "no" };
     format!(in alloc; "{said}")

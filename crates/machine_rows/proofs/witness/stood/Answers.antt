@@ -1,5 +1,5 @@
-use Rattle.machine_cases.proofs.Standing.{stood_by}
-use Rattle.machine_cases.proofs.witness.stood.Goals as goal
+use Rattle.machine_rows.proofs.Standing.{stood_by}
+use Rattle.machine_rows.proofs.witness.stood.Goals as goal
 
 pub returns : goal.returns
 returns c =
