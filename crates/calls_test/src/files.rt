@@ -32,7 +32,7 @@ fn is_found(answer: &Result<FileAnswer, FileFault>, bytes: &[u8]) -> bool {
 #[test]
 fn a_file_is_its_bytes_up_to_the_limit(rt: HostRuntime) -> Result<(), Fail> {
     let alloc = rt.alloc();
-    let name = "a_file_of_words_test";
+    let name = "a_file_of_calls_test";
     let mut files = HostFiles {
         host: &rt,
         faults: 0,
@@ -71,7 +71,7 @@ fn a_file_is_its_bytes_up_to_the_limit(rt: HostRuntime) -> Result<(), Fail> {
 
 #[test]
 fn a_file_without_bytes_is_found(rt: HostRuntime) -> Result<(), Fail> {
-    let name = "an_empty_file_of_words_test";
+    let name = "an_empty_file_of_calls_test";
     let mut files = HostFiles {
         host: &rt,
         faults: 0,
@@ -91,7 +91,7 @@ fn a_missing_file_is_no_fault(rt: HostRuntime) {
         faults: 0,
         asked: 0,
     };
-    let missing = files.read(rt.alloc(), "no_file_of_words_test", BLOCK);
+    let missing = files.read(rt.alloc(), "no_file_of_calls_test", BLOCK);
     assert!(rt; matches!(&missing, Ok(FileAnswer::Missing)));
     assert_eq!(rt; files.faults, 0);
 }
@@ -109,9 +109,9 @@ fn what_no_file_can_be_is_missing(rt: HostRuntime) -> Result<(), Fail> {
     for _ in 0..300 {
         long.push('n')?;
     }
-    fs::write(&rt, "a_file_on_the_way_of_words_test", b"")?;
-    let through = files.read(alloc, "a_file_on_the_way_of_words_test/name", BLOCK);
-    fs::remove_file(&rt, "a_file_on_the_way_of_words_test")?;
+    fs::write(&rt, "a_file_on_the_way_of_calls_test", b"")?;
+    let through = files.read(alloc, "a_file_on_the_way_of_calls_test/name", BLOCK);
+    fs::remove_file(&rt, "a_file_on_the_way_of_calls_test")?;
     let named = files.read(alloc, long.as_str(), BLOCK);
     assert!(rt; matches!(&through, Ok(FileAnswer::Missing)));
     assert!(rt; matches!(&named, Ok(FileAnswer::Missing)));
