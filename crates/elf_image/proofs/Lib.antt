@@ -1,4 +1,5 @@
 pub mod Listed
+pub mod Rows
 pub mod Entries
 pub mod Overlaps
 pub mod Rising

@@ -72,8 +72,6 @@ pub accepted : (bytes : List ℕ) → header_refusal bytes ≡ None → table_re
 unfolding image_of refusal_of
 accepted bytes a b c d e f h = rw (a, b, c, d, e, f, h) refl
 
-pub ruleset outcomes = (headers_there, sections_there, refused_header, refused_table, refused_segments, refused_index, refused_tables, refused_size, refused_build, accepted)
-
 -- ---- the same, by what was read so far
 
 -- the headers and segments that were read are those of the file
@@ -108,6 +106,10 @@ module _ (bytes : List ℕ) (headers : List ProgramHeader) (segments : List Segm
 
   pub exit_tables : (fault : ImageFault) → index_refusal (filter is_index headers) segments ≡ None → tables_refusal bytes (file_tables bytes) ≡ Some fault → image_of bytes ≡ Err fault
   exit_tables fault i h = refused_tables bytes fault k.header k.table k.accepted (index_as ∙ i) h
+
+  pub exit_size : (table : List ℕ) → index_refusal (filter is_index headers) segments ≡ None → tables_refusal bytes (file_tables bytes) ≡ None → table ≡ file_table bytes
+      → (nat_lt MEMORY_LIMIT (sum_by (λ s. s.size) segments) || nat_lt SEGMENT_LIMIT (length segments) || nat_lt SYMBOL_LIMIT (length table / 16)) ≡ true → image_of bytes ≡ Err TooLarge
+  exit_size table i t table_is h = refused_size bytes k.header k.table k.accepted (index_as ∙ i) t (rw (← k.segments_are, ← table_is) h)
 
 -- ---- the end
 

@@ -145,7 +145,6 @@ fn section_header(bytes: &[u8], at: usize) -> SectionHeader
 }
 
 /// The program headers, of 32 bytes each.
-#[tactic(auto, using(crate::proofs::Listed::listed))]
 pub(crate) fn program_headers(alloc: Global, bytes: &[u8]) -> Result<Vec<ProgramHeader>, AllocError>
     requires whole { 52 ≤ length bytes.now }
     requires there { missing bytes.now (program_offset bytes.now) (32 * program_count bytes.now) ≡ None }
@@ -162,7 +161,6 @@ pub(crate) fn program_headers(alloc: Global, bytes: &[u8]) -> Result<Vec<Program
 }
 
 /// The section headers, of 40 bytes each.
-#[tactic(auto, using(crate::proofs::Listed::listed))]
 pub(crate) fn section_headers(alloc: Global, bytes: &[u8]) -> Result<Vec<SectionHeader>, AllocError>
     requires whole { 52 ≤ length bytes.now }
     requires there { missing bytes.now (section_offset bytes.now) (40 * section_count bytes.now) ≡ None }

@@ -121,7 +121,6 @@ fn build<'a>(
 
 /// The image that the bytes of an ELF file stand for ("ELF for the Arm Architecture"; docs/elf.md has the tests in their
 /// order). Refused is what the first test names; numbers in `Truncated` are offsets in bytes and are not wrapped.
-#[tactic(auto, using(crate::proofs::Outcome::outcomes))]
 pub fn read_image<'a>(alloc: Global, bytes: &'a [u8]) -> Result<Image<'a>, ImageFault>
     ensures image { IfOk result (λ image. image_of bytes.now ≡ Ok image) }
     // Want of memory alone is free.

@@ -107,4 +107,39 @@ place_past k z at at' total xs i x bytes h is b a past all =
     let step : file_place k z at (drop i xs) ≡ file_place k z (aligned at + length (get_or xs i x).bytes) (drop (i + 1) xs) = place_more k z at xs i x h ∙ rw there refl in
     rw (b, a) (ap (λ (y : OwnSegment). file_place k z (aligned at + length y.bytes) (drop (i + 1) xs)) is ∙ sym step ∙ all)
 
-pub ruleset layouts = (strings_more, rows_more, next_at, contents_more, contents_length, program_more, names_more, place_more, sections_more, append_assoc)
+-- ---- a loop's step: one more row stands at the end
+
+pub program_past : (at at' : ℕ) (xs : List OwnSegment) (i : ℕ) (x : OwnSegment) (bytes out out' total : List ℕ) → i < length xs → x ≡ get_or xs i x → bytes ≡ x.bytes → at' ≡ aligned at
+    → out' ≡ out ++ program_bytes (load_header at' x) → out ++ program_rows at (drop i xs) ≡ total → out' ++ program_rows (at' + length bytes) (drop (i + 1) xs) ≡ total
+program_past at at' xs i x bytes out out' total h is b a e all =
+    rw (e, b, a) (append_assoc out (program_bytes (load_header (aligned at) x)) (program_rows (aligned at + length x.bytes) (drop (i + 1) xs))
+    ∙ ap (λ (y : OwnSegment). out ++ (program_bytes (load_header (aligned at) y) ++ program_rows (aligned at + length y.bytes) (drop (i + 1) xs))) is
+    ∙ ap (λ (rows : List ℕ). out ++ rows) (sym (program_more at xs i x h)) ∙ all)
+
+pub names_past : (n : ℕ) (xs : List OwnSegment) (i : ℕ) (out out' total : List ℕ) → i < length xs → out' ≡ out ++ segment_name n → out ++ segment_names n (drop i xs) ≡ total
+    → out' ++ segment_names (n + 1) (drop (i + 1) xs) ≡ total
+names_past n xs i out out' total h e all =
+    let none : OwnSegment = record { start = 0; bytes = []; size = 0; write = false; exec = false } in
+    rw e (append_assoc out (segment_name n) (segment_names (n + 1) (drop (i + 1) xs)) ∙ ap (λ (names : List ℕ). out ++ names) (sym (names_more n xs i none h)) ∙ all)
+
+pub sections_past : (n name at at' len : ℕ) (xs : List OwnSegment) (i : ℕ) (x : OwnSegment) (bytes out out' total : List ℕ) → i < length xs → x ≡ get_or xs i x → bytes ≡ x.bytes → at' ≡ aligned at
+    → len ≡ length (segment_name n) → out' ≡ out ++ section_bytes (segment_row name at' x) → out ++ section_rows n name at (drop i xs) ≡ total
+    → out' ++ section_rows (n + 1) (name + len) (at' + length bytes) (drop (i + 1) xs) ≡ total
+sections_past n name at at' len xs i x bytes out out' total h is b a l e all =
+    let next = name + length (segment_name n) in
+    rw (e, b, a, l) (append_assoc out (section_bytes (segment_row name (aligned at) x)) (section_rows (n + 1) next (aligned at + length x.bytes) (drop (i + 1) xs))
+    ∙ ap (λ (y : OwnSegment). out ++ (section_bytes (segment_row name (aligned at) y) ++ section_rows (n + 1) next (aligned at + length y.bytes) (drop (i + 1) xs))) is
+    ∙ ap (λ (rows : List ℕ). out ++ rows) (sym (sections_more n name at xs i x h)) ∙ all)
+
+pub strings_past : (at len total : ℕ) (xs : List Symbol) (i : ℕ) (x : Symbol) → i < length xs → x ≡ get_or xs i x → len ≡ length (closed x.name)
+    → at + length (flat_map (λ (s : Symbol). closed s.name) (drop i xs)) ≡ total → at + len + length (flat_map (λ (s : Symbol). closed s.name) (drop (i + 1) xs)) ≡ total
+strings_past at len total xs i x h is l all =
+    let same : length (closed (get_or xs i x).name) ≡ length (closed x.name) = ap (λ (y : Symbol). length (closed y.name)) (sym is) in
+    omega (arith, strings_more xs i x h, all, same, l)
+
+pub rows_past : (at len : ℕ) (xs : List Symbol) (i : ℕ) (x : Symbol) (out out' total : List ℕ) → i < length xs → x ≡ get_or xs i x → len ≡ length (closed x.name) → out' ≡ out ++ symbol_bytes at x
+    → out ++ symbol_rows at (drop i xs) ≡ total → out' ++ symbol_rows (at + len) (drop (i + 1) xs) ≡ total
+rows_past at len xs i x out out' total h is l e all =
+    rw (e, l) (append_assoc out (symbol_bytes at x) (symbol_rows (at + length (closed x.name)) (drop (i + 1) xs))
+    ∙ ap (λ (y : Symbol). out ++ (symbol_bytes at y ++ symbol_rows (at + length (closed y.name)) (drop (i + 1) xs))) is
+    ∙ ap (λ (rows : List ℕ). out ++ rows) (sym (rows_more at xs i x h)) ∙ all)

@@ -34,7 +34,7 @@ pub struct SectionRow {
 }
 
 /// The bytes of the segments, each at the next multiple of 4, from the offset `base` on.
-#[tactic(auto, using(crate::proofs::Layouts::layouts))]
+#[tactic(auto, using(crate::proofs::Layouts::next_at, crate::proofs::Layouts::contents_more, std::proofs::lemmas::List::append_assoc))]
 pub(crate) fn contents(
     alloc: Global,
     base: usize,
@@ -90,7 +90,7 @@ fn load_header(at: usize, s: &OwnSegment) -> ProgramHeader
 }
 
 /// The program headers of the segments, whose bytes stand from `base` on.
-#[tactic(auto, using(crate::proofs::Layouts::layouts))]
+#[tactic(auto, using(crate::proofs::Layouts::contents_length))]
 pub(crate) fn program_rows(
     alloc: Global,
     base: usize,
@@ -120,7 +120,7 @@ fn holds_range(s: &OwnSegment, address: u32, size: u32) -> bool
 }
 
 /// Where the bytes of a range of addresses stand in the file: in the first segment whose bytes hold them all.
-#[tactic(auto, using(crate::proofs::Layouts::layouts))]
+#[tactic(auto, using(crate::proofs::Layouts::contents_length, crate::proofs::Layouts::place_more))]
 pub(crate) fn file_place(address: u32, size: u32, base: usize, segments: &[OwnSegment]) -> u32
     requires { base + length (contents base segments.now) < 2 ^ 32 }
     ensures { result ≡ file_place address size base segments.now }
@@ -175,7 +175,6 @@ fn put_last_names(out: &mut Vec<u8>) -> Result<(), AllocError>
 }
 
 /// The names of the sections, each closed by a zero byte, after a zero byte.
-#[tactic(auto, using(crate::proofs::Layouts::layouts))]
 pub(crate) fn section_names(alloc: Global, segments: &[OwnSegment]) -> Result<Vec<u8>, AllocError>
     requires { length segments.now ≤ SEGMENT_LIMIT }
     ensures { IfOk result (λ v. v.items ≡ section_names segments.now) }
@@ -246,7 +245,7 @@ fn segment_name_len(i: u32) -> u32
 }
 
 /// The section headers of the segments, whose bytes stand from `base` on.
-#[tactic(auto, using(crate::proofs::Layouts::layouts))]
+#[tactic(auto, using(crate::proofs::Layouts::contents_length))]
 pub(crate) fn section_rows(
     alloc: Global,
     base: usize,

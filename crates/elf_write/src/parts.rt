@@ -20,7 +20,7 @@ pub struct OwnSegment {
 }
 
 /// What a symbol to write is.
-#[derive(Clone, Copy, PartialEq, Eq, Debug)]
+#[derive(Clone, Copy, PartialEq, Eq)]
 pub enum SymbolKind {
     Function,
     Object,

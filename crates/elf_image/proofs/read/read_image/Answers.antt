@@ -1,7 +1,7 @@
 use Rattle.elf_image.specs.declared.format.FileHeader.{FileHeader}
 use Rattle.std.proofs.Common.{ap, ℕ, List, ◌∙◌, sym, subst}
 use Rattle.std.proofs.lemmas.Result.{err_from_is_err_and}
-use Rattle.elf_image.proofs.Outcome.{refused_header, refused_table, known, exit_segments, exit_index, exit_tables, ready, finish_image, finish_refused}
+use Rattle.elf_image.proofs.Outcome.{refused_header, refused_table, known, exit_segments, exit_index, headers_there, sections_there, exit_tables, exit_size, ready, finish_image, finish_refused}
 use Rattle.elf_image.proofs.Lookups.{sum_fits}
 use Rattle.elf_image.proofs.Sound.{index_stands, plain_symbols}
 use Rattle.elf_image.specs.Index.{is_index}
@@ -40,8 +40,32 @@ returns-in_err-table-clause-refused c =
     let p = err_from_is_err_and c.from_residual-in_err-table.result c.from_residual-in_err-table.ensures.1 in
     rw (p.1, p.2) (λ ne. exit_tables c.args.bytes.now c.deref.result.now c.in_ok-segments.segments.items k c.in_err-table.field-0.0 h (c.in_err-table.ensures.refused ne))
 
+pub table_refusal-requires : goal.table_refusal-requires
+table_refusal-requires c = c.header_refusal.ensures.whole c.in_default.is
+
+pub program_headers-requires : goal.program_headers-requires
+program_headers-requires c = record {
+  whole = c.header_refusal.ensures.whole c.in_default.is;
+  there = headers_there c.args.bytes.now (sym c.table_refusal.ensures ∙ c.in_default-table_refusal.is);
+}
+
+pub read_tables-requires : goal.read_tables-requires
+read_tables-requires c = record {
+  whole = c.header_refusal.ensures.whole c.in_default.is;
+  there = sections_there c.args.bytes.now (sym c.table_refusal.ensures ∙ c.in_default-table_refusal.is);
+}
+
 pub is_too_large-requires : goal.is_too_large-requires
 is_too_large-requires c = rw c.deref-4.ensures.value (sum_fits c.in_ok-segments.segments.items c.in_ok-segments.ensures.rise)
+
+pub returns-then-is_too_large-clause-refused : goal.returns-then-is_too_large-clause-refused
+returns-then-is_too_large-clause-refused c =
+    let hd = c.deref.ensures.value ∙ c.in_ok-headers.ensures in
+    let k = known c.args.bytes.now c.deref.result.now c.in_ok-segments.segments.items (sym c.header_refusal.ensures.refusal ∙ c.in_default.is)
+    (sym c.table_refusal.ensures ∙ c.in_default-table_refusal.is) hd c.in_ok-segments.ensures.accepted c.in_ok-segments.ensures.segments in
+    let i = rw (c.deref-2.ensures.value, ← c.deref.ensures.value, c.deref-3.ensures.value) at c.in_ok-index.ensures.accepted in
+    let size = rw c.deref-4.ensures.value at (sym c.is_too_large.ensures ∙ c.if-is_too_large.true) in
+    λ _. exit_size c.args.bytes.now c.deref.result.now c.in_ok-segments.segments.items k c.in_ok-table.table.now i c.in_ok-table.ensures.accepted c.in_ok-table.ensures.table size
 
 pub returns-clause-image : goal.returns-clause-image
 returns-clause-image c =

@@ -1,0 +1,11 @@
+use Rattle.std.proofs.Common.{◌≡◌, length, rules}
+use Rattle.elf_write.specs.Layout.{closed}
+use Rattle.elf_write.proofs.Layouts.{strings_past, rows_past}
+use Rattle.elf_write.proofs.rows.table_of.Goals as goal
+
+pub loop-s-preserved : goal.loop-s-preserved
+loop-s-preserved c =
+    let len : c.closed_len-at.result ≡ length (closed c.s-item.result.name) = search rules in (
+      strings_past c.loop-s.at c.closed_len-at.result _ c.args.rows.now c.loop-s.s-index c.s-item.result c.loop-s-test.true c.s-item.is len c.loop-s.invariant.0,
+      rows_past c.loop-s.at c.closed_len-at.result c.args.rows.now c.loop-s.s-index c.s-item.result c.loop-s.out.items _ _ c.loop-s-test.true c.s-item.is len c.in_ok-put_symbol.ensures c.loop-s.invariant.1,
+    )
