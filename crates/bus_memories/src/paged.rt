@@ -1,5 +1,5 @@
 //! The memory that is kept in pages, found by their number in constant time. docs/memory-map.md states its rules.
-ghost use Rattle.std.specs.Prelude.{◌≡◌, ℕ, List, ◌+◌, ◌-◌, ◌*◌, ◌%◌, ◌^◌, ◌<◌, ◌≤◌, length, drop, Option, Some, None, IfOk, IfErr, OnOk, All, ◌==◌, ◌++◌, ◌∷◌, [], IfSome, IfNone, slice_index_or, true, false};
+ghost use Rattle.std.specs.Prelude.{◌≡◌, ℕ, List, ◌+◌, ◌*◌, ◌%◌, ◌^◌, ◌<◌, ◌≤◌, length, drop, Option, Some, None, IfOk, IfErr, OnOk, All, ◌==◌, ◌++◌, ◌∷◌, [], IfSome, IfNone, slice_index_or, true, false};
 ghost use Rattle.byteorder.specs.Endian.{little_number};
 ghost use Rattle.eh_bus.specs.Segment.{Segment, AreBytes};
 ghost use Rattle.eh_bus.specs.Built.{CanBuild, GivesImage, built, segment_of, zeros_at};

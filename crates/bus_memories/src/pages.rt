@@ -1,5 +1,5 @@
 //! Pages of 4,096 bytes, found by their number. Each byte knows the segment that has it.
-ghost use Rattle.std.specs.Prelude.{◌≡◌, ℕ, ◌+◌, ◌-◌, ◌*◌, ◌/◌, ◌%◌, ◌<◌, ◌≤◌, ◌∷◌, [], length, take, drop, ◌++◌, Some, None, IfOk, OnOk, cond, ◌==◌, ◌&&◌, nat_le, nat_lt, slice_index_or, slice_index, slice_set, replicate};
+ghost use Rattle.std.specs.Prelude.{◌≡◌, ℕ, ◌+◌, ◌-◌, ◌*◌, ◌/◌, ◌%◌, ◌<◌, ◌≤◌, ◌∷◌, [], length, take, drop, ◌++◌, Some, None, IfOk, OnOk, cond, ◌==◌, ◌&&◌, nat_le, nat_lt, slice_index_or, slice_index, replicate};
 ghost use Rattle.byteorder.specs.Endian.{little_number, little_bytes};
 ghost use Rattle.eh_bus.specs.Segment.{AreBytes};
 ghost use Rattle.eh_list.specs.Bytes.{zeros};

@@ -13,3 +13,6 @@ pages-preserved c =
 
 pub returns-clause-bytes : goal.returns-clause-bytes
 returns-clause-bytes c = λ k d h. rw (get_or_default c.args.given.now k d 0 h) (omega (arith, c.type_inv.given k))
+
+pub returns-in_err-claim_run-clause-bytes : goal.returns-in_err-claim_run-clause-bytes
+returns-in_err-claim_run-clause-bytes c = λ k d h. rw (get_or_default c.args.given.now k d 0 h) (omega (arith, c.type_inv.given k))
