@@ -4,7 +4,7 @@ use crate::objects::text_in;
 use crate::texts::{say_bytes, say_text};
 use case_rows::{Telling, Text, Unanswered, first_word};
 use eh_link::{LinkFault, link};
-use elf_write::{ImageParts, OwnSegment, OwnSymbol};
+use elf_write::{ImageParts, OwnSegment, OwnSymbol, SymbolKind};
 use relocatable_object::Object;
 
 /// `PART ENTRY FILE`: a part of the image of the objects that a file describes, with the entry at a function; or why there is no
@@ -40,9 +40,19 @@ fn say_segments(text: &mut Text, segments: &[OwnSegment]) {
     }
 }
 
+/// The name of what a symbol is.
+fn kind_name(kind: SymbolKind) -> &'static str {
+    match kind {
+        SymbolKind::Function => "Function",
+        SymbolKind::Object => "Object",
+        SymbolKind::Code => "Code",
+        SymbolKind::Words => "Words",
+    }
+}
+
 /// Adds a symbol: what it is, its address and its name.
 fn say_symbol(text: &mut Text, symbol: &OwnSymbol) {
-    text.show(&symbol.kind);
+    text.say(kind_name(symbol.kind));
     text.say(" ");
     text.say_hex(symbol.value);
     text.say(" ");
