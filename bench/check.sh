@@ -6,6 +6,7 @@
 # header more. Prints a line each; of a tool that isn't there or can't read the image, the line says so. Needs GNU time and perl.
 set -eu
 top=$(cd "$(dirname "$0")/.." && pwd)
+. "$top/bench/index_section.sh"
 work=$(mktemp -d)
 trap 'rm -rf "$work"' EXIT
 "$top/ehabi_run" >/dev/null || true
@@ -17,23 +18,6 @@ image() {
     "$top/crates/ehabi_generate/out/ehabi_generate" 1 "$1" >"$work/source.s"
     (cd "$work" && "$top/out/ehabi_run" build source.s >image)
     [ "$(head -c 4 "$work/image")" = $'\x7fELF' ] || { echo "$1 functions: not built" >&2; head -c 200 "$work/image" >&2; exit 1; }
-}
-
-# the image with a section header more, for the index that its program header names (SHT_ARM_EXIDX, PT_ARM_EXIDX)
-with_index_section() {
-    perl -0777 -e '
-        my $image = <STDIN>;
-        my ($programs, $sections, $program_count, $section_count) = unpack("x28 V2 x8 v x2 v", $image);
-        for my $i (0 .. $program_count - 1) {
-            my ($type, $offset, $address, undef, $size) = unpack("V5", substr($image, $programs + 32 * $i, 20));
-            next if $type != 0x70000001;
-            my $headers = substr($image, $sections, 40 * $section_count);
-            substr($image, 32, 4) = pack("V", length $image);
-            substr($image, 48, 2) = pack("v", $section_count + 1);
-            $image .= $headers . pack("V10", 0, 0x70000001, 0x82, $address, $offset, $size, 1, 0, 4, 0);
-        }
-        print $image;
-    ' <"$work/image" >"$work/image_with_section"
 }
 
 # the first of these commands that is installed
@@ -82,7 +66,7 @@ objdump=$(first_of arm-none-eabi-objdump arm-linux-gnueabi-objdump arm-linux-gnu
 
 for functions in 2000 4000; do
     image "$functions"
-    with_index_section
+    with_index_section <"$work/image" >"$work/image_with_section"
     measure_check "$functions functions"
     measure_tool "$functions functions" readelf '^0x' "$functions" "$readelf" -u "$work/image_with_section"
     measure_tool "$functions functions" objdump 'push' "$functions" "$objdump" -d "$work/image"

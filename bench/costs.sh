@@ -1,14 +1,17 @@
 #!/usr/bin/env bash
 # What events, checks, builds and throws cost the host, and beside each what a plain tool takes for the like: host instructions by valgrind's
 # callgrind. An event is the difference of two runs with more and with fewer of them, so that neither the start of the program nor the check of
-# the image plays a part; so is a frame of a throw. What grows with its input is counted at a size and at twice the size. Beside `flat` and `run`
-# stands a plain interpreter in C on the same loops of raw code (plain_core.c), beside `build` GNU as and ld for Arm on the same text, as far as
-# they take it, and beside a throw the host's g++ with its own runtime, through as many functions of which each has a destructor to run, or none.
-# `bench/real_image.sh` has `check` beside `readelf -u`. Prints a line each. Needs cc, g++, and for `build` arm-none-eabi-as and -ld.
+# the image plays a part; so is a frame of a throw. What grows with its input is counted at a size and at twice the size.
+# Beside `flat` and `run` stands a plain interpreter in C on the same loops as raw code (plain_core.c), beside `check` `readelf -u` of the same
+# image with a section header more, beside `build` GNU as and ld for Arm on the same text, as far as they take it, and beside a throw the host's
+# g++ with its own runtime, through as many functions of which each has a destructor to run, or none. `bench/real_image.sh` counts a check of real
+# code. Prints a line each. Needs cc, g++, readelf and perl, and for `build` arm-none-eabi-as and -ld.
 # `EHABI_RUN=PROGRAM EHABI_GENERATE=PROGRAM bench/costs.sh` measures another build of the programs.
 set -eu
 top=$(cd "$(dirname "$0")/.." && pwd)
 . "$top/bench/flat_loops.sh"
+. "$top/bench/run_loops.sh"
+. "$top/bench/index_section.sh"
 work=$(mktemp -d)
 trap 'rm -rf "$work"' EXIT
 program=${EHABI_RUN:-}
@@ -43,22 +46,14 @@ flat counting count
 flat 'loads and stores' memory
 flat 'calls, push and pop' calls
 
-# source_text ROUNDS BODY: main, which does BODY so many times and has eight bytes of its own on the stack
-source_text() {
-    printf '.global main\n.type main, %%function\nmain: .fnstart\n.save {r4, lr}\n.pad #8\npush {r4, lr}\nsub sp, #8\nldr r4, =%s\n' "$1"
-    printf '.Lround:\n%s\nsubs r4, #1\nbne .Lround\nadd sp, #8\nmovs r0, #0\npop {r4, pc}\n.fnend\n' "$2"
-    printf '.type leaf, %%function\nleaf: .fnstart\n.save {r4, lr}\npush {r4, lr}\npop {r4, pc}\n.fnend\n'
-}
-
-# run NAME EVENTS BODY: EVENTS events a round
+# run NAME EVENTS BODY BYTES: EVENTS events a round, of the source and of the same rounds as raw code
 run() {
     source_text 4000 "$3" >"$work/4000.s"
     source_text 10000 "$3" >"$work/10000.s"
-    echo "run, $1: $(by_event 4000 10000 "$2" "$program" run "$work/%.s" 1000000000) host instructions an event"
+    bytes "$4" >"$work/raw"
+    echo "run, $1: $(by_event 4000 10000 "$2" "$program" run "$work/%.s" 1000000000) host instructions an event; plainly $(by_event 20000 220000 1 "$work/plain" "$work/raw" %)"
 }
-run counting 2 ''
-run 'loads and stores' 5 $'str r4, [sp]\nldr r0, [sp]\nadds r0, #1'
-run 'calls, push and pop' 5 'bl leaf'
+each_run_loop run
 
 # twice NAME ONCE TWICE: what 2,000 functions cost, and 4,000
 twice() {
@@ -68,8 +63,9 @@ for functions in 2000 4000; do
     "$generate" 1 "$functions" >"$work/$functions.s"
     "$program" build "$work/$functions.s" >"$work/$functions.elf"
 done
+with_index_section <"$work/4000.elf" >"$work/image_with_section"
 twice check "$(instructions "$program" check "$work/2000.elf")" "$(instructions "$program" check "$work/4000.elf")"
-echo
+printf '; readelf -u %d\n' "$(instructions readelf -u "$work/image_with_section")"
 twice build "$(instructions "$program" build "$work/2000.s")" "$(instructions "$program" build "$work/4000.s")"
 if command -v arm-none-eabi-as >/dev/null; then
     # GNU as has another word for a halfword, and no mark for these addresses

@@ -3,16 +3,10 @@
 # long a throw takes through 1,000 frames with a cleanup each, by frame. Prints a line each. Needs awk.
 set -eu
 top=$(cd "$(dirname "$0")/.." && pwd)
+. "$top/bench/run_loops.sh"
 work=$(mktemp -d)
 trap 'rm -rf "$work"' EXIT
 "$top/ehabi_run" >/dev/null || true
-
-# source_text ROUNDS BODY: main, which does BODY so many times and has eight bytes of its own on the stack
-source_text() {
-    printf '.global main\n.type main, %%function\nmain: .fnstart\n.save {r4, lr}\n.pad #8\npush {r4, lr}\nsub sp, #8\nldr r4, =%s\n' "$1"
-    printf '.Lround:\n%s\nsubs r4, #1\nbne .Lround\nadd sp, #8\nmovs r0, #0\npop {r4, pc}\n.fnend\n' "$2"
-    printf '.type leaf, %%function\nleaf: .fnstart\n.save {r4, lr}\npush {r4, lr}\npop {r4, pc}\n.fnend\n'
-}
 
 # runs the source, and sets the nanoseconds that it took
 timed() {
@@ -23,17 +17,15 @@ timed() {
     tail -n 1 "$work/said" | grep -qx -- '-- exit 0' || { echo "not run:" >&2; tail -n 1 "$work/said" >&2; exit 1; }
 }
 
-# measure NAME ROUNDS EVENTS BODY: EVENTS events a round
+# measure NAME EVENTS BODY: EVENTS events a round, some twenty million in all
 measure() {
-    source_text "$2" "$4" >"$work/source.s"
+    local rounds=$((20000000 / $2))
+    source_text "$rounds" "$3" >"$work/source.s"
     timed
-    awk -v name="$1" -v events=$(($2 * $3)) -v ns="$nanoseconds" \
+    awk -v name="$1" -v events=$((rounds * $2)) -v ns="$nanoseconds" \
         'BEGIN { printf "%s: %d events in %.2f s, %.1f million a second\n", name, events, ns / 1e9, events * 1000 / ns }'
 }
-
-measure counting 10000000 2 ''
-measure 'loads and stores' 5000000 5 $'str r4, [sp]\nldr r0, [sp]\nadds r0, #1'
-measure 'calls, push and pop' 4000000 5 'bl leaf'
+each_run_loop measure
 
 # so many frames with a cleanup each between a throw and its handler, so many times
 throw_text() {
