@@ -1,5 +1,5 @@
 //! Each function of an image, judged by itself (docs/audit.md, "Functions").
-ghost use Rattle.std.specs.Prelude.{◌≡◌, IfOk, Some};
+ghost use Rattle.std.specs.Prelude.{◌≡◌, [], IfOk, OnOk, Some};
 ghost use Rattle.image_memory.specs.Profiles.{profile_of};
 ghost use Rattle.frame_check.specs.Roots.{flow_graph_of};
 ghost use Rattle.frame_check.specs.Judged.{IsPlaced};
@@ -120,8 +120,27 @@ fn audit_function<'a>(
     })
 }
 
-/// What is found of each function, in rising order, by the profile of their image. An entry that covers several is read once, and the
-/// facts of one function are kept at a time.
+/// Adds what is found of each function, in rising order. An entry that covers several is read once.
+fn audit_each<'a>(
+    alloc: Global,
+    room: &mut Room,
+    cover: &mut Cover,
+    audited: &mut Vec<Audited<'a>>,
+    index: &Index<'_, 'a>,
+) -> Result<(), AuditMemory>
+    requires none { audited.old.items ≡ [] }
+    requires cover { cover.old ≡ index.now }
+    ensures { OnOk result (AreAudited index.now index.now.functions audited.new.items) }
+{
+    for f in index.image().functions() {
+        cover.turn(alloc, f.start, f.end)?;
+        let found = audit_function(alloc, room, cover, f)?;
+        audited.push(found)?;
+    }
+    Ok(())
+}
+
+/// What is found of each function, in rising order, by the profile of their image. The facts of one function are kept at a time.
 pub fn audit_functions<'a>(
     alloc: Global,
     index: &Index<'_, 'a>,
@@ -133,10 +152,6 @@ pub fn audit_functions<'a>(
     let mut audited = Vec::new(alloc);
     let mut cover = Cover::new(alloc, index, profile);
     let mut room = Room::new(alloc);
-    for f in index.image().functions() {
-        cover.turn(alloc, f.start, f.end)?;
-        let found = audit_function(alloc, &mut room, &cover, f)?;
-        audited.push(found)?;
-    }
+    audit_each(alloc, &mut room, &mut cover, &mut audited, index)?;
     Ok(audited)
 }

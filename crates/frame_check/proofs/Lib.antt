@@ -8,6 +8,7 @@ pub mod Counting
 pub mod Marked
 pub mod Lines
 pub mod Images
+mod Reading
 pub mod Wells
 pub mod Naming
 pub mod Judging

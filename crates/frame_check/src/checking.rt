@@ -1,5 +1,6 @@
 //! Checking an image. docs/checking.md.
-ghost use Rattle.std.specs.Prelude.{◌≡◌, ◌≢◌, ◌<◌, map, All, IfOk, IfErr, OnOk};
+ghost use Rattle.std.specs.Prelude.{◌≡◌, ◌≢◌, ◌<◌, [], map, All, None, IfOk, IfErr, OnOk};
+ghost use Rattle.eh_index.specs.Refusal.{index_refusal};
 ghost use Rattle.eh_types.specs.Meant.{IsGraph};
 ghost use Rattle.image_memory.specs.Profiles.{profile_of};
 ghost use Rattle.frame_reach.specs.Held.{marks_of};
@@ -123,7 +124,31 @@ fn check_function(
     }
 }
 
-/// Checks the functions, in rising order, by the profile of their image. An entry that covers several is read once.
+/// Checks the functions in rising order, and marks their addresses. An entry that covers several is read once.
+fn check_each(
+    alloc: Global,
+    room: &mut Room,
+    roles: &mut Roles,
+    cover: &mut Cover,
+    index: &Index,
+) -> Result<(), CheckFault>
+    requires roles { AreRoles index.now [] roles.old }
+    requires cover { cover.old ≡ index.now }
+    ensures well { OnOk result (AreWell index.now index.now.functions) }
+    ensures roles { OnOk result (AreRoles index.now index.now.functions roles.new) }
+    ensures refused { IfErr result (RefusesFunctions index.now) }
+{
+    for f in index.image().functions() {
+        cover.turn(alloc, f.start, f.end)?;
+        match check_function(alloc, room, roles, cover, f) {
+            Ok(()) => {}
+            Err(fault) => return Err(fault),
+        }
+    }
+    Ok(())
+}
+
+/// Checks the functions by the profile of their image: what each address is, where all are well.
 fn check_functions(alloc: Global, index: &Index, profile: Profile) -> Result<Roles, CheckFault>
     requires { profile ≡ profile_of index.now }
     ensures well { OnOk result (AreWell index.now index.now.functions) }
@@ -133,13 +158,7 @@ fn check_functions(alloc: Global, index: &Index, profile: Profile) -> Result<Rol
     let mut roles = Roles::new(alloc);
     let mut cover = Cover::new(alloc, index, profile);
     let mut room = Room::new(alloc);
-    for f in index.image().functions() {
-        cover.turn(alloc, f.start, f.end)?;
-        match check_function(alloc, &mut room, &mut roles, &cover, f) {
-            Ok(()) => {}
-            Err(fault) => return Err(fault),
-        }
-    }
+    check_each(alloc, &mut room, &mut roles, &mut cover, index)?;
     Ok(roles)
 }
 
@@ -179,20 +198,33 @@ fn hold_bytes(segments: &[Segment])
     }
 }
 
+/// What a run asks of an image of this profile, by its index, where it is accepted.
+fn parts_of<'a>(
+    alloc: Global,
+    index: &Index<'_, 'a>,
+    profile: Profile,
+) -> Result<Parts<'a>, CheckFault>
+    requires { profile ≡ profile_of index.now }
+    ensures functions { OnOk result (AreWell index.now index.now.functions) }
+    ensures graph { IfOk result (λ c. IsGraph index.now (roots_of index.now) c.types) }
+    ensures roles { IfOk result (λ c. AreRoles index.now index.now.functions c.roles) }
+    ensures refused { IfErr result (λ fault. fault ≢ NoMemory → index_refusal index.now ≡ None → Refuses index.now fault) }
+{
+    let roles = check_functions(alloc, index, profile)?;
+    let types = types_of(alloc, index)?;
+    Ok(Parts { types, roles })
+}
+
 /// What a run asks of an image of this profile, where it is accepted.
 fn checked<'a>(alloc: Global, image: &Image<'a>, profile: Profile) -> Result<Parts<'a>, CheckFault>
     requires { profile ≡ profile_of image.now }
     ensures sound { IfOk result (λ c. IsSound (record { image = image.now; types = c.types; roles = c.roles })) }
     ensures refused { IfErr result (λ fault. fault ≢ NoMemory → Refuses image.now fault) }
 {
+    hold_bytes(image.segments());
     match Index::read(image) {
         Err(fault) => Err(CheckFault::Index(fault)),
-        Ok(index) => {
-            let roles = check_functions(alloc, &index, profile)?;
-            let types = types_of(alloc, &index)?;
-            hold_bytes(image.segments());
-            Ok(Parts { types, roles })
-        }
+        Ok(index) => Ok(parts_of(alloc, &index, profile)?),
     }
 }
 

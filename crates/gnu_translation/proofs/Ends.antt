@@ -1,7 +1,7 @@
 -- Where segments end.
 use Rattle.std.proofs.Common.{◌≡◌, ℕ, zero, suc, ◌+◌, ◌<◌, ◌≤◌, List, [], ◌∷◌, length, get_or, drop, fold, arith, ap, subst, sym, ◌∙◌}
 use Rattle.std.specs.Prelude.{max}
-use Rattle.std.proofs.lemmas.List.{at_drop_more}
+use Rattle.std.proofs.lemmas.List.{at_drop_more, drop_more}
 use Rattle.elf_image.specs.Segments.{Segment, RiseFrom, segment_end}
 use Rattle.elf_image.specs.declared.limits.TheConstants.{ADDRESS_LIMIT}
 
@@ -26,5 +26,9 @@ pub end_step : (total end next i : ℕ) (xs : List Segment) (s : Segment) → i 
     → fold (λ (e : ℕ) (t : Segment). max e (segment_end t)) end (drop i xs) ≡ total → fold (λ (e : ℕ) (t : Segment). max e (segment_end t)) next (drop (i + 1) xs) ≡ total
 end_step total end next i xs s inside is e h =
     ap (λ (n : ℕ). fold (λ (e : ℕ) (t : Segment). max e (segment_end t)) n (drop (i + 1) xs)) (e ∙ ap (λ (t : Segment). max end (segment_end t)) is) ∙ sym (end_more end i xs s inside) ∙ h
+
+-- the segments from one on are that one and those after it
+pub drop_next : (xs : List Segment) (i : ℕ) (s : Segment) → i < length xs → s ≡ get_or xs i s → s ∷ drop (i + 1) xs ≡ drop i xs
+drop_next xs i s inside is = ap (λ (t : Segment). t ∷ drop (i + 1) xs) is ∙ sym (drop_more xs i s inside)
 
 pub ruleset ends = (ends_low, end_more)

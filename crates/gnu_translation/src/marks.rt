@@ -56,7 +56,6 @@ fn push_in(marks: &mut Vec<(u32, bool)>, image: &Image, s: &Segment) -> Result<(
 }
 
 /// The marks of segments.
-#[tactic(auto, using(crate::proofs::Ends::ends))]
 fn marks_along(
     alloc: Global,
     image: &Image,

@@ -1,6 +1,6 @@
 use Rattle.std.proofs.Common.{◌≡◌, take}
 use Rattle.frame_check.specs.Accepts.{AreWell, AreRoles}
-use Rattle.frame_check.proofs.checking.check_functions.Given as goal
+use Rattle.frame_check.proofs.checking.check_each.Given as goal
 
 abbrev pub invariant-loop-f : goal.invariant-loop-f
 invariant-loop-f l = record {

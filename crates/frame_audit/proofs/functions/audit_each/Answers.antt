@@ -3,7 +3,7 @@ use Rattle.elf_image.specs.Image.{Image}
 use Rattle.frame_check.proofs.Wells.{placed_item}
 use Rattle.frame_audit.specs.Listing.{Audited, IsAudited, AreAudited}
 use Rattle.frame_audit.proofs.Listed.{audited_item}
-use Rattle.frame_audit.proofs.functions.audit_functions.Goals as goal
+use Rattle.frame_audit.proofs.functions.audit_each.Goals as goal
 
 pub audit_function-requires : goal.audit_function-requires
 audit_function-requires c =

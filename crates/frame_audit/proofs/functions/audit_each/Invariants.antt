@@ -1,6 +1,6 @@
 use Rattle.std.proofs.Common.{◌≡◌, take}
 use Rattle.frame_audit.specs.Listing.{AreAudited}
-use Rattle.frame_audit.proofs.functions.audit_functions.Given as goal
+use Rattle.frame_audit.proofs.functions.audit_each.Given as goal
 
 abbrev pub invariant-loop-f : goal.invariant-loop-f
 invariant-loop-f l = record {
