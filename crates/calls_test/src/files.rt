@@ -29,15 +29,39 @@ fn is_found(answer: &Result<FileAnswer, FileFault>, bytes: &[u8]) -> bool {
     }
 }
 
-#[test]
-fn a_file_is_its_bytes_up_to_the_limit(rt: HostRuntime) -> Result<(), Fail> {
-    let alloc = rt.alloc();
-    let name = "a_file_of_calls_test";
-    let mut files = HostFiles {
-        host: &rt,
+/// Files of the system, of which no call has failed.
+fn host_files(rt: &HostRuntime) -> HostFiles<&HostRuntime> {
+    HostFiles {
+        host: rt,
         faults: 0,
         asked: 0,
-    };
+    }
+}
+
+/// Whether a file is found as these bytes, up to so many.
+fn finds(rt: &HostRuntime, name: &str, bytes: &[u8], most: usize) -> bool {
+    let mut files = host_files(rt);
+    let answer = files.read(rt.alloc(), name, most);
+    is_found(&answer, bytes) && files.faults == 0
+}
+
+/// Whether a file is longer than so many bytes.
+fn is_longer(rt: &HostRuntime, name: &str, most: usize) -> bool {
+    let mut files = host_files(rt);
+    let answer = files.read(rt.alloc(), name, most);
+    matches!(&answer, Ok(FileAnswer::TooLong)) && files.faults == 0
+}
+
+/// Whether there is no file of this name, and no call failed.
+fn misses(rt: &HostRuntime, name: &str) -> bool {
+    let mut files = host_files(rt);
+    let answer = files.read(rt.alloc(), name, BLOCK);
+    matches!(&answer, Ok(FileAnswer::Missing)) && files.faults == 0
+}
+
+#[test]
+fn a_file_is_its_bytes_up_to_the_limit(rt: HostRuntime) -> Result<(), Fail> {
+    let name = "a_file_of_calls_test";
     for count in [
         1usize,
         BLOCK - 1,
@@ -47,24 +71,15 @@ fn a_file_is_its_bytes_up_to_the_limit(rt: HostRuntime) -> Result<(), Fail> {
         10_000,
         1_048_576,
     ] {
-        let bytes = marked(alloc, count)?;
+        let bytes = marked(rt.alloc(), count)?;
         fs::write(&rt, name, bytes.as_slice())?;
-        let whole = files.read(alloc, name, count);
-        let roomy = files.read(alloc, name, count + 1);
-        let short = files.read(alloc, name, count - 1);
+        let whole = finds(&rt, name, bytes.as_slice(), count);
+        let roomy = finds(&rt, name, bytes.as_slice(), count + 1);
+        let short = is_longer(&rt, name, count - 1);
         fs::remove_file(&rt, name)?;
-        assert!(rt;
-            is_found(&whole, bytes.as_slice()),
-            "{count} of {count} bytes"
-        );
-        assert!(rt;
-            is_found(&roomy, bytes.as_slice()),
-            "{count} bytes and room"
-        );
-        assert!(rt;
-            matches!(&short, Ok(FileAnswer::TooLong)) && files.faults == 0,
-            "{count} bytes, one too many"
-        );
+        assert!(rt; whole, "{count} of {count} bytes");
+        assert!(rt; roomy, "{count} bytes and room");
+        assert!(rt; short, "{count} bytes, one too many");
     }
     Ok(())
 }
@@ -72,60 +87,46 @@ fn a_file_is_its_bytes_up_to_the_limit(rt: HostRuntime) -> Result<(), Fail> {
 #[test]
 fn a_file_without_bytes_is_found(rt: HostRuntime) -> Result<(), Fail> {
     let name = "an_empty_file_of_calls_test";
-    let mut files = HostFiles {
-        host: &rt,
-        faults: 0,
-        asked: 0,
-    };
     fs::write(&rt, name, b"")?;
-    let answer = files.read(rt.alloc(), name, 0);
+    let found = finds(&rt, name, b"", 0);
     fs::remove_file(&rt, name)?;
-    assert!(rt; is_found(&answer, b""));
+    assert!(rt; found);
     Ok(())
 }
 
 #[test]
 fn a_missing_file_is_no_fault(rt: HostRuntime) {
-    let mut files = HostFiles {
-        host: &rt,
-        faults: 0,
-        asked: 0,
-    };
-    let missing = files.read(rt.alloc(), "no_file_of_calls_test", BLOCK);
-    assert!(rt; matches!(&missing, Ok(FileAnswer::Missing)));
-    assert_eq!(rt; files.faults, 0);
+    assert!(rt; misses(&rt, "no_file_of_calls_test"));
 }
 
-/// A path that leads through a file, and a name that is longer than the system takes.
 #[test]
-fn what_no_file_can_be_is_missing(rt: HostRuntime) -> Result<(), Fail> {
-    let alloc = rt.alloc();
-    let mut files = HostFiles {
-        host: &rt,
-        faults: 0,
-        asked: 0,
-    };
+fn a_path_through_a_file_is_missing(rt: HostRuntime) -> Result<(), Fail> {
+    fs::write(&rt, "a_file_on_the_way_of_calls_test", b"")?;
+    let through = misses(&rt, "a_file_on_the_way_of_calls_test/name");
+    fs::remove_file(&rt, "a_file_on_the_way_of_calls_test")?;
+    assert!(rt; through);
+    Ok(())
+}
+
+/// A name that is longer than the system takes.
+fn long_name(alloc: Global) -> Result<String, AllocError> {
     let mut long = String::new(alloc);
     for _ in 0..300 {
         long.push('n')?;
     }
-    fs::write(&rt, "a_file_on_the_way_of_calls_test", b"")?;
-    let through = files.read(alloc, "a_file_on_the_way_of_calls_test/name", BLOCK);
-    fs::remove_file(&rt, "a_file_on_the_way_of_calls_test")?;
-    let named = files.read(alloc, long.as_str(), BLOCK);
-    assert!(rt; matches!(&through, Ok(FileAnswer::Missing)));
-    assert!(rt; matches!(&named, Ok(FileAnswer::Missing)));
-    assert_eq!(rt; files.faults, 0);
+    Ok(long)
+}
+
+#[test]
+fn a_name_that_is_too_long_is_missing(rt: HostRuntime) -> Result<(), Fail> {
+    let long = long_name(rt.alloc())?;
+    assert!(rt; misses(&rt, long.as_str()));
     Ok(())
 }
 
 #[test]
 fn a_folder_is_a_fault(rt: HostRuntime) {
-    let mut files = HostFiles {
-        host: &rt,
-        faults: 0,
-        asked: 0,
-    };
+    let mut files = host_files(&rt);
     let folder = files.read(rt.alloc(), ".", BLOCK);
     assert!(rt; matches!(&folder, Err(FileFault::Failed)));
     assert_eq!(rt; files.faults, 1);

@@ -1,6 +1,6 @@
 //! Tests of what only calls can show, through public calls alone: of names, lists, ports and files, of the memory in as many segments as it
-//! may have, and of the encoder and of sums. What is numbers and accesses are rows of words_cases, and the cases of the decoder and the core
-//! rows of core_cases.
+//! may have, and of the encoder and of sums. What is numbers, accesses, and cases of the decoder and the core are
+//! rows of runtime_cases.
 #![tactic(auto)]
 
 #[cfg(test)]

@@ -175,6 +175,30 @@ enum Asked {
     ByStd,
 }
 
+/// What is written, the status, and what is left and failed.
+fn told_of<P: Programs>(
+    programs: &P,
+    alloc: Global,
+    texts: &mut Texts,
+    call: &Call,
+    words: &[&str],
+) -> Result<Vec<u8>, AllocError> {
+    let outcome = perform(programs, alloc, texts, call, words)?;
+    told(alloc, &outcome, call.input)
+}
+
+/// What is written.
+fn written_of<P: Programs>(
+    programs: &P,
+    alloc: Global,
+    texts: &mut Texts,
+    call: &Call,
+    words: &[&str],
+) -> Result<Vec<u8>, AllocError> {
+    let outcome = perform(programs, alloc, texts, call, words)?;
+    outcome.out.written.as_slice().to_vec(alloc)
+}
+
 /// What comes of a call with these words.
 fn come_of<P: Programs>(
     programs: &P,
@@ -185,16 +209,8 @@ fn come_of<P: Programs>(
     words: &[&str],
 ) -> Result<Vec<u8>, AllocError> {
     match asked {
-        Asked::Outcome => told(
-            alloc,
-            &perform(programs, alloc, texts, call, words)?,
-            call.input,
-        ),
-        Asked::Written => perform(programs, alloc, texts, call, words)?
-            .out
-            .written
-            .as_slice()
-            .to_vec(alloc),
+        Asked::Outcome => told_of(programs, alloc, texts, call, words),
+        Asked::Written => written_of(programs, alloc, texts, call, words),
         Asked::Surely => perform_surely(programs, alloc, texts, call, words),
         Asked::ByStd => perform_by_std(programs, alloc, texts, call, words),
     }

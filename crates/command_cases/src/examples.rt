@@ -2,8 +2,9 @@
 //! status are compared with what stands there; and the sources are built, and the image that is read of what was written is compared with the parts
 //! that they link to.
 use crate::command::{Came, called};
-use crate::parts::{is_image_of, parts_of};
+use crate::parts::is_image_of;
 use crate::programs::Programs;
+use source_images::parts_of_sources;
 use std::alloc::{AllocError, Global};
 use std::fs;
 use std::io::Error;
@@ -73,6 +74,13 @@ struct Head<'a> {
     status: Option<u8>,
 }
 
+/// Adds a line of text.
+fn add_line(bytes: &mut Vec<u8>, text: &str) -> Result<(), AllocError> {
+    bytes.extend_from_slice(text.as_bytes())?;
+    bytes.push(b'\n')?;
+    Ok(())
+}
+
 impl<'a> Head<'a> {
     fn new(alloc: Global) -> Head<'a> {
         Head {
@@ -87,18 +95,23 @@ impl<'a> Head<'a> {
     fn take(&mut self, alloc: Global, line: &'a str) -> Result<(), AllocError> {
         let line = line.strip_prefix("@ ").unwrap_or(line);
         if let Some(text) = line.strip_prefix("< ") {
-            self.input.extend_from_slice(text.as_bytes())?;
-            self.input.push(b'\n')?;
+            add_line(&mut self.input, text)
+        } else if let Some(text) = line.strip_prefix(">") {
+            add_line(&mut self.wrote, text.strip_prefix(" ").unwrap_or(text))
         } else if let Some(command) = line.strip_prefix("$ ./ehabi_run ") {
             self.words = command.split(' ').collect(alloc)?;
-        } else if let Some(status) = line.strip_prefix("exit status ") {
-            self.status = status.parse().ok();
-        } else if let Some(text) = line.strip_prefix(">") {
-            self.wrote
-                .extend_from_slice(text.strip_prefix(" ").unwrap_or(text).as_bytes())?;
-            self.wrote.push(b'\n')?;
+            Ok(())
+        } else {
+            self.take_status(line);
+            Ok(())
         }
-        Ok(())
+    }
+
+    /// Takes the status, if the line has it.
+    fn take_status(&mut self, line: &str) {
+        if let Some(status) = line.strip_prefix("exit status ") {
+            self.status = status.parse().ok();
+        }
     }
 }
 
@@ -110,6 +123,33 @@ fn head_of(alloc: Global, text: &str) -> Result<Head<'_>, AllocError> {
     Ok(head)
 }
 
+/// The words of a command that builds an image of sources.
+fn build_words<'a>(alloc: Global, sources: &[&'a str]) -> Result<Vec<&'a str>, AllocError> {
+    let mut words = Vec::new(alloc);
+    words.push("build")?;
+    for name in sources {
+        words.push(*name)?;
+    }
+    Ok(words)
+}
+
+/// The texts of sources.
+fn texts_of(host: &HostRuntime, sources: &[&str]) -> Result<Vec<String>, Error> {
+    let mut texts = Vec::new(host.alloc());
+    for name in sources {
+        texts.push(fs::read_to_string(host, *name)?)?;
+    }
+    Ok(texts)
+}
+
+/// Whether what came of a build is read as the image of the parts that these texts link to.
+fn came_of_parts(alloc: Global, texts: &[String], came: &Came) -> bool {
+    match parts_of_sources(alloc, texts) {
+        Some(parts) => came.status == 0 && is_image_of(alloc, came.written.as_slice(), &parts),
+        None => false,
+    }
+}
+
 /// Whether what is built of sources is read as the image of the parts that they link to.
 fn is_built<P: Programs>(
     host: &HostRuntime,
@@ -117,18 +157,10 @@ fn is_built<P: Programs>(
     sources: &[&str],
 ) -> Result<bool, Error> {
     let alloc = host.alloc();
-    let mut words = Vec::new(alloc);
-    words.push("build")?;
-    let mut texts = Vec::new(alloc);
-    for name in sources {
-        words.push(*name)?;
-        texts.push(fs::read_to_string(host, *name)?)?;
-    }
-    let Came { written, status } = called(host, programs, words.as_slice(), Vec::new(alloc));
-    Ok(match parts_of(alloc, texts.as_slice()) {
-        Some(parts) => status == 0 && is_image_of(alloc, written.as_slice(), &parts),
-        None => false,
-    })
+    let words = build_words(alloc, sources)?;
+    let texts = texts_of(host, sources)?;
+    let came = called(host, programs, words.as_slice(), Vec::new(alloc));
+    Ok(came_of_parts(alloc, texts.as_slice(), &came))
 }
 
 /// The sources among the words of a command.
@@ -142,6 +174,33 @@ fn sources_of<'a>(alloc: Global, words: &[&'a str]) -> Result<Vec<&'a str>, Allo
     Ok(sources)
 }
 
+/// What comes of the command of an example, beside what its head says.
+fn verdict_on<P: Programs>(host: &HostRuntime, programs: &P, head: Head) -> &'static str {
+    let Head {
+        words,
+        input,
+        wrote,
+        status: said,
+    } = head;
+    let Came { written, status } = called(host, programs, words.as_slice(), input);
+    if written.as_slice() != wrote.as_slice() {
+        "not what its head says"
+    } else if said != Some(status) {
+        "another status than its head says"
+    } else {
+        "as its head says"
+    }
+}
+
+/// Whether what is built of the sources of a command is the image of their parts, if it has some.
+fn are_built<P: Programs>(host: &HostRuntime, programs: &P, words: &[&str]) -> Result<bool, Error> {
+    let sources = sources_of(host.alloc(), words)?;
+    if sources.is_empty() {
+        return Ok(true);
+    }
+    is_built(host, programs, sources.as_slice())
+}
+
 /// What comes of an example.
 fn verdict<P: Programs>(
     host: &HostRuntime,
@@ -150,27 +209,14 @@ fn verdict<P: Programs>(
 ) -> Result<&'static str, Error> {
     let path = format!(in host.alloc(); "examples/{name}")?;
     let text = fs::read_to_string(host, path.as_str())?;
-    let Head {
-        words,
-        input,
-        wrote,
-        status: said,
-    } = head_of(host.alloc(), text.as_str())?;
-    if words.is_empty() {
+    let head = head_of(host.alloc(), text.as_str())?;
+    if head.words.is_empty() {
         return Ok("no command");
     }
-    let sources = sources_of(host.alloc(), words.as_slice())?;
-    if !sources.is_empty() && !is_built(host, programs, sources.as_slice())? {
+    if !are_built(host, programs, head.words.as_slice())? {
         return Ok("another image than its parts'");
     }
-    let Came { written, status } = called(host, programs, words.as_slice(), input);
-    if written.as_slice() != wrote.as_slice() {
-        return Ok("not what its head says");
-    }
-    if said != Some(status) {
-        return Ok("another status than its head says");
-    }
-    Ok("as its head says")
+    Ok(verdict_on(host, programs, head))
 }
 
 /// Runs the examples, and writes of each what comes of it.

@@ -2,7 +2,7 @@
 use crate::command::file;
 use crate::programs::Programs;
 use case_rows::{Asked, Unanswered};
-use eh_files::{FileList, MemFiles};
+use eh_files::{FileList, MemFile, MemFiles};
 use eh_port::{Bytes, CallNumbers, MemSink, MemSource};
 use std::alloc::{AllocError, Global};
 use std::fs;
@@ -76,6 +76,26 @@ fn failing(alloc: Global, fault: Option<Fault>, port: Port) -> Result<CallNumber
     Ok(numbers)
 }
 
+/// An input of this text, of which a call may fail.
+fn input_of(alloc: Global, text: &str, fault: Option<Fault>) -> Result<MemSource, AllocError> {
+    Ok(MemSource {
+        left: Bytes::of_vec(text.as_bytes().to_vec(alloc)?),
+        next: 1,
+        failing: failing(alloc, fault, Port::Input)?,
+        faults: 0,
+    })
+}
+
+/// An output, of which a call may fail.
+fn output_of(alloc: Global, fault: Option<Fault>) -> Result<MemSink, AllocError> {
+    Ok(MemSink {
+        written: Bytes::of_vec(Vec::new(alloc)),
+        next: 1,
+        failing: failing(alloc, fault, Port::Output)?,
+        faults: 0,
+    })
+}
+
 /// The status of a command where a call of a port fails.
 fn status_of(port: Port) -> u8 {
     match port {
@@ -108,15 +128,62 @@ impl Outcome {
 }
 
 impl<P: Programs> Calls<'_, P> {
-    fn files(&self, alloc: Global) -> Result<FileList, Unanswered> {
-        let mut files = Vec::new(alloc);
+    /// Adds a file of the folder.
+    fn add_read(
+        &self,
+        alloc: Global,
+        files: &mut Vec<MemFile>,
+        name: &str,
+    ) -> Result<(), Unanswered> {
+        let bytes = fs::read(self.host, name)?;
+        Ok(files.push(file(alloc, name, bytes.as_slice())?)?)
+    }
+
+    /// Adds the files of the folder.
+    fn add_folder(&self, alloc: Global, files: &mut Vec<MemFile>) -> Result<(), Unanswered> {
         for name in FILES {
-            let bytes = fs::read(self.host, name)?;
-            files.push(file(alloc, name, bytes.as_slice())?)?;
+            self.add_read(alloc, files, name)?;
         }
+        Ok(())
+    }
+
+    /// Adds the images.
+    fn add_images(&self, alloc: Global, files: &mut Vec<MemFile>) -> Result<(), AllocError> {
         files.push(file(alloc, READING, self.reading)?)?;
         files.push(file(alloc, UNWELL, self.unwell)?)?;
+        Ok(())
+    }
+
+    fn files(&self, alloc: Global) -> Result<FileList, Unanswered> {
+        let mut files = Vec::new(alloc);
+        self.add_folder(alloc, &mut files)?;
+        self.add_images(alloc, &mut files)?;
         Ok(FileList::of_vec(files))
+    }
+
+    /// The files, of which a call may fail.
+    fn held(&self, alloc: Global, fault: Option<Fault>) -> Result<MemFiles, Unanswered> {
+        Ok(MemFiles {
+            files: self.files(alloc)?,
+            next: 1,
+            failing: failing(alloc, fault, Port::Files)?,
+            faults: 0,
+        })
+    }
+
+    /// The status of a command over files, an input and an output.
+    fn status(
+        &self,
+        alloc: Global,
+        words: &[&str],
+        files: &mut MemFiles,
+        input: &mut MemSource,
+        out: &mut MemSink,
+    ) -> u8 {
+        match words {
+            [first, after @ ..] if *first == AUDIT => self.programs.audit(alloc, after, files, out),
+            _ => self.programs.run(alloc, words, files, input, out),
+        }
     }
 
     /// What comes of a command of which a call fails.
@@ -126,33 +193,11 @@ impl<P: Programs> Calls<'_, P> {
         command: &Command,
         fault: Option<Fault>,
     ) -> Result<Outcome, Unanswered> {
-        let mut files = MemFiles {
-            files: self.files(alloc)?,
-            next: 1,
-            failing: failing(alloc, fault, Port::Files)?,
-            faults: 0,
-        };
-        let mut input = MemSource {
-            left: Bytes::of_vec(command.input.as_bytes().to_vec(alloc)?),
-            next: 1,
-            failing: failing(alloc, fault, Port::Input)?,
-            faults: 0,
-        };
-        let mut out = MemSink {
-            written: Bytes::of_vec(Vec::new(alloc)),
-            next: 1,
-            failing: failing(alloc, fault, Port::Output)?,
-            faults: 0,
-        };
+        let mut files = self.held(alloc, fault)?;
+        let mut input = input_of(alloc, command.input, fault)?;
+        let mut out = output_of(alloc, fault)?;
         let words = command.words.as_slice();
-        let status = match words {
-            [first, after @ ..] if *first == AUDIT => {
-                self.programs.audit(alloc, after, &mut files, &mut out)
-            }
-            _ => self
-                .programs
-                .run(alloc, words, &mut files, &mut input, &mut out),
-        };
+        let status = self.status(alloc, words, &mut files, &mut input, &mut out);
         let read_faults = files.faults.saturating_add(input.faults);
         Ok(Outcome {
             written: out.written,
@@ -182,6 +227,19 @@ impl<P: Programs> Calls<'_, P> {
         }
         Err(Unanswered::Because("too many calls"))
     }
+
+    /// How many calls of each port a command makes.
+    fn counts(
+        &self,
+        alloc: Global,
+        command: &Command,
+        whole: &Outcome,
+    ) -> Result<String, Unanswered> {
+        let files = self.count(alloc, command, Port::Files, whole)?;
+        let reads = self.count(alloc, command, Port::Input, whole)?;
+        let writes = self.count(alloc, command, Port::Output, whole)?;
+        Ok(format!(in alloc; "files {files}, input {reads}, output {writes}")?)
+    }
 }
 
 impl<P: Programs> Asked for Calls<'_, P> {
@@ -191,9 +249,6 @@ impl<P: Programs> Asked for Calls<'_, P> {
         let words = words.split(' ').collect(alloc)?;
         let command = Command { words, input };
         let whole = self.perform(alloc, &command, None)?;
-        let files = self.count(alloc, &command, Port::Files, &whole)?;
-        let reads = self.count(alloc, &command, Port::Input, &whole)?;
-        let writes = self.count(alloc, &command, Port::Output, &whole)?;
-        Ok(format!(in alloc; "files {files}, input {reads}, output {writes}")?)
+        self.counts(alloc, &command, &whole)
     }
 }

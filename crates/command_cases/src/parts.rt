@@ -1,27 +1,7 @@
 //! What `build` writes, beside the parts that the sources link to.
-use asm_object::assemble;
-use asm_read::read_source;
-use eh_kit::stubs;
-use eh_link::link;
 use elf_image::{Image, Segment, read_image};
 use elf_write::{ImageParts, OwnSegment, OwnSymbol, SymbolKind};
-use relocatable_object::Object;
 use std::alloc::Global;
-
-fn object_of(alloc: Global, text: &[u8]) -> Option<Object> {
-    let stmts = read_source(alloc, text).ok()?;
-    assemble(alloc, stmts.as_slice()).ok()
-}
-
-/// The parts of an image that sources and the stubs link to, if they do.
-pub fn parts_of(alloc: Global, texts: &[String]) -> Option<ImageParts> {
-    let mut objects = Vec::new(alloc);
-    for text in texts {
-        objects.push(object_of(alloc, text.as_bytes())?).ok()?;
-    }
-    objects.push(object_of(alloc, stubs())?).ok()?;
-    link(alloc, objects.as_slice(), b"_start").ok()
-}
 
 fn is_segment(segment: &Segment, own: &OwnSegment) -> bool {
     segment.start() == own.start

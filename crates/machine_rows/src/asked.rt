@@ -35,6 +35,23 @@ fn values(alloc: Global, code: &Accepted, words: &str) -> Result<Vec<u32>, Unans
     Ok(values)
 }
 
+/// The answer to a command.
+fn answer_one(alloc: Global, desk: &mut Desk, command: &str) -> Result<String, Unanswered> {
+    let (what, rest) = first_word(command);
+    let given = values(alloc, desk.machine.accepted, rest)?;
+    answer(alloc, desk, what, given.as_slice())
+}
+
+/// The answers to commands with `; ` between them.
+fn answer_each(alloc: Global, desk: &mut Desk, commands: &str) -> Result<String, Unanswered> {
+    let mut all = String::new(alloc);
+    for command in commands.split("; ") {
+        let answer = answer_one(alloc, desk, command)?;
+        answers::push(&mut all, answer.as_str())?;
+    }
+    Ok(all)
+}
+
 /// The answers to commands with `; ` between them, over a machine of this code at its start.
 pub fn answer_all<'c>(
     alloc: Global,
@@ -42,14 +59,7 @@ pub fn answer_all<'c>(
     commands: &str,
 ) -> Result<String, Unanswered> {
     let mut desk = Desk::start(alloc, code)?;
-    let mut all = String::new(alloc);
-    for command in commands.split("; ") {
-        let (what, rest) = first_word(command);
-        let given = values(alloc, code, rest)?;
-        let answer = answer(alloc, &mut desk, what, given.as_slice())?;
-        answers::push(&mut all, answer.as_str())?;
-    }
-    Ok(all)
+    answer_each(alloc, &mut desk, commands)
 }
 
 fn answer(alloc: Global, desk: &mut Desk, what: &str, given: &[u32]) -> Result<String, Unanswered> {

@@ -82,6 +82,13 @@ fn barrier_text(alloc: Global, code: &Accepted, barrier: &Barrier) -> Result<Str
     Ok(format!(in alloc; "barrier {sp:X} word {place:X} site {site:X} {hit}")?)
 }
 
+/// Words, and the registers that aren't those of the throw.
+fn added(alloc: Global, words: String, from: &Vrs, vrs: &Vrs) -> Result<String, Unanswered> {
+    let mut words = words;
+    words.push_str(changed(alloc, from, vrs)?.as_str())?;
+    Ok(words)
+}
+
 /// What is entered: its pad and the registers that aren't those of the throw; of a cleanup its site and the word of the next descriptor too.
 fn entered_text(
     alloc: Global,
@@ -89,24 +96,24 @@ fn entered_text(
     from: &Vrs,
     entered: &Entered,
 ) -> Result<String, Unanswered> {
-    Ok(match entered {
+    match entered {
         Entered::Cleanup {
             vrs,
             pad,
             next,
             site,
         } => {
-            let regs = changed(alloc, from, vrs)?;
             let place = place_in(code, *site, *next)?;
-            format!(in alloc; "cleanup {pad:X} site {site:X} next word {place:X}{regs}")?
+            let words = format!(in alloc; "cleanup {pad:X} site {site:X} next word {place:X}")?;
+            added(alloc, words, from, vrs)
         }
         Entered::Catch { vrs, pad } | Entered::Spec { vrs, pad } => {
-            let regs = changed(alloc, from, vrs)?;
-            format!(in alloc; "handler {pad:X}{regs}")?
+            let words = format!(in alloc; "handler {pad:X}")?;
+            added(alloc, words, from, vrs)
         }
-        Entered::Unexpected => format!(in alloc; "unexpected")?,
-        Entered::Terminate(cause) => format!(in alloc; "terminate {cause:?}")?,
-    })
+        Entered::Unexpected => Ok(format!(in alloc; "unexpected")?),
+        Entered::Terminate(cause) => Ok(format!(in alloc; "terminate {cause:?}")?),
+    }
 }
 
 /// Why nothing is entered.

@@ -1,6 +1,5 @@
 //! Runs the cases of exceptions/, in the data/ of layer_cases: calls over a pool, one after the other; sequences of calls by chance, beside a model; and the lines of traces. A line is a
 //! question, ` : ` and the answer to it, by hand from docs/exceptions.md and IHI 0038.
-#![tactic(auto)]
 
 mod answers;
 mod calls;

@@ -1,6 +1,5 @@
 //! Runs the cases of gnu/, in the data/ of layer_cases, on the reader of generic entries and their language-specific data areas. Answers are by hand from
 //! docs/gnu-tables.md.
-#![tactic(auto)]
 
 mod changes;
 mod entries;

@@ -1,6 +1,5 @@
 //! Runs the cases of images/, in the data/ of layer_cases, on the reader and the writer of ELF images and on the exception index. Answers are by hand from docs/elf.md and
 //! docs/unwind-index.md.
-#![tactic(auto)]
 
 mod answers;
 mod hand;

@@ -1,7 +1,6 @@
 //! Runs the cases of core/, in the data/ of layer_cases, on the decoder and the core: a line is a question, ` : ` and the answer to it, by hand from the Armv6-M
 //! Architecture Reference Manual (DDI 0419), and from the Armv8-M one (DDI 0553) where a row is of the second profile. What differs is
 //! written, and of each file how many lines are right.
-#![tactic(auto)]
 
 mod decoding;
 mod shown;

@@ -1,6 +1,5 @@
 //! Runs the cases of tables/, in the data/ of layer_cases, on the readers of the unwind tables, of types, matching and the two phases. Answers are by hand from
 //! IHI 0038, the Itanium C++ ABI and the pages under docs/, or, where a file says so, from compilers.
-#![tactic(auto)]
 
 mod answers;
 mod codes;

@@ -1,6 +1,5 @@
 //! Runs the cases of threads/, in the data/ of layer_cases: calls over the memory of several threads, texts of schedules, and lines with tags. A line is a question, ` : ` and
 //! the answer to it, by hand from docs/threads.md. What differs is written, and of each file how many lines are right.
-#![tactic(auto)]
 
 mod exceptions;
 mod memory;

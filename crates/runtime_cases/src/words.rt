@@ -1,7 +1,6 @@
 //! Runs the cases of words/, in the data/ of layer_cases, on words and on memories: a line is a question, ` : ` and the answer to it, by hand from
 //! docs/memory-map.md and the standards that the pages under docs/ name. What differs is written, and of each file how many lines
 //! are right.
-#![tactic(auto)]
 
 mod accesses;
 mod memories;

@@ -1,4 +1,4 @@
-//! Images of sources, for programs of the gate that run them: what is read, assembled, linked with the stubs and written
+//! Images of sources and their parts, for programs of the gate: what is read, assembled, linked with the stubs and written
 //! (docs/source-language.md). It says nothing of the image in a clause, so that a program that asks what a machine does with it needs no
 //! definition of sources.
 #![tactic(auto)]
@@ -7,7 +7,7 @@ use asm_object::assemble;
 use asm_read::read_source;
 use eh_kit::stubs;
 use eh_link::link;
-use elf_write::write_image;
+use elf_write::{ImageParts, write_image};
 use relocatable_object::Object;
 use std::alloc::Global;
 
@@ -26,9 +26,14 @@ fn objects_of(alloc: Global, texts: &[String]) -> Option<Vec<Object>> {
     Some(objects)
 }
 
-/// The bytes of the image of sources and of the stubs, where each is read and assembled and they link.
-pub fn image_of_sources(alloc: Global, texts: &[String]) -> Option<Vec<u8>> {
+/// The parts of the image of sources and of the stubs, where each is read and assembled and they link.
+pub fn parts_of_sources(alloc: Global, texts: &[String]) -> Option<ImageParts> {
     let objects = objects_of(alloc, texts)?;
-    let parts = link(alloc, objects.as_slice(), b"_start").ok()?;
+    link(alloc, objects.as_slice(), b"_start").ok()
+}
+
+/// The bytes of that image.
+pub fn image_of_sources(alloc: Global, texts: &[String]) -> Option<Vec<u8>> {
+    let parts = parts_of_sources(alloc, texts)?;
     write_image(alloc, &parts).ok()
 }

@@ -1,7 +1,6 @@
 //! Runs the cases of checker/, in the data/ of layer_cases, on the checker: effects of instructions on facts, prologues, sites, what is reached, functions and
 //! images. Answers are by hand from docs/acceptance.md and docs/checking.md; instructions from DDI 0419 and DDI 0553, words of the index and
 //! of tables from IHI 0038.
-#![tactic(auto)]
 
 mod accepted;
 mod called;

@@ -1,7 +1,6 @@
 //! Runs the cases of sources/, in the data/ of layer_cases, on the reader of sources, the assembler and the linker: a line is a question, ` : ` and the answer to
 //! it, by hand from the pages under docs/ and the standards that they name. What differs is written, and of each file how many
 //! lines are right.
-#![tactic(auto)]
 
 mod described;
 mod frames;

@@ -1,6 +1,6 @@
 //! The calls that can be asked for, by their names, each with what it answers.
-use crate::answers;
-use crate::words::{self, Pool};
+use crate::exceptions::answers;
+use crate::exceptions::words::{self, Pool};
 use case_rows::{Text, Unanswered, number_at};
 use eh_cxa::pool::{slot_of_block, slot_of_object};
 use eh_cxa::{

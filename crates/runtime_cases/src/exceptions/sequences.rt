@@ -2,8 +2,8 @@
 //! compares says whether they are.
 ghost use Rattle.std.specs.Prelude.{◌<◌};
 
-use crate::model::{Held, Model, Phase, Running, block, object};
-use crate::words::{Pool, chain};
+use crate::exceptions::model::{Held, Model, Phase, Running, block, object};
+use crate::exceptions::words::{Pool, chain};
 use case_rows::{Telling, Text, decimal};
 use eh_cxa::layout::{
     BARRIER_OBJECT, CLEANUP_NEXT, CLEANUP_SITE, CLEANUP_SP, COUNT, DESTRUCTOR, NEXT_CAUGHT,

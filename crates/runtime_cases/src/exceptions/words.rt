@@ -1,5 +1,5 @@
 //! A pool, its words by slot and number and by address, and what the guest may do with them.
-use crate::answers;
+use crate::exceptions::answers;
 use bus_memories::flat::FlatBus;
 use case_rows::{Text, Unanswered};
 use eh_bus::bus::Bus;

@@ -1,5 +1,5 @@
 //! What is refused of an entry of which a byte is changed to each value, or which is cut at each place.
-use crate::image::fault_of;
+use crate::gnu::image::fault_of;
 use case_rows::{Text, Unanswered, first_word};
 
 /// The names of answers, in the order in which they are counted.

@@ -1,5 +1,5 @@
 //! What the table of an entry says, and what is refused of it.
-use crate::image::{OfIndex, entry_of, fault_of, file_of, tell_of};
+use crate::gnu::image::{OfIndex, entry_of, fault_of, file_of, tell_of};
 use case_rows::{Text, Unanswered, first_word};
 use eh_index::Index;
 use gnu_tables::{Action, ActionFault, Caught, HeadFault, Lsda, Record, RecordFault};

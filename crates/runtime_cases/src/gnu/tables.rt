@@ -1,5 +1,5 @@
 //! The tables of the compact model that stand for entries.
-use crate::image::{OfIndex, entry_of, file_of, tell_of};
+use crate::gnu::image::{OfIndex, entry_of, file_of, tell_of};
 use case_rows::{Text, Unanswered, first_word};
 use descriptor_bytes::OwnKind;
 use eh_desc::CatchType;

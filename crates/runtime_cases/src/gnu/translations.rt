@@ -1,6 +1,6 @@
 //! The parts of images whose tables are rewritten.
-use crate::image::{OfIndex, tell_of};
-use crate::tables::{say_filters, say_refused};
+use crate::gnu::image::{OfIndex, tell_of};
+use crate::gnu::tables::{say_filters, say_refused};
 use case_images::{Draft, image_of};
 use case_rows::{Text, Unanswered, first_word};
 use eh_index::Index;

@@ -1,7 +1,7 @@
 //! The file by hand: what is read of it and of it with changes, and of which parts it is written. Its text has lines of bytes, two digits
 //! each, and lines with a `#` that say what they are.
-use crate::answers::{say_file, tell_of_image};
-use crate::parts::{copy_of, say_written};
+use crate::images::answers::{say_file, tell_of_image};
+use crate::images::parts::{copy_of, say_written};
 use case_rows::{Text, Unanswered, first_word};
 use elf_image::fault::ImageFault;
 use elf_image::read::read_image;

@@ -1,6 +1,6 @@
 //! Indexes of three rows at 8018, in a segment from 8000 on: 16 bytes of code, a table at 8010, the rows, one byte more, and one byte of
 //! memory that the file doesn't have.
-use crate::answers::tell_of_image;
+use crate::images::answers::tell_of_image;
 use case_images::image_by;
 use case_rows::{Text, first_word};
 

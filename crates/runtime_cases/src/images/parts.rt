@@ -1,5 +1,5 @@
 //! The parts that the file by hand is written of, at any address.
-use crate::answers::say_whether;
+use crate::images::answers::say_whether;
 use case_rows::Text;
 use eh_word::Name;
 use elf_write::parts::{

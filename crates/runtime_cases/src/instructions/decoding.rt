@@ -1,5 +1,5 @@
 //! What halfwords stand for (docs/instruction-set.md).
-use crate::shown::say_decoded;
+use crate::instructions::shown::say_decoded;
 use case_rows::{Telling, Text, Unanswered, first_word};
 use thumb_isa::decode::{decode, decode_for, is_wide};
 use thumb_isa::profile::Profile;

@@ -1,6 +1,6 @@
 //! What a question gives a core: a program, registers and flags, how many steps it does, and the words of its memory that are
 //! asked for.
-use crate::decoding::halfword;
+use crate::instructions::decoding::halfword;
 use case_rows::{Pieces, Text, Unanswered};
 use thumb_core::regs::Regs;
 

@@ -1,8 +1,8 @@
 //! What a core does, from registers and a program to registers (docs/core.md).
 ghost use Rattle.std.specs.Prelude.{◌≤◌, length};
-ghost use Rattle.core_cases.specs.declared.steps.TheConstants.{MOST_BYTES};
+ghost use Rattle.runtime_cases.specs.declared.instructions.steps.TheConstants.{MOST_BYTES};
 
-use crate::start::{PROGRAM, Start, start_of};
+use crate::instructions::start::{PROGRAM, Start, start_of};
 use bus_memories::flat::FlatBus;
 use case_rows::{Telling, Text};
 use eh_bus::bus::Bus;

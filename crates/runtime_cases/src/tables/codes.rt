@@ -1,5 +1,5 @@
 //! The recipes of inline entries, and whether they pop a register twice.
-use crate::unwinding::fault_text;
+use crate::tables::unwinding::fault_text;
 use case_rows::{Text, Unanswered, first_word};
 use eh_bytecode::{Codes, Recipe, RecipeFault, Src, pops_once, summarise};
 

@@ -1,5 +1,5 @@
 //! Descriptors of a table, in an image of one read-only segment that holds its words at 9000.
-use crate::answers::{say_if, say_yes_or_no};
+use crate::tables::answers::{say_if, say_yes_or_no};
 use case_images::{image_by, opened_in};
 use case_rows::{Text, Unanswered, first_word};
 use eh_desc::{CatchType, Desc, DescFault, DescKind, Descs, spec_type};

@@ -1,5 +1,5 @@
 //! Graphs of the types of images, or why there is none.
-use crate::answers::say_number;
+use crate::tables::answers::say_number;
 use case_rows::Text;
 use eh_types::{TypeFault, TypeGraph};
 use elf_image::image::Image;

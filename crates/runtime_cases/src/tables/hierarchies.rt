@@ -1,7 +1,7 @@
 //! Hierarchies of types: files that list types and their objects, and what is caught among them.
-use crate::graphs::graph_in;
-use crate::listed::{addresses, type_file};
-use crate::matching::Hierarchy;
+use crate::tables::graphs::graph_in;
+use crate::tables::listed::{addresses, type_file};
+use crate::tables::matching::Hierarchy;
 use case_images::opened_in;
 use case_rows::{Text, Unanswered, run_telling};
 use eh_types::TypeGraph;

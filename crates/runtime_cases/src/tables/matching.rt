@@ -1,8 +1,8 @@
 //! What is caught of thrown objects and pointers (docs/matching.md).
-use crate::answers::say_number;
-use crate::listed::{address, said_of};
-use crate::objects::{OBJECT, lay_object};
-use crate::stack::{lay_word, memory};
+use crate::tables::answers::say_number;
+use crate::tables::listed::{address, said_of};
+use crate::tables::objects::{OBJECT, lay_object};
+use crate::tables::stack::{lay_word, memory};
 use bus_memories::flat::FlatBus;
 use case_rows::{Telling, Text, Unanswered, first_word};
 use eh_match::{Match, type_match};

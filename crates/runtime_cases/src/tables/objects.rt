@@ -1,7 +1,7 @@
 //! Objects of types on the stack. A line of objects is a type's name and ` ; `-separated places in bytes where its objects name a
 //! vtable, each with that vtable's words from 12 bytes below its point downwards.
-use crate::listed::said_of;
-use crate::stack::lay_word;
+use crate::tables::listed::said_of;
+use crate::tables::stack::lay_word;
 use bus_memories::flat::FlatBus;
 use case_rows::{Text, first_word};
 

@@ -1,9 +1,9 @@
 //! The two phases, row by row of the rules in docs/phases.md. Types aren't read, so that each is equal to itself alone.
-use crate::answers::say_number;
-use crate::graphs::graph_in;
-use crate::stack::memory;
-use crate::starts::{FORM, Start, flood, lay_frames, start_of};
-use crate::unwinding::say_changed;
+use crate::tables::answers::say_number;
+use crate::tables::graphs::graph_in;
+use crate::tables::stack::memory;
+use crate::tables::starts::{FORM, Start, flood, lay_frames, start_of};
+use crate::tables::unwinding::say_changed;
 use bus_memories::flat::FlatBus;
 use case_images::{image_by, opened_in};
 use case_rows::{Text, Unanswered, first_word};

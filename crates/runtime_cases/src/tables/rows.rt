@@ -2,7 +2,7 @@
 ghost use Rattle.std.specs.Prelude.{IfSome};
 ghost use Rattle.unwind_codes.specs.Bytes.{HasBytes};
 
-use crate::answers::{say_byte, say_number};
+use crate::tables::answers::{say_byte, say_number};
 use case_rows::{Text, Unanswered, first_word};
 use unwind_codes::{
     Code, Entry, EntryBody, body_of, code_words_after, entry_of, personality_of_word, prel31_to,

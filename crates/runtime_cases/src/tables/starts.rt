@@ -3,7 +3,7 @@
 //! The functions: main at 8000 with a table at 9000; f at 801C, which saves r4 and lr; the stub of a throw at 8040, which saves
 //! nothing; the start at 8050, as f; one at 8060 whose codes lower the stack pointer; one at 8070 that saves lr alone; one at
 //! 8080 that is 100 bytes high; and no function from 8090 on.
-use crate::stack::lay;
+use crate::tables::stack::lay;
 use bus_memories::flat::FlatBus;
 use case_rows::Text;
 use eh_bus::bus::Bus;

@@ -1,9 +1,9 @@
 //! Type information in images: each kind, and each refusal with its type (Itanium C++ ABI, "Run-Time Type Information").
-use crate::answers::{say_if, say_number, say_yes_or_no};
-use crate::graphs::graph_in;
-use crate::listed::said_of;
-use crate::objects::OBJECT;
-use crate::stack::memory;
+use crate::tables::answers::{say_if, say_number, say_yes_or_no};
+use crate::tables::graphs::graph_in;
+use crate::tables::listed::said_of;
+use crate::tables::objects::OBJECT;
+use crate::tables::stack::memory;
 use bus_memories::flat::FlatBus;
 use case_images::{image_by, opened_in};
 use case_rows::{Telling, Text, Unanswered, first_word};

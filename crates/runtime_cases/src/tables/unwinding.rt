@@ -1,6 +1,6 @@
 //! Unwinding by the codes of an inline entry over a stack of known words.
-use crate::answers::{say_byte, say_number};
-use crate::stack::{lay, memory};
+use crate::tables::answers::{say_byte, say_number};
+use crate::tables::stack::{lay, memory};
 use bus_memories::flat::FlatBus;
 use case_rows::{Text, Unanswered, first_word};
 use eh_bus::bus::Bus;

@@ -1,5 +1,5 @@
 //! Calls on the exceptions of threads that share one pool.
-use crate::memory::{Memory, say_part, say_word};
+use crate::threads::memory::{Memory, say_part, say_word};
 use case_rows::{Text, Unanswered};
 use eh_cxa::layout::{SLOTS, STATE};
 use eh_cxa::{CxaFault, Globals, allocate, begin_catch, free, pool, start_throw};

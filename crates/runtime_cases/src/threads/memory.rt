@@ -1,5 +1,5 @@
 //! Calls over one memory that threads share, one after the other with `; ` between them, each with what it answers.
-use crate::exceptions::say_exception;
+use crate::threads::exceptions::say_exception;
 use bus_memories::flat::FlatBus;
 use case_rows::{Pieces, Telling, Text, Unanswered, first_word};
 use eh_bus::bus::Bus;

@@ -1,7 +1,7 @@
 //! The memories that are accessed: segments one after the other or in pages.
 ghost use Rattle.eh_bus.specs.Built.{CanBuild};
 
-use crate::accesses::say_access;
+use crate::words::accesses::say_access;
 use bus_memories::flat::FlatBus;
 use bus_memories::paged::PagedBus;
 use case_rows::{Pieces, Text, first_word};

@@ -1,5 +1,5 @@
 //! Images of three functions: what is told of the addresses of one that is accepted, and which refusal comes first.
-use crate::verdicts::{Placing, accepted_in};
+use crate::checker::verdicts::{Placing, accepted_in};
 use case_images::image_by;
 use case_rows::{Telling, Text, Unanswered, first_word};
 use frame_check::Accepted;

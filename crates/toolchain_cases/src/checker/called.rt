@@ -1,7 +1,7 @@
 //! A function v that main calls, in an image that is checked whole: at which of its addresses sp is lowered by an amount that is known only
 //! at run time, and by which profile it is decoded.
-use crate::source::count_of;
-use crate::verdicts::{Placing, accepted_in};
+use crate::checker::source::count_of;
+use crate::checker::verdicts::{Placing, accepted_in};
 use case_images::image_of_text;
 use case_rows::{Telling, Text, first_word};
 

@@ -1,8 +1,8 @@
 //! Effects of instructions on facts, meetings, and the causes that an instruction shows.
-use crate::causes::say_cause;
-use crate::facts::{fact_of, say_difference, say_fact};
-use crate::prologues::usual_prologue;
-use crate::source::instruction;
+use crate::checker::causes::say_cause;
+use crate::checker::facts::{fact_of, say_difference, say_fact};
+use crate::checker::prologues::usual_prologue;
+use crate::checker::source::instruction;
 use case_rows::{Telling, Text, Unanswered, first_word};
 use frame_facts::{Fact, after, clobber, is_same, join};
 

@@ -1,7 +1,7 @@
 //! The facts of functions in images: which functions have valid facts, and at which place which cause stands.
-use crate::causes::say_cause;
-use crate::prologues::prologue_of;
-use crate::source::count_of;
+use crate::checker::causes::say_cause;
+use crate::checker::prologues::prologue_of;
+use crate::checker::source::count_of;
 use case_images::{image_by, opened_in};
 use case_rows::{Telling, Text, Unanswered, first_word};
 use eh_index::Index;

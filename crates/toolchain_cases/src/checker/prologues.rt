@@ -1,5 +1,5 @@
 //! Prologues in words: their saves, as `lr@4 r4@8`, or `-`.
-use crate::facts::{register_of, say_register};
+use crate::checker::facts::{register_of, say_register};
 use case_rows::{Text, Unanswered};
 use frame_facts::{Prologue, Save};
 

@@ -1,6 +1,6 @@
 //! What is reached, which places are targets and landing pads, and the prologue of functions at 9000 in images.
-use crate::prologues::say_saves;
-use crate::source::count_of;
+use crate::checker::prologues::say_saves;
+use crate::checker::source::count_of;
 use case_images::{image_of_text, opened_in};
 use case_rows::{Telling, Text, Unanswered, first_word};
 use eh_index::Index;

@@ -1,6 +1,6 @@
 //! Prologues, instruction by instruction from 8000 on.
-use crate::prologues::say_saves;
-use crate::source::{code_of, instruction_at};
+use crate::checker::prologues::say_saves;
+use crate::checker::source::{code_of, instruction_at};
 use case_rows::{Telling, Text, Unanswered, first_word};
 use frame_facts::Straight;
 

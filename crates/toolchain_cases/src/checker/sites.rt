@@ -1,7 +1,7 @@
 //! Recipes of real entries at facts of frames.
-use crate::causes::say_cause;
-use crate::facts::fact_of;
-use crate::prologues::prologue_of;
+use crate::checker::causes::say_cause;
+use crate::checker::facts::fact_of;
+use crate::checker::prologues::prologue_of;
 use case_rows::{Telling, Text, Unanswered, first_word};
 use eh_bytecode::{Codes, Recipe, summarise};
 use frame_facts::agrees;

@@ -1,5 +1,5 @@
 //! Images that are checked whole, and why one is refused.
-use crate::causes::say_cause;
+use crate::checker::causes::say_cause;
 use case_images::opened_in;
 use case_rows::Text;
 use eh_index::IndexFault;

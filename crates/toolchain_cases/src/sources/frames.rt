@@ -1,5 +1,5 @@
 //! Unwind directives of a function, and its entry (docs/unwind-directives.md).
-use crate::texts::{asked, say_words};
+use crate::sources::texts::{asked, say_words};
 use UnwindDirective::{
     CantUnwind, FnEnd, FnStart, HandlerData, Pad, PersonalityIndex, Save, SetFp,
 };

@@ -1,7 +1,7 @@
 //! What objects are linked to (docs/linking.md; IHI 0044).
-use crate::described::objects_of;
-use crate::objects::text_in;
-use crate::texts::{say_bytes, say_text};
+use crate::sources::described::objects_of;
+use crate::sources::objects::text_in;
+use crate::sources::texts::{say_bytes, say_text};
 use case_rows::{Telling, Text, Unanswered, first_word};
 use eh_link::{LinkFault, link};
 use elf_write::{ImageParts, OwnSegment, OwnSymbol, SymbolKind};

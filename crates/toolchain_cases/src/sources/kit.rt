@@ -1,6 +1,6 @@
 //! Sources that no user writes: the stubs (docs/stubs.md), and generated programs (docs/generated-programs.md).
-use crate::objects::{object_of, text_in};
-use crate::texts::source_of;
+use crate::sources::objects::{object_of, text_in};
+use crate::sources::texts::source_of;
 use case_rows::{Telling, Text, Unanswered, first_word};
 use eh_kit::{MAX_FUNCTIONS, generate, stubs};
 use eh_link::link;

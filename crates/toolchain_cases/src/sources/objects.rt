@@ -1,5 +1,5 @@
 //! What a source is assembled to (docs/objects.md).
-use crate::texts::{asked, say_bytes, say_text};
+use crate::sources::texts::{asked, say_bytes, say_text};
 use asm_object::{AsmFault, assemble};
 use asm_read::{Stmt, read_source};
 use case_rows::{Telling, Text, Unanswered, first_word};

@@ -1,5 +1,5 @@
 //! How an answer writes a statement: its form, with its fields in the order of the text.
-use crate::texts::say_text;
+use crate::sources::texts::say_text;
 use asm_statements::{
     Expr, Exprs, Lent, OfRegisterNumber, OfThreeRegisters, OfTwoRegisters, OfTwoRegistersNumber,
     StmtKind,

@@ -1,6 +1,6 @@
 //! What a source is read as (docs/source-language.md).
-use crate::shown::say_kind;
-use crate::texts::asked;
+use crate::sources::shown::say_kind;
+use crate::sources::texts::asked;
 use asm_read::Stmt;
 use case_rows::{Telling, Text};
 

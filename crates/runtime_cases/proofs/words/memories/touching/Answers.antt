@@ -4,7 +4,7 @@ use Rattle.eh_list.specs.Bytes.{length-zeros}
 use Rattle.eh_bus.specs.Built.{Fits}
 use Rattle.eh_bus.specs.declared.segment.SegmentSpec.{SegmentSpec}
 use Rattle.eh_bus.proofs.MapLaws.{two_apart}
-use Rattle.words_cases.proofs.memories.touching.Goals as goal
+use Rattle.runtime_cases.proofs.words.memories.touching.Goals as goal
 
 two_fit : (s t : SegmentSpec) → Fits s → Fits t → All Fits (s ∷ t ∷ [])
 two_fit s t f g zero d h = f

@@ -3,7 +3,7 @@ use Rattle.std.specs.Prelude.{All}
 use Rattle.eh_bus.specs.Built.{Fits}
 use Rattle.eh_bus.specs.declared.segment.SegmentSpec.{SegmentSpec}
 use Rattle.eh_bus.proofs.MapLaws.{one_apart}
-use Rattle.words_cases.proofs.memories.two_pages.Goals as goal
+use Rattle.runtime_cases.proofs.words.memories.two_pages.Goals as goal
 
 one_fits : (s : SegmentSpec) → Fits s → All Fits (s ∷ [])
 one_fits s f zero d h = f
