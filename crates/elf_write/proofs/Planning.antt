@@ -104,6 +104,4 @@ written_fault parts p bytes fault few e short h read =
     let whole = layout_is parts p bytes e h in
     written_is parts few (rw e at short) ∙ rw (← whole) (rw read refl)
 
-pub ruleset planning = (length_programs, few_programs, names_named, long_contents, long_strings, long_table)
-
 pub ruleset writing = (many_segments, long_file, written_bytes, written_fault)

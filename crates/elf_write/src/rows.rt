@@ -157,7 +157,6 @@ fn put_symbol(out: &mut Vec<u8>, s: &Symbol, at: u32) -> Result<(), AllocError>
 }
 
 /// The rows of the table after the null symbol.
-#[tactic(auto, using(crate::proofs::Layouts::strings_more))]
 pub(crate) fn table_of(alloc: Global, rows: &[Symbol]) -> Result<Vec<u8>, AllocError>
     requires { length (strings_of rows.now) < 2 ^ 32 }
     ensures { IfOk result (λ v. v.items ≡ zeros SYMBOL_SIZE ++ symbol_rows 1 rows.now) }

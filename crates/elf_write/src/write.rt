@@ -1,9 +1,9 @@
 //! Writing an image: the pieces of its file, joined, where they stand for an image (docs/elf.md).
 ghost use Rattle.elf_image.specs.declared.limits.TheConstants.{SEGMENT_LIMIT};
-ghost use Rattle.std.specs.Prelude.{◌≡◌, ◌≢◌, ◌+◌, ◌*◌, ◌^◌, ◌<◌, ◌≤◌, ◌++◌, length, Option, Some, None, Ok, Err, IfOk, IfErr, IfSome, IfNone, IsOk, OnOk};
+ghost use Rattle.std.specs.Prelude.{◌≡◌, ◌≢◌, ◌+◌, ◌*◌, ◌^◌, ◌<◌, ◌≤◌, ◌++◌, length, true, Option, Some, None, Ok, Err, IfOk, IfErr, IfSome, IfNone, IsOk, OnOk};
 ghost use Rattle.elf_image.specs.Image.{image_of};
 ghost use Rattle.elf_image.specs.declared.fault.ImageFault.TheVariants.{OutOfMemory};
-ghost use Rattle.elf_write.specs.Layout.{contents, program_rows, index_row, base_of, plan_of, layout_of, file_end, written_of, is_read};
+ghost use Rattle.elf_write.specs.Layout.{wanted_rows, table_of, contents, program_rows, index_row, base_of, section_names, section_rows, plan_of, layout_of, file_end, written_of, is_read};
 
 use crate::layout::{contents, file_place, program_rows, put_program, section_names, section_rows};
 use crate::parts::ImageParts;
@@ -11,6 +11,7 @@ use crate::plan::{Plan, join, placed};
 use crate::rows::{push_rows, strings_of, table_of};
 use elf_image::format::{FILE_HEADER_SIZE, PROGRAM_HEADER_SIZE, PT_ARM_EXIDX, ProgramHeader};
 use elf_image::limits::SEGMENT_LIMIT;
+use elf_image::symbol::Symbol;
 use elf_image::{ImageFault, read_image};
 use std::alloc::{AllocError, Global};
 
@@ -59,8 +60,90 @@ fn read_back(alloc: Global, bytes: &[u8]) -> Result<(), ImageFault>
     Ok(())
 }
 
+/// The rows of the symbols, and how many of them are mapping symbols, which come first.
+#[derive(Drop)]
+struct SymbolRows<'a> {
+    rows: Vec<Symbol<'a>>,
+    mapping: usize,
+}
+
+/// The rows of the symbols of these parts.
+fn symbol_rows_of<'a>(alloc: Global, parts: &'a ImageParts) -> Result<SymbolRows<'a>, AllocError>
+    requires { length parts.now.segments ≤ SEGMENT_LIMIT }
+    ensures rows { IfOk result (λ all. all.rows.items ≡ table_of parts.now) }
+    ensures mapping { IfOk result (λ all. all.mapping ≡ length (wanted_rows true parts.now.segments parts.now.symbols)) }
+{
+    let segments = parts.segments.as_slice();
+    let symbols = parts.symbols.as_slice();
+    let mut rows = Vec::new(alloc);
+    push_rows(&mut rows, segments, symbols, true)?;
+    let mapping = rows.len();
+    push_rows(&mut rows, segments, symbols, false)?;
+    Ok(SymbolRows { rows, mapping })
+}
+
+/// The pieces of a file that say its symbols.
+#[derive(Drop)]
+struct SymbolPieces {
+    table: Vec<u8>,
+    locals: u32,
+    strings: Vec<u8>,
+}
+
+/// The pieces that say the symbols of these parts, or None where the file has 2^32 bytes or more.
+#[tactic(auto, unfolding(crate::specs::Layout::plan_of))]
+fn symbol_pieces(alloc: Global, parts: &ImageParts) -> Result<Option<SymbolPieces>, AllocError>
+    requires { length parts.now.segments ≤ SEGMENT_LIMIT }
+    ensures table { IfOk result (λ o. IfSome o (λ p. p.table.items ≡ (plan_of parts.now).table)) }
+    ensures locals { IfOk result (λ o. IfSome o (λ p. p.locals ≡ (plan_of parts.now).locals)) }
+    ensures strings { IfOk result (λ o. IfSome o (λ p. p.strings.items ≡ (plan_of parts.now).strings)) }
+    ensures long { IfOk result (λ o. IfNone o (2 ^ 32 ≤ file_end (plan_of parts.now))) }
+{
+    let SymbolRows { rows, mapping } = symbol_rows_of(alloc, parts)?;
+    if rows.len() >= 0x1000_0000 {
+        return Ok(None);
+    }
+    let strings = strings_of(alloc, &rows)?;
+    if strings.len() >= 0x1_0000_0000 {
+        return Ok(None);
+    }
+    Ok(Some(SymbolPieces {
+        table: table_of(alloc, &rows)?,
+        locals: 1 + mapping as u32,
+        strings,
+    }))
+}
+
+/// The pieces of a file that say its segments.
+#[derive(Drop)]
+struct SegmentPieces {
+    programs: Vec<u8>,
+    names: Vec<u8>,
+    rows: Vec<u8>,
+}
+
+/// The pieces that say the segments of these parts, whose bytes stand from `base` on.
+fn segment_pieces(
+    alloc: Global,
+    base: usize,
+    parts: &ImageParts,
+) -> Result<SegmentPieces, AllocError>
+    requires fits { base + length (contents base parts.now.segments) < 2 ^ 32 }
+    requires count { length parts.now.segments ≤ SEGMENT_LIMIT }
+    ensures programs { IfOk result (λ p. p.programs.items ≡ program_rows base parts.now.segments ++ index_row base parts.now) }
+    ensures names { IfOk result (λ p. p.names.items ≡ section_names parts.now.segments) }
+    ensures rows { IfOk result (λ p. p.rows.items ≡ section_rows 0 1 base parts.now.segments) }
+{
+    let segments = parts.segments.as_slice();
+    Ok(SegmentPieces {
+        programs: programs(alloc, base, parts)?,
+        names: section_names(alloc, segments)?,
+        rows: section_rows(alloc, base, segments)?,
+    })
+}
+
 /// The pieces of the file of these parts, or None where the file has 2^32 bytes or more.
-#[tactic(auto, using(crate::proofs::Planning::planning), unfolding(crate::specs::Layout::plan_of))]
+#[tactic(auto, unfolding(crate::specs::Layout::plan_of))]
 fn plan_of(alloc: Global, parts: &ImageParts) -> Result<Option<Plan>, AllocError>
     requires { length parts.now.segments ≤ SEGMENT_LIMIT }
     ensures found { IfOk result (λ o. IfSome o (λ p. p ≡ plan_of parts.now)) }
@@ -70,36 +153,24 @@ fn plan_of(alloc: Global, parts: &ImageParts) -> Result<Option<Plan>, AllocError
     ensures long { IfOk result (λ o. IfNone o (2 ^ 32 ≤ file_end (plan_of parts.now))) }
 {
     let segments = parts.segments.as_slice();
-    let symbols = parts.symbols.as_slice();
     let base = base_of(parts);
     let contents = contents(alloc, base, segments)?;
     if base + contents.len() >= 0x1_0000_0000 {
         return Ok(None);
     }
-    let mut rows = Vec::new(alloc);
-    push_rows(&mut rows, segments, symbols, true)?;
-    let locals = rows.len();
-    push_rows(&mut rows, segments, symbols, false)?;
-    if rows.len() >= 0x1000_0000 {
+    let Some(of_symbols) = symbol_pieces(alloc, parts)? else {
         return Ok(None);
-    }
-    let strings = strings_of(alloc, &rows)?;
-    if strings.len() >= 0x1_0000_0000 {
-        return Ok(None);
-    }
-    let table = table_of(alloc, &rows)?;
-    let programs = programs(alloc, base, parts)?;
-    let names = section_names(alloc, segments)?;
-    let segment_rows = section_rows(alloc, base, segments)?;
+    };
+    let of_segments = segment_pieces(alloc, base, parts)?;
     Ok(Some(Plan {
         entry: parts.entry,
-        programs,
+        programs: of_segments.programs,
         contents,
-        table,
-        locals: 1 + locals as u32,
-        strings,
-        names,
-        segment_rows,
+        table: of_symbols.table,
+        locals: of_symbols.locals,
+        strings: of_symbols.strings,
+        names: of_segments.names,
+        segment_rows: of_segments.rows,
         segment_total: segments.len() as u16,
     }))
 }
