@@ -1,5 +1,5 @@
 -- The object of a source by its layout, and the first of its refusals.
-use Rattle.std.proofs.Common.{◌≡◌, ℕ, ◌==◌, ◌&&◌, not, false, cond, List, [], ◌∷◌, ◌++◌, map, length, Option, Some, None, Ok, Err, refl, sym, ap, ◌∙◌, arith, append_assoc}
+use Rattle.std.proofs.Common.{◌≡◌, ◌⊎◌, inl, inr, ℕ, ◌==◌, ◌&&◌, not, false, cond, List, [], ◌∷◌, ◌++◌, map, length, Option, Some, None, Ok, Err, refl, sym, ap, ◌∙◌, arith, append_assoc}
 use Rattle.std.proofs.lemmas.List.{append-nil}
 use Rattle.asm_statements.specs.declared.statement.Stmt.{Stmt}
 use Rattle.asm_unwind.specs.declared.entry.EntryWords.{EntryWords}
@@ -11,7 +11,7 @@ use Rattle.relocatable_object.specs.declared.object.IndexRow.{IndexRow}
 use Rattle.relocatable_object.specs.declared.object.Object.{Object}
 use Rattle.relocatable_object.specs.declared.place.Section.{Section}
 use Rattle.relocatable_object.specs.declared.place.Section.TheVariants.{Text, Rodata, Extab, Init, Bss}
-use Rattle.asm_layout.specs.Faults.{first_of, first_of_all}
+use Rattle.asm_layout.specs.Faults.{first_of, first_of_all, out_of_memory}
 use Rattle.asm_layout.specs.Functions.{entries_of, unwind_faults_of}
 use Rattle.asm_layout.specs.Walks.{start, walk_after}
 use Rattle.relocatable_object.specs.Sections.{same_section}
@@ -95,9 +95,15 @@ all_joined stmts =
     let pieces = pieces_of entries (labels_of entries stmts) (placed_of entries stmts) (last_pool entries start stmts) in
     rw (named_in-labelled, map_after, part_built Text no_sections pieces refl, part_built Rodata no_sections pieces refl, part_built Extab no_sections pieces refl, part_built Init no_sections pieces refl, text_marks no_sections pieces)
 
-pub refused : (stmts : List Stmt) (fault : AsmFault) → first_of_all None (faults_of stmts) ≡ Some fault → object_of stmts ≡ Err fault
+refused : (stmts : List Stmt) (fault : AsmFault) → first_of_all None (faults_of stmts) ≡ Some fault → object_of stmts ≡ Err fault
 unfolding object_of
 refused stmts fault e = rw e
+
+-- a fault is want of memory, or what the source is refused by
+pub refused_by : (stmts : List Stmt) (fault : AsmFault) (first : Option AsmFault) → first ≡ first_of_all None (faults_of stmts)
+    → (fault ≡ out_of_memory) ⊎ (first ≡ Some fault) → (fault ≡ out_of_memory) ⊎ (object_of stmts ≡ Err fault)
+refused_by stmts fault first e (inl memory) = inl memory
+refused_by stmts fault first e (inr is) = inr (refused stmts fault (sym e ∙ is))
 
 pub taken : (stmts : List Stmt) (entries : List (Option EntryWords)) (labels : List (List ℕ × Label)) (placed : List PlacedStmt) (last : PlacedPool) (sections : Sections) (rows : List IndexRow) (bss : ℕ) (object : Object)
     → first_of_all None (faults_of stmts) ≡ None

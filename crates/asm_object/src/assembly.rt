@@ -1,7 +1,8 @@
 //! Statements to their object: refusals first, then sections, rows, symbols and relocations (docs/objects.md).
-ghost use Rattle.std.specs.Prelude.{◌≡◌, ◌++◌, ◌⊎◌, MatchResult, IfOk, OnOk, option_map, None, Ok, Err};
+ghost use Rattle.std.specs.Prelude.{◌≡◌, [], ◌++◌, ◌⊎◌, MatchResult, IfOk, OnOk, option_map, None, Some, Ok, Err};
 ghost use Rattle.asm_layout.specs.Faults.{fault_at, out_of_memory, first_of_all};
 ghost use Rattle.asm_layout.specs.Labels.{named_in};
+ghost use Rattle.asm_layout.specs.declared.placed.PlacedPool.{PlacedPool};
 ghost use Rattle.asm_object.specs.Instructions.{instruction, coded};
 ghost use Rattle.asm_object.specs.Refusals.{refusal};
 ghost use Rattle.asm_object.specs.Pieces.{pool_pieces, pieces_at, pieces_of, put_rows, rows_of};
@@ -47,6 +48,19 @@ fn refusal_at(labels: &Labels, placed: &PlacedStmt<'_>, code: &Coded) -> Option<
 }
 
 impl Gathered {
+    /// Nothing so far, after a first refusal that may be.
+    fn new(alloc: Global, first: Option<AsmFault>) -> Gathered
+        ensures first { result.first ≡ first }
+        ensures sections { result.sections ≡ no_sections }
+        ensures rows { result.rows ≡ [] }
+    {
+        Gathered {
+            first,
+            sections: Sections::new(alloc),
+            rows: IndexRows::new(alloc),
+        }
+    }
+
     /// Adds what a statement gives, where `code` is what the encoder says.
     fn add(
         &mut self,
@@ -89,6 +103,26 @@ impl Gathered {
         self.add(alloc, labels, entries, placed, code)
     }
 
+    /// Takes statements one after the other. After a refusal only refusals count.
+    #[tactic(auto, unfolding(crate::specs::Pieces::pieces_of, asm_layout::specs::Faults::first_of_all))]
+    fn take_all(
+        &mut self,
+        alloc: Global,
+        labels: &Labels,
+        entries: &[Option<EntryWords>],
+        placed: Vec<PlacedStmt<'_>>,
+    ) -> Result<(), AllocError>
+        ensures first { OnOk result (self.new.first ≡ first_of_all self.old.first (refusals_of (named_in labels.now) placed.entry.items)) }
+        ensures sections { OnOk result ((last : PlacedPool) → self.new.first ≡ None
+            → with_pieces self.new.sections (pool_pieces (named_in labels.now) last) ≡ with_pieces self.old.sections (pieces_of entries.now (named_in labels.now) placed.entry.items last)) }
+        ensures rows { OnOk result (self.new.first ≡ None → self.new.rows ≡ self.old.rows ++ rows_of entries.now placed.entry.items) }
+    {
+        for one in placed {
+            self.take(alloc, labels, entries, one)?;
+        }
+        Ok(())
+    }
+
     /// Adds the pool at the end of the text.
     fn end(&mut self, labels: &Labels, last: PlacedPool) -> Result<(), AllocError>
         ensures first { OnOk result (self.new.first ≡ self.old.first) }
@@ -100,33 +134,41 @@ impl Gathered {
         }
         Ok(())
     }
-}
 
-/// What statements where they stand give, and the pool at the end of the text, after a first refusal that may be.
-#[tactic(auto, unfolding(crate::specs::Pieces::pieces_of, asm_layout::specs::Faults::first_of_all))]
-fn gather(
-    alloc: Global,
-    labels: &Labels,
-    entries: &[Option<EntryWords>],
-    first: Option<AsmFault>,
-    placed: Vec<PlacedStmt<'_>>,
-    last: PlacedPool,
-) -> Result<Gathered, AllocError>
-    ensures first { IfOk result (λ gathered. gathered.first ≡ first_of_all first (refusals_of (named_in labels.now) placed.entry.items)) }
-    ensures sections { IfOk result (λ gathered. gathered.first ≡ None
-        → gathered.sections ≡ with_pieces no_sections (pieces_of entries.now (named_in labels.now) placed.entry.items last)) }
-    ensures rows { IfOk result (λ gathered. gathered.first ≡ None → gathered.rows ≡ rows_of entries.now placed.entry.items) }
-{
-    let mut gathered = Gathered {
-        first,
-        sections: Sections::new(alloc),
-        rows: IndexRows::new(alloc),
-    };
-    for one in placed {
-        gathered.take(alloc, labels, entries, one)?;
+    /// Takes statements one after the other, and the pool at the end of the text. After a refusal only refusals count.
+    fn take_source(
+        &mut self,
+        alloc: Global,
+        labels: &Labels,
+        entries: &[Option<EntryWords>],
+        placed: Vec<PlacedStmt<'_>>,
+        last: PlacedPool,
+    ) -> Result<(), AllocError>
+        ensures first { OnOk result (self.new.first ≡ first_of_all self.old.first (refusals_of (named_in labels.now) placed.entry.items)) }
+        ensures sections { OnOk result (self.new.first ≡ None
+            → self.new.sections ≡ with_pieces self.old.sections (pieces_of entries.now (named_in labels.now) placed.entry.items last)) }
+        ensures rows { OnOk result (self.new.first ≡ None → self.new.rows ≡ self.old.rows ++ rows_of entries.now placed.entry.items) }
+    {
+        self.take_all(alloc, labels, entries, placed)?;
+        self.end(labels, last)
     }
-    gathered.end(labels, last)?;
-    Ok(gathered)
+
+    /// The object of what statements gave and their labels, with `bss` bytes that begin as zeros, or the first refusal.
+    fn into_object(self, alloc: Global, labels: Labels, bss: u64) -> Result<Object, AsmFault>
+        ensures { MatchResult result
+            (λ object. (self.first ≡ None) × (object ≡ object_built self.sections self.rows labels bss))
+            (λ fault. (fault ≡ out_of_memory) ⊎ (self.first ≡ Some fault)) }
+    {
+        let Gathered {
+            first,
+            sections,
+            rows,
+        } = self;
+        match first {
+            Some(fault) => Err(fault),
+            None => Ok(object(alloc, sections, rows, labels, bss)?),
+        }
+    }
 }
 
 /// The object of sections, rows and labels, with `bss` bytes that begin as zeros.
@@ -179,6 +221,32 @@ fn object(
     })
 }
 
+/// The object of statements where they stand, after a first refusal that may be, or the first refusal of all.
+fn assemble_placed(
+    alloc: Global,
+    entries: &[Option<EntryWords>],
+    first: Option<AsmFault>,
+    layout: Layout<'_>,
+) -> Result<Object, AsmFault>
+    ensures { MatchResult result
+        (λ object. (first_of_all first (refusals_of (named_in layout.entry.labels) layout.entry.placed.items) ≡ None)
+        × (object ≡ object_built (with_pieces no_sections (pieces_of entries.now (named_in layout.entry.labels) layout.entry.placed.items layout.entry.last))
+        (rows_of entries.now layout.entry.placed.items) layout.entry.labels layout.entry.bss))
+        (λ fault. (fault ≡ out_of_memory)
+        ⊎ (first_of_all first (refusals_of (named_in layout.entry.labels) layout.entry.placed.items) ≡ Some fault)) }
+{
+    let Layout {
+        placed,
+        last,
+        labels,
+        bss,
+        ..
+    } = layout;
+    let mut gathered = Gathered::new(alloc, first);
+    gathered.take_source(alloc, &labels, entries, placed, last)?;
+    gathered.into_object(alloc, labels, bss)
+}
+
 /// The object that statements stand for, or the refusal at the lowest line, and there the first in the order of `AsmWhat`.
 /// Want of memory may come at any time.
 pub fn assemble(alloc: Global, stmts: &[Stmt]) -> Result<Object, AsmFault>
@@ -188,22 +256,10 @@ pub fn assemble(alloc: Global, stmts: &[Stmt]) -> Result<Object, AsmFault>
 {
     let functions = functions_of(alloc, stmts)?;
     let entries = functions.entries.as_slice();
-    let Layout {
-        placed,
-        last,
-        labels,
-        bss,
-        duplicate,
-        too_large,
-    } = layout_of(alloc, stmts, entries)?;
-    let first = first_of(first_of(functions.first, duplicate), too_large);
-    let Gathered {
-        first,
-        sections,
-        rows,
-    } = gather(alloc, &labels, entries, first, placed, last)?;
-    match first {
-        Some(fault) => Err(fault),
-        None => Ok(object(alloc, sections, rows, labels, bss)?),
-    }
+    let layout = layout_of(alloc, stmts, entries)?;
+    let first = first_of(
+        first_of(functions.first, layout.duplicate),
+        layout.too_large,
+    );
+    assemble_placed(alloc, entries, first, layout)
 }

@@ -1,5 +1,5 @@
 -- One step of the loops over objects, labels and rows.
-use Rattle.std.proofs.Common.{◌≡◌, ℕ, ◌+◌, ◌-◌, ◌<◌, Bool, true, false, cond, not, ◌||◌, List, [], ◌∷◌, ◌++◌, map, filter, length, drop, get_or, Option, Some, None, refl, sym, ap, ◌∙◌, append_assoc}
+use Rattle.std.proofs.Common.{◌≡◌, ℕ, ◌+◌, ◌<◌, Bool, true, false, cond, not, ◌||◌, List, [], ◌∷◌, ◌++◌, map, length, drop, get_or, Option, Some, None, refl, sym, ap, ◌∙◌, append_assoc}
 use Rattle.std.proofs.Math.Path.{fun_ext}
 use Rattle.std.specs.List.{find, list_any}
 use Rattle.std.specs.Map.{lookup}
@@ -12,8 +12,7 @@ use Rattle.relocatable_object.specs.declared.object.ObjSymbol.{ObjSymbol}
 use Rattle.eh_link.specs.declared.names.Meaning.{Meaning}
 use Rattle.eh_link.specs.Placed.{Placed}
 use Rattle.eh_link.specs.Symbols.{is_label, is_global, has_label, has_global, global_names, field_names, duplicate_of, undefined_of, first_label, first_in, looked_up, meaning_by, meaning_of}
-use Rattle.eh_link.specs.Fields.{lower, filled_in, filled_by, filled_of, unreachable_for, unreachable_by, lowest_unreachable}
-use Rattle.relocatable_object.specs.declared.place.Section.TheVariants.{Text, Rodata, Extab, Init}
+use Rattle.eh_link.specs.Fields.{lower, filled_of, unreachable_by, lowest_unreachable}
 use Rattle.eh_link.specs.declared.fill.Filled.{Filled}
 use Rattle.eh_link.specs.Linked.{joined}
 use Rattle.eh_link.proofs.Changes.{lower_assoc}
@@ -52,20 +51,6 @@ lowest_step old new here all xs i x total h is put made sum =
     let more : lowest_unreachable all (drop i xs) ≡ lower here (lowest_unreachable all (drop (i + 1) xs)) =
     at_drop_more (lowest_unreachable all) xs i x h ∙ rw (← is, made) refl in
     rw (put, lower_assoc) (ap (lower old) (sym more) ∙ sum)
-
-pub lowest_more : (all xs : List Placed) (i : ℕ) (d : Placed) → i < length xs
-    → lowest_unreachable all (drop i xs) ≡ lower (unreachable_by (meaning_of all (get_or xs i d)) (get_or xs i d)) (lowest_unreachable all (drop (i + 1) xs))
-lowest_more all xs i d h = at_drop_more (lowest_unreachable all) xs i d h
-
-pub parts_are : (m n : List ℕ → Option Meaning) (placed : Placed) (text rodata extab init : List ℕ) → m ≡ n → text ≡ filled_in m placed Text
-    → rodata ≡ filled_in m placed Rodata → extab ≡ filled_in m placed Extab → init ≡ filled_in m placed Init
-    → record { text = text; rodata = rodata; extab = extab; init = init } ≡ filled_by n placed
-parts_are m n placed text rodata extab init e t r x i = rw (t, r, x, i, e) refl
-
-pub lowest_is : (m n : List ℕ → Option Meaning) (placed : Placed) (text rodata extab init : Option ℕ) → m ≡ n → text ≡ unreachable_for m placed Text
-    → rodata ≡ unreachable_for m placed Rodata → extab ≡ unreachable_for m placed Extab → init ≡ unreachable_for m placed Init
-    → lower (lower text rodata) (lower extab init) ≡ unreachable_by n placed
-lowest_is m n placed text rodata extab init e t r x i = rw (t, r, x, i, e) refl
 
 -- ---- names
 
@@ -112,5 +97,3 @@ undefined_step names all xs i x h is same =
     (fun_ext (λ q. sym (same q))))
 
 pub ruleset finds = (find_more, first_more)
-
-pub ruleset totals = (lowest_more, table_meanings)

@@ -1,7 +1,9 @@
 //! The fields of objects filled by their relocations (docs/linking.md; IHI 0044).
-ghost use Rattle.std.specs.Prelude.{◌≡◌, ◌+◌, ◌≤◌, length, drop, map, IfOk};
+ghost use Rattle.std.specs.Prelude.{◌≡◌, ◌+◌, ◌≤◌, ℕ, List, length, drop, map, IfOk};
+ghost use Rattle.std.specs.Map.{lookup};
+ghost use Rattle.eh_word.specs.Names.{same_bytes};
 ghost use Rattle.relocatable_object.specs.Fields.{bytes_at};
-ghost use Rattle.eh_link.specs.Symbols.{looked_up, meaning_by};
+ghost use Rattle.eh_link.specs.Symbols.{is_global, first_in, looked_up, meaning_by};
 ghost use Rattle.eh_link.specs.Fields.{size_of, change_of, written_at, changed, unreachable_at, filled, lower, unreachable_in, part_in, filled_in, filled_by, filled_of, unreachable_for, unreachable_by, lowest_unreachable};
 
 use crate::field::{Change, change_by};
@@ -175,8 +177,60 @@ fn filled_part(
     Ok((OwnBytes::of_vec(bytes), lowest))
 }
 
+/// An object's parts of two sections with their fields filled, and the lowest address of a branch that can't be encoded.
+fn filled_two(
+    alloc: Global,
+    placed: &Placed,
+    own: &Meanings<'_>,
+    global: &Meanings<'_>,
+    first: Section,
+    second: Section,
+) -> Result<(OwnBytes, OwnBytes, Option<u32>), AllocError>
+    ensures first { IfOk result (λ r. r.0 ≡ filled_in (looked_up own.now global.now) placed.now first) }
+    ensures second { IfOk result (λ r. r.1 ≡ filled_in (looked_up own.now global.now) placed.now second) }
+    ensures lowest { IfOk result (λ r. r.2 ≡ lower (unreachable_for (looked_up own.now global.now) placed.now first) (unreachable_for (looked_up own.now global.now) placed.now second)) }
+{
+    let (bytes, here) = filled_part(alloc, placed, own, global, first)?;
+    let (more, there) = filled_part(alloc, placed, own, global, second)?;
+    Ok((bytes, more, lower(here, there)))
+}
+
+/// The parts of an object filled by what `own`, then `global` say, and the lowest address of a branch that can't be encoded.
+fn filled_by(
+    alloc: Global,
+    placed: &Placed,
+    own: &Meanings<'_>,
+    global: &Meanings<'_>,
+) -> Result<(Filled, Option<u32>), AllocError>
+    ensures parts { IfOk result (λ r. r.0 ≡ filled_by (looked_up own.now global.now) placed.now) }
+    ensures lowest { IfOk result (λ r. r.1 ≡ unreachable_by (looked_up own.now global.now) placed.now) }
+{
+    let (text, rodata, here) = filled_two(
+        alloc,
+        placed,
+        own,
+        global,
+        Section::Text,
+        Section::Rodata,
+    )?;
+    let (extab, init, there) = filled_two(
+        alloc,
+        placed,
+        own,
+        global,
+        Section::Extab,
+        Section::Init,
+    )?;
+    let parts = Filled {
+        text,
+        rodata,
+        extab,
+        init,
+    };
+    Ok((parts, lower(here, there)))
+}
+
 /// The parts of an object with their fields filled, and the lowest address of a branch that can't be encoded.
-#[tactic(auto, using(crate::proofs::Steps::same_meanings))]
 fn filled_object(
     alloc: Global,
     placed: &Placed,
@@ -186,22 +240,30 @@ fn filled_object(
     ensures lowest { IfOk result (λ r. r.1 ≡ unreachable_by (meaning_by global.now placed.now) placed.now) }
 {
     let own = own_meanings(alloc, placed)?;
-    let (text, in_text) = filled_part(alloc, placed, &own, global, Section::Text)?;
-    let (rodata, in_rodata) = filled_part(alloc, placed, &own, global, Section::Rodata)?;
-    let (extab, in_extab) = filled_part(alloc, placed, &own, global, Section::Extab)?;
-    let (init, in_init) = filled_part(alloc, placed, &own, global, Section::Init)?;
-    let lowest = lower(lower(in_text, in_rodata), lower(in_extab, in_init));
-    let parts = Filled {
-        text,
-        rodata,
-        extab,
-        init,
-    };
+    filled_by(alloc, placed, &own, global)
+}
+
+/// The objects with their fields filled, and the lowest address of a branch that can't be encoded, by a table of global names.
+fn fill_each(
+    alloc: Global,
+    all: &[Placed],
+    global: &Meanings<'_>,
+) -> Result<(Vec<Filled>, Option<u32>), AllocError>
+    requires { (q : List ℕ) → lookup (same_bytes q) global.now ≡ first_in (is_global q) all.now }
+    ensures parts { IfOk result (λ r. r.0.items ≡ map (filled_of all.now) all.now) }
+    ensures lowest { IfOk result (λ r. r.1 ≡ lowest_unreachable all.now all.now) }
+{
+    let mut parts = Vec::new(alloc);
+    let mut lowest = None;
+    for placed in all {
+        let (filled, here) = filled_object(alloc, placed, global)?;
+        parts.push(filled)?;
+        lowest = lower(lowest, here);
+    }
     Ok((parts, lowest))
 }
 
 /// The objects with their fields filled, and the lowest address of a branch that can't be encoded.
-#[tactic(auto, using(crate::proofs::Changes::fills, crate::proofs::Steps::totals))]
 pub(crate) fn fill_all(
     alloc: Global,
     all: &[Placed],
@@ -210,12 +272,5 @@ pub(crate) fn fill_all(
     ensures lowest { IfOk result (λ r. r.1 ≡ lowest_unreachable all.now all.now) }
 {
     let global = global_meanings(alloc, all)?;
-    let mut parts = Vec::new(alloc);
-    let mut lowest = None;
-    for placed in all {
-        let (filled, here) = filled_object(alloc, placed, &global)?;
-        parts.push(filled)?;
-        lowest = lower(lowest, here);
-    }
-    Ok((parts, lowest))
+    fill_each(alloc, all, &global)
 }

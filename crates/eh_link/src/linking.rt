@@ -1,9 +1,13 @@
 //! Objects to the parts of an image (docs/linking.md).
-ghost use Rattle.std.specs.Prelude.{◌≡◌, ◌⊎◌, map, Result, Ok, Err, MatchResult, IfOk, OnOk, IfErr};
+ghost use Rattle.std.specs.Prelude.{◌≡◌, ◌⊎◌, ℕ, List, [], map, Some, None, Result, Ok, Err, MatchResult, IfOk, OnOk, IfErr};
+ghost use Rattle.std.specs.List.{list_any};
+ghost use Rattle.std.specs.Option.{option_map};
+ghost use Rattle.eh_word.specs.Names.{same_bytes};
 ghost use Rattle.elf_write.specs.declared.parts.ImageParts.{ImageParts};
 ghost use Rattle.eh_link.specs.declared.fault.LinkFault.{LinkFault};
-ghost use Rattle.eh_link.specs.declared.fault.LinkFault.TheVariants.{OutOfMemory};
+ghost use Rattle.eh_link.specs.declared.fault.LinkFault.TheVariants.{OutOfMemory, Duplicate, Undefined};
 ghost use Rattle.eh_link.specs.Layout.{Rises};
+ghost use Rattle.eh_link.specs.Symbols.{has_global, duplicate_of, undefined_of};
 ghost use Rattle.eh_link.specs.Fields.{filled_of};
 ghost use Rattle.eh_link.specs.Linked.{entry_of, parts_at, unless_misnamed, linked};
 
@@ -29,19 +33,43 @@ fn entry_of(name: &[u8], all: &[Placed]) -> u32
     }
 }
 
+/// Refuses a name that has global labels in two objects; `names` takes all global names.
+fn check_duplicate<'a>(
+    alloc: Global,
+    objects: &'a [Object],
+    names: &mut NameSet<'a>,
+) -> Result<(), LinkFault>
+    requires { names.old ≡ [] }
+    ensures ok { OnOk result (duplicate_of objects.now ≡ None) }
+    ensures names { OnOk result ((q : List ℕ) → list_any (same_bytes q) names.new ≡ list_any (has_global q) objects.now) }
+    ensures err { IfErr result (λ fault. (fault ≡ OutOfMemory) ⊎ (option_map Duplicate (duplicate_of objects.now) ≡ Some fault)) }
+{
+    match duplicate(objects, names)? {
+        Some(name) => Err(LinkFault::Duplicate(copied(alloc, name)?)),
+        None => Ok(()),
+    }
+}
+
+/// Refuses a name of a field that means no label, where `global` are all global names.
+fn check_undefined(alloc: Global, objects: &[Object], global: &NameSet<'_>) -> Result<(), LinkFault>
+    requires { (q : List ℕ) → list_any (same_bytes q) global.now ≡ list_any (has_global q) objects.now }
+    ensures ok { OnOk result (undefined_of objects.now objects.now ≡ None) }
+    ensures err { IfErr result (λ fault. (fault ≡ OutOfMemory) ⊎ (option_map Undefined (undefined_of objects.now objects.now) ≡ Some fault)) }
+{
+    match undefined(alloc, objects, global)? {
+        Some(name) => Err(LinkFault::Undefined(copied(alloc, name)?)),
+        None => Ok(()),
+    }
+}
+
 /// Refuses names that have global labels in two objects, then names of fields that mean no label.
 fn check_names(alloc: Global, objects: &[Object]) -> Result<(), LinkFault>
     ensures ok { OnOk result ((later : Result ImageParts LinkFault) → unless_misnamed objects.now later ≡ later) }
     ensures err { IfErr result (λ fault. (fault ≡ OutOfMemory) ⊎ ((later : Result ImageParts LinkFault) → unless_misnamed objects.now later ≡ Err fault)) }
 {
     let mut names = NameSet::new(alloc);
-    if let Some(name) = duplicate(objects, &mut names)? {
-        return Err(LinkFault::Duplicate(copied(alloc, name)?));
-    }
-    if let Some(name) = undefined(alloc, objects, &names)? {
-        return Err(LinkFault::Undefined(copied(alloc, name)?));
-    }
-    Ok(())
+    check_duplicate(alloc, objects, &mut names)?;
+    check_undefined(alloc, objects, &names)
 }
 
 /// The parts of the image of objects whose fields are filled.

@@ -181,6 +181,18 @@ pub(crate) fn duplicate<'a>(
     Ok(found)
 }
 
+/// The first name of a field of an object that is neither among `own` nor among `global`.
+fn neither_in<'a>(object: &'a Object, own: &NameSet<'_>, global: &NameSet<'_>) -> Option<&'a Name>
+    ensures { option_map (λ name. name.now) result ≡ find (λ name. not (list_any (same_bytes name) own.now || list_any (same_bytes name) global.now)) (field_names object.now) }
+{
+    for reloc in object.relocs.as_slice() {
+        if !own.contains(&reloc.name) && !global.contains(&reloc.name) {
+            return Some(&reloc.name);
+        }
+    }
+    None
+}
+
 /// The first name of a field of an object that means no label of its own and none of `global`.
 fn undefined_in<'a>(
     alloc: Global,
@@ -191,12 +203,7 @@ fn undefined_in<'a>(
 {
     let mut own = NameSet::with_capacity(alloc, object.symbols.len())?;
     add_labels(&mut own, object)?;
-    for reloc in object.relocs.as_slice() {
-        if !own.contains(&reloc.name) && !global.contains(&reloc.name) {
-            return Ok(Some(&reloc.name));
-        }
-    }
-    Ok(None)
+    Ok(neither_in(object, &own, global))
 }
 
 /// The first name of a field that means no label.
@@ -234,8 +241,17 @@ fn meaning_at(at: Addresses, symbol: &ObjSymbol) -> Meaning
     }
 }
 
+/// Adds what names mean by the labels of their object.
+fn add_own_meanings<'a>(own: &mut Meanings<'a>, placed: &'a Placed<'_>) -> Result<(), AllocError>
+    ensures { OnOk result ((q : List ℕ) → lookup (same_bytes q) own.new ≡ option_or (lookup (same_bytes q) own.old) (first_label (is_label q) placed.now)) }
+{
+    for symbol in placed.object.symbols.as_slice() {
+        own.add(&symbol.name, meaning_at(placed.at, symbol))?;
+    }
+    Ok(())
+}
+
 /// What names mean by the labels of their object.
-#[tactic(auto, using(crate::proofs::Steps::finds))]
 pub(crate) fn own_meanings<'a>(
     alloc: Global,
     placed: &'a Placed<'_>,
@@ -243,9 +259,7 @@ pub(crate) fn own_meanings<'a>(
     ensures { IfOk result (λ own. (q : List ℕ) → lookup (same_bytes q) own ≡ first_label (is_label q) placed.now) }
 {
     let mut own = Meanings::with_capacity(alloc, placed.object.symbols.len())?;
-    for symbol in placed.object.symbols.as_slice() {
-        own.add(&symbol.name, meaning_at(placed.at, symbol))?;
-    }
+    add_own_meanings(&mut own, placed)?;
     Ok(own)
 }
 

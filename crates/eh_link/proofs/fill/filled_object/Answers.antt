@@ -1,17 +1,15 @@
-use Rattle.std.proofs.Common.{◌∙◌}
-use Rattle.eh_link.specs.Symbols.{looked_up, meaning_by}
-use Rattle.eh_link.proofs.Steps.{same_meanings, parts_are, lowest_is}
+use Rattle.std.proofs.Common.{◌≡◌, subst}
+use Rattle.std.specs.Result.{IfOk}
+use Rattle.eh_link.specs.Fields.{filled_by, unreachable_by}
+use Rattle.eh_link.proofs.Steps.{same_meanings}
 use Rattle.eh_link.proofs.fill.filled_object.Goals as goal
 
 pub returns-clause-parts : goal.returns-clause-parts
 returns-clause-parts c =
-    parts_are (looked_up c.in_ok-own.own c.args.global.now) (meaning_by c.args.global.now c.args.placed.now) c.args.placed.now _ _ _ _
-    (same_meanings c.in_ok-own.own c.args.global.now c.args.placed.now c.in_ok-own.ensures)
-    c.in_ok-text.ensures.bytes c.in_ok-rodata.ensures.bytes c.in_ok-extab.ensures.bytes c.in_ok-init.ensures.bytes
+    let same = same_meanings c.in_ok-own.own c.args.global.now c.args.placed.now c.in_ok-own.ensures in
+    subst (λ m. IfOk c.filled_by.result (λ r. r.0 ≡ filled_by m c.args.placed.now)) same c.filled_by.ensures.parts
 
 pub returns-clause-lowest : goal.returns-clause-lowest
 returns-clause-lowest c =
-    c.lower-lowest.ensures ∙ rw (c.lower.ensures, c.lower-2.ensures)
-    (lowest_is (looked_up c.in_ok-own.own c.args.global.now) (meaning_by c.args.global.now c.args.placed.now) c.args.placed.now _ _ _ _
-    (same_meanings c.in_ok-own.own c.args.global.now c.args.placed.now c.in_ok-own.ensures)
-    c.in_ok-text.ensures.lowest c.in_ok-rodata.ensures.lowest c.in_ok-extab.ensures.lowest c.in_ok-init.ensures.lowest)
+    let same = same_meanings c.in_ok-own.own c.args.global.now c.args.placed.now c.in_ok-own.ensures in
+    subst (λ m. IfOk c.filled_by.result (λ r. r.1 ≡ unreachable_by m c.args.placed.now)) same c.filled_by.ensures.lowest

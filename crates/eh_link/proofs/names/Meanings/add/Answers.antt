@@ -1,5 +1,4 @@
 use Rattle.std.proofs.Common.{ℕ, List, Bor, cond, Some, None, ap, ◌∙◌, arith, unwrap_or}
-use Rattle.std.proofs.lemmas.Grind.{common_steps}
 use Rattle.std.specs.Map.{lookup}
 use Rattle.std.specs.Option.{option_or}
 use Rattle.eh_word.specs.Names.{same_bytes}
@@ -14,5 +13,5 @@ returns c q =
     let put = λ (k : Bor (List ℕ)).
     (c.in_ok-self-inside.ensures.update.0 c.or_insert.result.now).0 k
     ∙ ap (λ bytes. cond (same_bytes bytes k.now) (Some c.or_insert.result.now) (lookup (λ other. same_bytes k.now other.now) old)) c.bytes.ensures in
-    found_added old _ name c.args.meaning (λ k. grind (arith, common_steps, put k, held)) q
+    found_added old _ name c.args.meaning (λ k. grind (arith, put k, held)) q
     ∙ ap (λ meanings. option_or (lookup (same_bytes q) meanings) (cond (same_bytes q name) (Some c.args.meaning) None)) c.self.view_is

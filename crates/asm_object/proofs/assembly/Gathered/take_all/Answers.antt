@@ -6,13 +6,13 @@ use Rattle.asm_object.specs.Pieces.{pieces_of, rows_of}
 use Rattle.asm_object.specs.Objects.{refusals_at, refusals_of}
 use Rattle.asm_object.specs.Built.{with_pieces}
 use Rattle.asm_object.proofs.GivenLemmas.{none_before, first_more, sections_more, rows_more}
-use Rattle.asm_object.proofs.assembly.gather.Goals as goal
+use Rattle.asm_object.proofs.assembly.Gathered.take_all.Goals as goal
 
 pub loop-one-preserved : goal.loop-one-preserved
 loop-one-preserved c =
     let entries = c.args.entries.now in
     let labels = named_in c.args.labels.now in
-    let before = c.loop-one.gathered in
+    let before = c.loop-one.self in
     let after = c.take.new.self in
     let one = c.in-Some.one in
     let more = into_iter_items c.next.new.self in
@@ -21,9 +21,9 @@ loop-one-preserved c =
     record {
       first = first_more labels before.first after.first _ one more told.first
           (ap (λ l. first_of_all before.first (refusals_of labels l)) left ∙ c.loop-one.invariant.first);
-      sections = λ none. sections_more entries labels before.sections after.sections _ one more c.args.last (told.sections none)
-          (ap (λ l. with_pieces before.sections (pieces_of entries labels l c.args.last)) left
-          ∙ c.loop-one.invariant.sections (none_before before.first (refusals_at labels one) (sym told.first ∙ none)));
+      sections = λ last none. sections_more entries labels before.sections after.sections _ one more last (told.sections none)
+          (ap (λ l. with_pieces before.sections (pieces_of entries labels l last)) left
+          ∙ c.loop-one.invariant.sections last (none_before before.first (refusals_at labels one) (sym told.first ∙ none)));
       rows = λ none. rows_more entries before.rows after.rows _ one more (told.rows none)
           (ap (λ l. before.rows ++ rows_of entries l) left
           ∙ c.loop-one.invariant.rows (none_before before.first (refusals_at labels one) (sym told.first ∙ none)));

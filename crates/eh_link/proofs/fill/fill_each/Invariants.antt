@@ -1,6 +1,6 @@
 use Rattle.std.proofs.Common.{◌≡◌, ◌++◌, drop, map}
 use Rattle.eh_link.specs.Fields.{filled_of, lower, lowest_unreachable}
-use Rattle.eh_link.proofs.fill.fill_all.Given as goal
+use Rattle.eh_link.proofs.fill.fill_each.Given as goal
 
 abbrev pub invariant-loop-placed : goal.invariant-loop-placed
 invariant-loop-placed l =
