@@ -3,6 +3,7 @@
 #![tactic(auto)]
 
 mod exceptions;
+mod faults;
 mod gnu;
 mod images;
 mod instructions;

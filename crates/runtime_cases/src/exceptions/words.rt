@@ -1,5 +1,6 @@
 //! A pool, its words by slot and number and by address, and what the guest may do with them.
 use crate::exceptions::answers;
+use crate::faults::name_of;
 use bus_memories::flat::FlatBus;
 use case_rows::{Text, Unanswered};
 use eh_bus::bus::Bus;
@@ -112,18 +113,6 @@ pub fn all_at(text: &mut Text, pool: &Pool, given: &[u32]) {
     for a in given {
         say_at(text, pool, between, *a);
         between = " ";
-    }
-}
-
-/// Why the guest may not do something, and at which address.
-fn name_of(fault: BusFault) -> (&'static str, u32) {
-    match fault {
-        BusFault::Unmapped(a) => ("Unmapped", a),
-        BusFault::Unaligned(a) => ("Unaligned", a),
-        BusFault::ReadOnly(a) => ("ReadOnly", a),
-        BusFault::SavedSlot(a) => ("SavedSlot", a),
-        BusFault::Protected(a) => ("Protected", a),
-        BusFault::NotExecutable(a) => ("NotExecutable", a),
     }
 }
 

@@ -2,6 +2,7 @@
 ghost use Rattle.std.specs.Prelude.{◌≤◌, length};
 ghost use Rattle.runtime_cases.specs.declared.instructions.steps.TheConstants.{MOST_BYTES};
 
+use crate::faults::why;
 use crate::instructions::start::{PROGRAM, Start, start_of};
 use bus_memories::flat::FlatBus;
 use case_rows::{Telling, Text};
@@ -42,18 +43,6 @@ fn go(profile: Profile, regs: &mut Regs, bus: &mut FlatBus) -> Stepped {
     step_for(profile, regs, bus)
 }
 
-/// Why a memory refuses an access, and the address.
-fn refused(fault: BusFault) -> (&'static str, u32) {
-    match fault {
-        BusFault::Unmapped(address) => ("unmapped", address),
-        BusFault::Unaligned(address) => ("unaligned", address),
-        BusFault::ReadOnly(address) => ("read only", address),
-        BusFault::SavedSlot(address) => ("saved slot", address),
-        BusFault::Protected(address) => ("protected", address),
-        BusFault::NotExecutable(address) => ("not executable", address),
-    }
-}
-
 /// Adds why nothing was done, and what for.
 fn say_trapped(text: &mut Text, why: &str, what: u32) {
     text.say("trap ");
@@ -64,8 +53,8 @@ fn say_trapped(text: &mut Text, why: &str, what: u32) {
 
 /// Adds why a memory refuses an access, and the address.
 fn say_fault(text: &mut Text, fault: BusFault) {
-    let (why, address) = refused(fault);
-    say_trapped(text, why, address);
+    let (words, address) = why(fault);
+    say_trapped(text, words, address);
 }
 
 /// Adds why nothing was done.

@@ -1,4 +1,5 @@
 //! Calls over one memory that threads share, one after the other with `; ` between them, each with what it answers.
+use crate::faults::name_of;
 use crate::threads::exceptions::say_exception;
 use bus_memories::flat::FlatBus;
 use case_rows::{Pieces, Telling, Text, Unanswered, first_word};
@@ -47,21 +48,10 @@ pub fn say_word(text: &mut Text, word: u32) {
     text.say_hex(word);
 }
 
-/// The name of a fault, and its address.
-fn named(fault: BusFault) -> (&'static str, u32) {
-    match fault {
-        BusFault::Unmapped(a) => ("Unmapped ", a),
-        BusFault::Unaligned(a) => ("Unaligned ", a),
-        BusFault::ReadOnly(a) => ("ReadOnly ", a),
-        BusFault::SavedSlot(a) => ("SavedSlot ", a),
-        BusFault::Protected(a) => ("Protected ", a),
-        BusFault::NotExecutable(a) => ("NotExecutable ", a),
-    }
-}
-
 fn say_fault(text: &mut Text, fault: BusFault) {
-    let (name, a) = named(fault);
+    let (name, a) = name_of(fault);
     say_part(text, name);
+    text.say(" ");
     text.say_hex(a);
 }
 

@@ -1,6 +1,7 @@
 //! Accesses of a memory one after the other, and what each answers (docs/memory-map.md): `load8 ADDRESS`, `store8 ADDRESS VALUE`,
 //! the same of 16 and 32 bits, `fetch ADDRESS`, `run ADDRESS WORDS`, `guard ADDRESS`, `release ADDRESS`, `pool_load ADDRESS`,
 //! `pool_store ADDRESS VALUE` and `home`. A guard, a release and a store of the pool answer nothing.
+use crate::faults::why;
 use case_rows::{Text, Unanswered, first_word};
 use eh_bus::bus::Bus;
 use eh_bus::fault::BusFault;
@@ -9,15 +10,8 @@ use std::fmt::Radix;
 
 /// Adds why an access is refused, and its address.
 fn say_fault(text: &mut Text, fault: BusFault) {
-    let (why, address) = match fault {
-        BusFault::Unmapped(address) => ("unmapped", address),
-        BusFault::Unaligned(address) => ("unaligned", address),
-        BusFault::ReadOnly(address) => ("read only", address),
-        BusFault::SavedSlot(address) => ("saved slot", address),
-        BusFault::Protected(address) => ("protected", address),
-        BusFault::NotExecutable(address) => ("not executable", address),
-    };
-    write!(text, "{why} {address:X};");
+    let (words, address) = why(fault);
+    write!(text, "{words} {address:X};");
 }
 
 fn say_loaded<N: Radix + Copy>(text: &mut Text, loaded: Result<N, BusFault>) {
