@@ -13,7 +13,7 @@ use Rattle.asm_layout.specs.Words.{word_of}
 use Rattle.asm_layout.specs.Sizes.{sum_64}
 use Rattle.asm_layout.specs.Labels.{stmt_of}
 use Rattle.asm_layout.specs.Walks.{next, cursor_after, is_empty, ends_pool, pool_with, pool_after, pools_if, pools_from, coming_pool}
-use Rattle.asm_layout.specs.Placing.{word_offset, word_place, function_puts, puts_at, stood_from, placed_from, moved_word, with_pool_place, has_words, puts_pool, places_after, resolved}
+use Rattle.asm_layout.specs.Placing.{word_offset, word_place, function_puts, puts_at, unresolved_stmts, place_stmts_from, moved_word, with_pool_place, has_words, puts_pool, places_after, with_pool_places}
 use Rattle.asm_layout.specs.PlacedStmt.{PlacedStmt}
 use Rattle.asm_layout.proofs.LayoutLaws.{drop-next}
 
@@ -78,22 +78,22 @@ pools_after ends walk later = grind arith
 -- ---- all statements
 
 pub resolved-is : (entries : List (Option EntryWords)) (walk : Walk) (stmts : List Stmt)
-    → resolved (pools_from entries walk stmts) (stood_from entries walk stmts) ≡ placed_from entries walk stmts
-unfolding resolved stood_from placed_from pools_from
+    → with_pool_places (pools_from entries walk stmts) (unresolved_stmts entries walk stmts) ≡ place_stmts_from entries walk stmts
+unfolding with_pool_places unresolved_stmts place_stmts_from pools_from
 resolved-is entries walk [] = refl
 resolved-is entries walk (stmt ∷ more) =
     rw (word_coming entries walk stmt more, ends_there walk stmt.kind, pools_after (ends_pool walk stmt.kind) walk (pools_from entries (next entries walk stmt.kind) more), resolved-is entries (next entries walk stmt.kind) more)
 
-pub statements_kept : (entries : List (Option EntryWords)) (walk : Walk) (stmts : List Stmt) → map stmt_of (placed_from entries walk stmts) ≡ stmts
-unfolding placed_from
+pub statements_kept : (entries : List (Option EntryWords)) (walk : Walk) (stmts : List Stmt) → map stmt_of (place_stmts_from entries walk stmts) ≡ stmts
+unfolding place_stmts_from
 statements_kept entries walk [] = refl
 statements_kept entries walk (stmt ∷ more) = ap (λ l. stmt ∷ l) (statements_kept entries (next entries walk stmt.kind) more)
 
 -- one statement of a list is given its word's place
 pub resolved-more : (pools : List ℕ) (placed : List PlacedStmt) (i : ℕ) (one : PlacedStmt) → i < length placed → one ≡ get_or placed i one
-    → take (i + 1) (set placed i (with_pool_place pools one)) ++ resolved (places_after pools (puts_pool one)) (drop (i + 1) (set placed i (with_pool_place pools one)))
-    ≡ take i placed ++ resolved pools (drop i placed)
-unfolding resolved
+    → take (i + 1) (set placed i (with_pool_place pools one)) ++ with_pool_places (places_after pools (puts_pool one)) (drop (i + 1) (set placed i (with_pool_place pools one)))
+    ≡ take i placed ++ with_pool_places pools (drop i placed)
+unfolding with_pool_places
 resolved-more pools placed i one in_section is =
     let past : i < i + 1 = omega arith in
     rw (take_more_set placed i (with_pool_place pools one) in_section, drop-set-lt (i + 1) placed i (with_pool_place pools one) past, append_assoc, ← drop-next placed i one in_section is)

@@ -1,4 +1,4 @@
--- The names of refusals in a report (docs/objects.md, "Refusals").
+-- The names of refusals in a report (docs/rules/sources.md, "Refusals of statements").
 use Rattle.std.specs.Prelude.{ℕ, List, codes}
 use Rattle.thumb_isa.specs.FaultNames.{fault_name as encode_name}
 use Rattle.asm_unwind.specs.FaultNames.{fault_name as unwind_name}

@@ -1,4 +1,4 @@
--- The refusals of statements, and which of them is answered (docs/objects.md).
+-- The refusals of statements, and which of them is reported (docs/rules/sources.md).
 use Rattle.std.specs.Prelude.{ℕ, ◌==◌, ◌&&◌, ◌||◌, Bool, nat_lt, if◌then◌else◌, List, [], ◌∷◌, Option, Some, None}
 use Rattle.asm_layout.specs.declared.fault.AsmFault.{AsmFault}
 use Rattle.asm_layout.specs.declared.fault.AsmWhat.{AsmWhat}
@@ -7,7 +7,7 @@ use Rattle.asm_layout.specs.declared.fault.AsmWhat.TheVariants.{DuplicateLabel, 
 abbrev pub fault_at : ℕ → AsmWhat → AsmFault
 fault_at line what = record { line = line; what = what }
 
--- want of memory stands at no line
+-- if memory runs out, there is no line
 abbrev pub out_of_memory : AsmFault
 out_of_memory = fault_at 0 OutOfMemory
 
@@ -35,11 +35,11 @@ abbrev pub first_of : Option AsmFault → Option AsmFault → Option AsmFault
 first_of so_far None = so_far
 first_of so_far (Some fault) = first_with so_far fault
 
--- a refusal at a line, where it is refused
+-- a refusal at a line, if it holds
 abbrev pub fault_if : Bool → ℕ → AsmWhat → List AsmFault
 fault_if refused line what = if refused then fault_at line what ∷ [] else []
 
--- the first of a list of refusals: none comes before it, and of those as early it stands first in the list
+-- the first of a list of refusals: none comes before it, and of equal ones it is the first in the list
 unfoldable pub first_of_all : Option AsmFault → List AsmFault → Option AsmFault
 first_of_all so_far [] = so_far
 first_of_all so_far (fault ∷ more) = first_of_all (first_with so_far fault) more

@@ -1,4 +1,4 @@
--- The functions of a source, by its unwind directives (docs/unwind-directives.md, "The directives").
+-- The functions of a source, by its unwind directives (docs/rules/sources.md, "Unwind directives").
 use Rattle.std.specs.Prelude.{ℕ, ℤ, pos, negsuc, nat_lt, if◌then◌else◌, List, [], ◌∷◌, ◌++◌, Option, Some, None, Result, Ok, Err}
 use Rattle.asm_statements.specs.declared.statement.Stmt.{Stmt}
 use Rattle.asm_statements.specs.declared.statement.StmtKind.{StmtKind}
@@ -8,13 +8,13 @@ use Rattle.asm_unwind.specs.declared.directive.UnwindDirective.TheVariants.{FnSt
 use Rattle.asm_unwind.specs.declared.directive.UnwindFault.{UnwindFault}
 use Rattle.asm_unwind.specs.declared.directive.UnwindFault.TheVariants.{OutsideFunction}
 use Rattle.asm_unwind.specs.declared.entry.EntryWords.{EntryWords}
-use Rattle.asm_unwind.specs.Refusals.{seen_in, refusal_of}
+use Rattle.asm_unwind.specs.Refusals.{directive_state_of, refusal_of}
 use Rattle.asm_unwind.specs.Entries.{entry_words_of}
 use Rattle.asm_layout.specs.declared.fault.AsmFault.{AsmFault}
 use Rattle.asm_layout.specs.declared.fault.AsmWhat.TheVariants.{Unwind}
 use Rattle.asm_layout.specs.Faults.{fault_at}
 
--- a number as a field of some values holds it; its greatest value for every other number
+-- a number as a field with a greatest value; that value if the number doesn't fit
 abbrev pub field_of : ℕ → ℤ → ℕ
 field_of greatest (pos n) = if nat_lt greatest n then greatest else n
 field_of greatest (negsuc n) = greatest
@@ -30,7 +30,7 @@ directive_of (stmt.PersonalityIndex n) = Some (PersonalityIndex (field_of 255 n)
 directive_of stmt.HandlerData = Some HandlerData
 directive_of _ = None
 
--- the function that is open: its directives so far, none where no function is open, and the line of its start
+-- the open function: its directives so far, and the line of its start; no directives if none is open
 pub record Frame : Type 0 where
   pub directives : List UnwindDirective
   pub start : Option ℕ
@@ -38,34 +38,34 @@ pub record Frame : Type 0 where
 abbrev pub no_frame : Frame
 no_frame = record { directives = []; start = None }
 
--- what a taken directive leaves open
+-- the open function after an accepted directive
 abbrev pub frame_after : Frame → ℕ → UnwindDirective → Frame
 frame_after frame line FnEnd = no_frame
 frame_after frame line FnStart = record { directives = frame.directives ++ FnStart ∷ []; start = Some line }
 frame_after frame line directive = record frame { directives = frame.directives ++ directive ∷ [] }
 
--- a refused directive counts for nothing
-abbrev pub frame_if_taken : Frame → ℕ → UnwindDirective → Option UnwindFault → Frame
-frame_if_taken frame line directive None = frame_after frame line directive
-frame_if_taken frame line directive (Some _) = frame
+-- a refused directive changes nothing
+abbrev pub frame_unless_refused : Frame → ℕ → UnwindDirective → Option UnwindFault → Frame
+frame_unless_refused frame line directive None = frame_after frame line directive
+frame_unless_refused frame line directive (Some _) = frame
 
 abbrev pub next_frame : Frame → ℕ → Option UnwindDirective → Frame
 next_frame frame line None = frame
 next_frame frame line (Some directive) =
-    frame_if_taken frame line directive (refusal_of (seen_in frame.directives) directive)
+    frame_unless_refused frame line directive (refusal_of (directive_state_of frame.directives) directive)
 
 abbrev pub entry_or_none : Result EntryWords UnwindFault → Option EntryWords
 entry_or_none (Ok entry) = Some entry
 entry_or_none (Err _) = None
 
--- the entry of the function that a taken directive ends
+-- the entry of the function that an accepted directive ends
 abbrev pub ended_entry : Frame → UnwindDirective → Option UnwindFault → List (Option EntryWords)
 ended_entry frame FnEnd None = entry_or_none (entry_words_of (frame.directives ++ FnEnd ∷ [])) ∷ []
 ended_entry frame directive refusal = []
 
 abbrev pub new_entries : Frame → Option UnwindDirective → List (Option EntryWords)
 new_entries frame None = []
-new_entries frame (Some directive) = ended_entry frame directive (refusal_of (seen_in frame.directives) directive)
+new_entries frame (Some directive) = ended_entry frame directive (refusal_of (directive_state_of frame.directives) directive)
 
 -- the entries of the functions that end, in the order of the text; None for one whose directives have none
 unfoldable pub entries_from : Frame → List Stmt → List (Option EntryWords)
@@ -86,7 +86,7 @@ directive_faults frame line _ None = []
 abbrev pub new_faults : Frame → ℕ → Option UnwindDirective → List AsmFault
 new_faults frame line None = []
 new_faults frame line (Some directive) =
-    directive_faults frame line directive (refusal_of (seen_in frame.directives) directive)
+    directive_faults frame line directive (refusal_of (directive_state_of frame.directives) directive)
 
 -- a function that the end of the source leaves open is refused at its start
 abbrev pub open_faults : Option ℕ → List AsmFault

@@ -1,4 +1,4 @@
--- Data of a source, whichever directive gives it: fields of one width, a text, or zeros (docs/objects.md, "Sections and places").
+-- Data of a source, whichever directive gives it: fields of one width, a text, or zeros (docs/rules/sources.md, "Sections and places").
 use Rattle.std.specs.Prelude.{ℕ, ℤ, Bool, true, false, List, Option, Some, None}
 use Rattle.asm_statements.specs.declared.statement.Expr.{Expr}
 use Rattle.asm_layout.specs.declared.given.TheConstants.{BYTE_LIMIT, HALF_LIMIT}
@@ -14,10 +14,10 @@ bytes_of Half = 2
 bytes_of Word = 4
 
 -- a field takes the numbers from minus the limit to twice the limit, less 1; without a limit every number, modulo 2^32
-abbrev pub limit : Width → Option ℕ
-limit Byte = Some BYTE_LIMIT
-limit Half = Some HALF_LIMIT
-limit Word = None
+abbrev pub field_limit : Width → Option ℕ
+field_limit Byte = Some BYTE_LIMIT
+field_limit Half = Some HALF_LIMIT
+field_limit Word = None
 
 -- whether a field may be an address, which the linker fills
 abbrev pub takes_addresses : Width → Bool
@@ -25,16 +25,16 @@ takes_addresses Byte = false
 takes_addresses Half = false
 takes_addresses Word = true
 
-pub data Given : Type 0 where
+pub data StmtData : Type 0 where
   -- fields of one width
-  FieldsOf : (width : Width) (fields : List Expr) → Given
+  FieldsOf : (width : Width) (fields : List Expr) → StmtData
   -- a text, and whether a zero byte closes it
-  TextOf : (text : List ℕ) (closed : Bool) → Given
+  TextOf : (text : List ℕ) (closed : Bool) → StmtData
   -- so many zeros
-  ZerosOf : ℤ → Given
+  ZerosOf : ℤ → StmtData
 
 -- what is lent, as a value
-abbrev pub given_by : Data → Given
-given_by (Fields width fields) = FieldsOf width fields.now
-given_by (Text text closed) = TextOf text.now closed
-given_by (Zeros n) = ZerosOf n
+abbrev pub data_value : Data → StmtData
+data_value (Fields width fields) = FieldsOf width fields.now
+data_value (Text text closed) = TextOf text.now closed
+data_value (Zeros n) = ZerosOf n

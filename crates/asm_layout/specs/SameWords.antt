@@ -1,4 +1,4 @@
--- When words are equal: numbers by their value, names by their bytes (docs/objects.md, "Pools").
+-- When words are equal: numbers by their value, names by their bytes (docs/rules/sources.md, "Pools").
 use Rattle.std.specs.Prelude.{◌==◌, ◌&&◌, Bool, false}
 use Rattle.eh_word.specs.Names.{same_bytes}
 use Rattle.asm_layout.specs.declared.word.Word.{Word}

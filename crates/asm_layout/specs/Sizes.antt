@@ -1,14 +1,15 @@
--- How many bytes statements have, and where sections end (docs/objects.md). Sums stop at 2^64 - 1, far above what a section may have.
+-- How many bytes statements have, and where sections end (docs/rules/sources.md). Sums are capped at 2^64 - 1, far above what
+-- a section may have.
 use Rattle.std.specs.Prelude.{ℕ, ◌+◌, ◌-◌, ◌*◌, ◌^◌, ◌||◌, ℤ, pos, negsuc, Bool, nat_lt, min, if◌then◌else◌, length, Option, Some, None, is_some}
-use Rattle.eh_list.specs.Bytes.{gap}
+use Rattle.eh_word.specs.Bytes.{gap}
 use Rattle.asm_statements.specs.declared.statement.StmtKind.{StmtKind}
 use Rattle.asm_unwind.specs.declared.entry.EntryWords.{EntryWords}
 use Rattle.asm_unwind.specs.declared.entry.EntryWords.TheVariants as entry
-use Rattle.relocatable_object.specs.declared.place.Section.{Section}
-use Rattle.relocatable_object.specs.declared.place.Section.TheVariants.{Text, Rodata, Extab, Init, Bss}
+use Rattle.asm_relocatable.specs.declared.place.Section.{Section}
+use Rattle.asm_relocatable.specs.declared.place.Section.TheVariants.{Text, Rodata, Extab, Init, Bss}
 use Rattle.asm_layout.specs.declared.walk.Sizes.{Sizes}
 use Rattle.asm_layout.specs.declared.walk.TheConstants.{MOST_BYTES}
-use Rattle.asm_layout.specs.Given.{Given, FieldsOf, TextOf, ZerosOf, bytes_of}
+use Rattle.asm_layout.specs.Given.{StmtData, FieldsOf, TextOf, ZerosOf, bytes_of}
 use Rattle.asm_layout.specs.Sorts.{Sort, CodeOf, DataOf, Filling, AboutName, Bare, sort_of, operation}
 
 abbrev pub sum_64 : ℕ → ℕ → ℕ
@@ -18,7 +19,7 @@ sum_64 a b = min (a + b) (2 ^ 64 - 1)
 abbrev pub times : ℕ → ℕ → ℕ
 times len size = min (len * size) (2 ^ 64 - 1)
 
--- the number that `.align n` makes places a multiple of; 1 outside 0 to 3
+-- the alignment that `.align n` asks for; 1 if n is outside of 0 to 3
 abbrev pub multiple : ℤ → ℕ
 multiple (pos n) = if nat_lt 3 n then 1 else 2 ^ n
 multiple (negsuc n) = 1
@@ -31,7 +32,7 @@ natural (negsuc n) = 0
 abbrev pub is_instruction : StmtKind → Bool
 is_instruction kind = is_some (operation kind)
 
-abbrev pub data_size : Given → ℕ
+abbrev pub data_size : StmtData → ℕ
 data_size (FieldsOf width fields) = times (length fields) (bytes_of width)
 data_size (TextOf text closed) = if closed then sum_64 (times (length text) 1) 1 else times (length text) 1
 data_size (ZerosOf n) = natural n
@@ -44,15 +45,15 @@ sort_size fills (Filling n) = fills n
 sort_size fills (AboutName _) = 0
 sort_size fills Bare = 0
 
--- the bytes of a statement at a place: `.align` fills up to a multiple
+-- the size in bytes of a statement at a place: `.align` fills up to a multiple
 abbrev pub size_at : ℕ → StmtKind → ℕ
 size_at place kind = sort_size (λ n. gap place (multiple n)) (sort_of kind)
 
--- the bytes that a statement has wherever it stands
+-- the size in bytes of a statement, if it is the same at every place
 abbrev pub size : StmtKind → ℕ
 size kind = sort_size (λ n. 0) (sort_of kind)
 
--- the bytes that a function's table takes after a place of the exception tables
+-- the size in bytes of a function's table after a place of the exception tables, alignment included
 abbrev pub table_size : ℕ → Option EntryWords → ℕ
 table_size place (Some (entry.Table words)) = sum_64 (gap place 4) (times (length words) 4)
 table_size place (Some entry.CantUnwind) = 0
@@ -67,12 +68,12 @@ size_in sizes Init = sizes.init
 size_in sizes Bss = sizes.bss
 
 -- with more bytes in a section
-abbrev pub sizes_grown : Sizes → Section → ℕ → Sizes
-sizes_grown sizes Text by = record sizes { text = sum_64 sizes.text by }
-sizes_grown sizes Rodata by = record sizes { rodata = sum_64 sizes.rodata by }
-sizes_grown sizes Extab by = record sizes { extab = sum_64 sizes.extab by }
-sizes_grown sizes Init by = record sizes { init = sum_64 sizes.init by }
-sizes_grown sizes Bss by = record sizes { bss = sum_64 sizes.bss by }
+abbrev pub sizes_with_more : Sizes → Section → ℕ → Sizes
+sizes_with_more sizes Text by = record sizes { text = sum_64 sizes.text by }
+sizes_with_more sizes Rodata by = record sizes { rodata = sum_64 sizes.rodata by }
+sizes_with_more sizes Extab by = record sizes { extab = sum_64 sizes.extab by }
+sizes_with_more sizes Init by = record sizes { init = sum_64 sizes.init by }
+sizes_with_more sizes Bss by = record sizes { bss = sum_64 sizes.bss by }
 
 -- a section has more than 1,048,576 bytes
 abbrev pub is_too_large : Sizes → Bool

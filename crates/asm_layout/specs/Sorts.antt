@@ -1,5 +1,6 @@
--- What each statement is to the assembler (docs/source-language.md; Armv6-M Architecture Reference Manual, DDI 0419, and Armv8-M, DDI 0553).
--- Every form of a statement has its own line in `sort_of`. Its bytes, its names and its code are said of sorts, and of each sort.
+-- The sort of each statement (docs/rules/sources.md; Armv6-M Architecture Reference Manual, DDI 0419, and Armv8-M,
+-- DDI 0553).
+-- Every form of a statement has its own line in `sort_of`. Bytes, names and code are then defined per sort.
 use Rattle.std.specs.Prelude.{ℕ, ℤ, Bool, true, false, List, Option, Some, None}
 use Rattle.asm_statements.specs.declared.statement.Expr.{Expr}
 use Rattle.asm_statements.specs.declared.statement.StmtKind.{StmtKind}
@@ -8,8 +9,8 @@ use Rattle.thumb_isa.specs.declared.instr.Instr.{Instr}
 use Rattle.thumb_isa.specs.declared.instr.Instr.TheVariants.{Alu, Bx, Blx, MemReg, MemImm, MemSp, AddRdSp, AddSp, SubSp, Push, Pop, Hint, Stm, Ldm, Svc, Barrier}
 use Rattle.asm_statements.specs.declared.computation.SizedInstr.{SizedInstr}
 use Rattle.asm_layout.specs.declared.given.Width.TheVariants.{Byte, Half, Word}
-use Rattle.asm_layout.specs.Given.{Given, FieldsOf, TextOf, ZerosOf}
-use Rattle.asm_statements.specs.Computations.{unsigned, offset, of_two_registers, of_three_registers, of_register_number, of_two_registers_number}
+use Rattle.asm_layout.specs.Given.{StmtData, FieldsOf, TextOf, ZerosOf}
+use Rattle.asm_statements.specs.Computations.{unsigned_field, offset, of_two_registers, of_three_registers, of_register_number, of_two_registers_number}
 
 -- an instruction of a source
 pub data Operation : Type 0 where
@@ -37,7 +38,7 @@ pub data Operation : Type 0 where
 pub data Sort : Type 0 where
   -- an instruction of so many bytes
   CodeOf : (bytes : ℕ) (operation : Operation) → Sort
-  DataOf : Given → Sort
+  DataOf : StmtData → Sort
   -- `.align n`
   Filling : ℤ → Sort
   -- a directive that says something of a name
@@ -54,15 +55,15 @@ abbrev pub wide : Instr → Sort
 wide i = CodeOf 4 (Nameless i)
 
 -- an instruction of the computations
-abbrev pub computed : SizedInstr → Sort
-computed c = CodeOf c.bytes (Nameless c.instr)
+abbrev pub computation_sort : SizedInstr → Sort
+computation_sort c = CodeOf c.bytes (Nameless c.instr)
 
 abbrev pub sort_of : StmtKind → Sort
 sort_of (stmt.Label _) = Bare
-sort_of (stmt.TwoRegisters what d m) = computed (of_two_registers what d m)
-sort_of (stmt.ThreeRegisters what d n m) = computed (of_three_registers what d n m)
-sort_of (stmt.RegisterNumber what d imm) = computed (of_register_number what d imm)
-sort_of (stmt.TwoRegistersNumber what d n imm) = computed (of_two_registers_number what d n imm)
+sort_of (stmt.TwoRegisters what d m) = computation_sort (of_two_registers what d m)
+sort_of (stmt.ThreeRegisters what d n m) = computation_sort (of_three_registers what d n m)
+sort_of (stmt.RegisterNumber what d imm) = computation_sort (of_register_number what d imm)
+sort_of (stmt.TwoRegistersNumber what d n imm) = computation_sort (of_two_registers_number what d n imm)
 sort_of (stmt.AddRdSp d off) = half (AddRdSp d (offset off))
 sort_of (stmt.AddSp off) = half (AddSp (offset off))
 sort_of (stmt.SubSp off) = half (SubSp (offset off))
@@ -85,7 +86,7 @@ sort_of (stmt.Cbz nonzero n name) = CodeOf 2 (CbzTo nonzero n name)
 sort_of (stmt.BWide name) = CodeOf 4 (BWideTo name)
 sort_of (stmt.Bx m) = half (Bx m)
 sort_of (stmt.Blx m) = half (Blx m)
-sort_of (stmt.Svc imm) = half (Svc (unsigned imm))
+sort_of (stmt.Svc imm) = half (Svc (unsigned_field imm))
 sort_of (stmt.Udf imm) = CodeOf 2 (Undefined imm)
 sort_of (stmt.Hint n) = half (Hint n)
 sort_of (stmt.Barrier op) = wide (Barrier op 15)
@@ -125,13 +126,13 @@ operation_in Bare = None
 abbrev pub operation : StmtKind → Option Operation
 operation kind = operation_in (sort_of kind)
 
-abbrev pub given_in : Sort → Option Given
-given_in (CodeOf _ _) = None
-given_in (DataOf given) = Some given
-given_in (Filling _) = None
-given_in (AboutName _) = None
-given_in Bare = None
+abbrev pub sort_data : Sort → Option StmtData
+sort_data (CodeOf _ _) = None
+sort_data (DataOf stmt_data) = Some stmt_data
+sort_data (Filling _) = None
+sort_data (AboutName _) = None
+sort_data Bare = None
 
 -- the data that a statement is
-abbrev pub given : StmtKind → Option Given
-given kind = given_in (sort_of kind)
+abbrev pub stmt_data : StmtKind → Option StmtData
+stmt_data kind = sort_data (sort_of kind)

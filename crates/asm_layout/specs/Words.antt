@@ -1,4 +1,4 @@
--- What words stand for (docs/objects.md).
+-- What words stand for (docs/rules/sources.md).
 use Rattle.std.specs.Prelude.{ℕ, ◌-◌, ◌%◌, ◌^◌, ℤ, pos, negsuc}
 use Rattle.asm_statements.specs.declared.statement.Expr.{Expr}
 use Rattle.asm_statements.specs.declared.statement.Expr.TheVariants as expr

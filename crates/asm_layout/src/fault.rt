@@ -1,4 +1,4 @@
-//! Why statements have no object, and which of several refusals is answered (docs/objects.md).
+//! Why a source has no object, and which of several refusals is reported (docs/rules/sources.md).
 ghost use Rattle.std.specs.Prelude.{◌≡◌, ◌≤◌, length};
 ghost use Rattle.asm_layout.specs.FaultNames.{what_name};
 ghost use Rattle.asm_layout.specs.Faults.{number_of, is_before, first_with, first_of, fault_if, first_of_all};
@@ -7,39 +7,41 @@ use asm_unwind::UnwindFault;
 use std::alloc::AllocError;
 use thumb_isa::encode_fault::EncodeFault;
 
-/// Why statements have no object, and at which line; for want of memory the line is 0.
+/// Why a source has no object, and at which line. If memory ran out, the line is 0.
 #[derive(Clone, Copy)]
 pub struct AsmFault {
+    /// The line, counted from 1.
     pub line: u32,
+    /// Why the statement is refused.
     pub what: AsmWhat,
 }
 
-/// What is refused. The lowest line is answered, and at one line the first of this order.
+/// Why a statement is refused. The refusal at the lowest line is reported; at one line, the first of this list.
 #[derive(Clone, Copy, Debug)]
 pub enum AsmWhat {
-    /// A label whose name an earlier label has.
+    /// A label whose name an earlier label already has.
     DuplicateLabel,
-    /// A name that begins with `.L` and has no label in the source; a name in `adr`, `ldr rt, name`, `b.w`, `cbz` or `cbnz`
-    /// that has no label in the section `.text` of the source; names in `a-b+n` that aren't two labels of one section of the
-    /// source; a name in `.half` or `.byte` outside `a-b+n`.
+    /// A name that the source itself should define, and doesn't. A name that begins with `.L` needs a label in the
+    /// source. A name in `adr`, `ldr rt, name`, `b.w`, `cbz` or `cbnz` needs a label in the source's text. The names in
+    /// `a-b+n` must be two labels of one section of the source; `.half` and `.byte` take names only in that form.
     UndefinedLocal,
-    /// An instruction without a code, or a number that its field doesn't hold.
+    /// An instruction that can't be encoded, or a number that doesn't fit its field.
     Encode(EncodeFault),
     /// The pool word of a `ldr rt, =value` is more than 1,020 bytes away.
     PoolTooFar,
     /// A section has more than 1,048,576 bytes after this line.
     SectionTooLarge,
-    /// An unwind directive, or what the directives of a function say together, at `.fnend`; or at its `.fnstart` a
+    /// An unwind directive is refused, or at `.fnend` the directives of a function together, or at its `.fnstart` a
     /// function that isn't ended.
     Unwind(UnwindFault),
-    /// An instruction or a `.fnstart` outside the text, bytes in bss.
+    /// An instruction or a `.fnstart` outside of the text, or bytes in bss.
     Placement,
-    /// Want of memory.
+    /// Memory ran out.
     OutOfMemory,
 }
 
 impl AsmWhat {
-    /// The name of the refusal, as a report writes it: of one of the encoder or of unwind directives that refusal's own.
+    /// The name of the refusal in reports. For `Encode` and `Unwind` it is the name of the fault inside.
     pub fn name(self) -> &'static [u8]
         ensures name { result.now ≡ what_name self }
         ensures short { length result.now ≤ 16 }
@@ -71,7 +73,7 @@ impl From<AllocError> for AsmFault {
     }
 }
 
-/// The place of a refusal in the order of `AsmWhat`.
+/// The rank of a refusal in the order of `AsmWhat`.
 fn number(what: AsmWhat) -> u8
     ensures { result ≡ number_of what }
 {
@@ -87,14 +89,14 @@ fn number(what: AsmWhat) -> u8
     }
 }
 
-/// Whether a refusal comes before another: at a lower line, or at the same line with a lower number.
+/// Whether a refusal comes before another: at a lower line, or at the same line with a lower rank.
 fn is_before(fault: AsmFault, other: AsmFault) -> bool
     ensures { result ≡ is_before fault other }
 {
     fault.line < other.line || (fault.line == other.line && number(fault.what) < number(other.what))
 }
 
-/// The first of the refusals so far and one more; of equal ones the one so far.
+/// The first of the refusals so far and one more. If both rank equal, the one so far.
 pub fn first_with(so_far: Option<AsmFault>, fault: AsmFault) -> Option<AsmFault>
     ensures { result ≡ first_with so_far fault }
 {
@@ -104,7 +106,7 @@ pub fn first_with(so_far: Option<AsmFault>, fault: AsmFault) -> Option<AsmFault>
     }
 }
 
-/// The first of the refusals so far and one that may be.
+/// The first of the refusals so far and one more, if there is one.
 pub fn first_of(so_far: Option<AsmFault>, fault: Option<AsmFault>) -> Option<AsmFault>
     ensures { result ≡ first_of so_far fault }
 {
@@ -114,7 +116,7 @@ pub fn first_of(so_far: Option<AsmFault>, fault: Option<AsmFault>) -> Option<Asm
     }
 }
 
-/// The first of the refusals so far and one at a line, where it is refused.
+/// The first of the refusals so far and, if `refused`, a new one at this line.
 #[tactic(auto, unfolding(crate::specs::Faults::first_of_all))]
 pub fn first_if(
     so_far: Option<AsmFault>,

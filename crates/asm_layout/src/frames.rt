@@ -1,4 +1,4 @@
-//! The functions of a source by their unwind directives (docs/unwind-directives.md).
+//! Finds the functions of a source and their unwind entries, by the unwind directives (docs/rules/sources.md).
 ghost use Rattle.std.specs.Prelude.{◌≡◌, ◌++◌, [], ◌∷◌, Some, None, IfOk, OnOk};
 ghost use Rattle.asm_unwind.specs.Entries.{entry_words_of};
 ghost use Rattle.asm_layout.specs.declared.fault.AsmWhat.TheVariants as AsmWhat;
@@ -8,26 +8,26 @@ ghost use Rattle.asm_layout.specs.Functions.{field_of, directive_of, no_frame, n
 use crate::fault::{AsmFault, AsmWhat, first_with};
 use asm_statements::{Stmt, StmtKind};
 use asm_unwind::{EntryWords, FrameText, UnwindDirective, UnwindFault, new_frame};
-use eh_list::Seq;
+use eh_word::Seq;
 use std::alloc::{AllocError, Global};
 use std::marker::Model;
 use std::mem;
 
-/// A number as an unwind directive's field holds it; its greatest value for every other number.
+/// A number as a 32-bit field of an unwind directive; the greatest value if it doesn't fit.
 fn field_32(n: i64) -> u32
     ensures { result ≡ field_of 0xffffffff n }
 {
     u32::try_from(n).unwrap_or(u32::MAX)
 }
 
-/// A number as an unwind directive's field holds it; its greatest value for every other number.
+/// A number as an 8-bit field of an unwind directive; the greatest value if it doesn't fit.
 fn field_8(n: i64) -> u8
     ensures { result ≡ field_of 255 n }
 {
     u8::try_from(n).unwrap_or(u8::MAX)
 }
 
-/// The unwind directive of a statement.
+/// The unwind directive of a statement, or None.
 fn directive_of(kind: &StmtKind) -> Option<UnwindDirective>
     ensures { result ≡ directive_of kind.now }
 {
@@ -44,17 +44,19 @@ fn directive_of(kind: &StmtKind) -> Option<UnwindDirective>
     }
 }
 
-/// The entries of functions, each None where the directives say none; contracts see their list.
+/// The unwind entries of functions, None for a function whose directives give no entry. Contracts see a list.
 pub type Entries = Seq<Option<EntryWords>>;
 
-/// The functions of a source: the entry of each in the order of the text, and the first refusal among their directives.
+/// The functions of a source.
 #[derive(Drop)]
 pub struct Functions {
+    /// The unwind entry of each function, in the order of the text.
     pub entries: Entries,
+    /// The first refusal among the unwind directives.
     pub first: Option<AsmFault>,
 }
 
-/// The function that is open, and the line of its start; contracts see its directives so far.
+/// The open function: its directives so far, and the line of its `.fnstart`. Contracts see the directives.
 #[derive(Drop)]
 struct Open {
     frame: FrameText,
@@ -70,7 +72,7 @@ impl Model for Open {
 }
 
 impl Functions {
-    /// Takes a refusal at a line.
+    /// Records a refusal at a line.
     fn refuse(&mut self, line: u32, fault: UnwindFault)
         ensures first { self.new.first ≡ first_with self.old.first (fault_at line (AsmWhat.Unwind fault)) }
         ensures entries { self.new.entries ≡ self.old.entries }
@@ -79,7 +81,7 @@ impl Functions {
         self.first = first_with(self.first, AsmFault { line, what });
     }
 
-    /// Ends the function that is open, at a line.
+    /// Ends the open function, at a line.
     #[tactic(auto, unfolding(crate::specs::Faults::first_of_all))]
     fn end(&mut self, alloc: Global, opened: &mut Open, line: u32) -> Result<(), AllocError>
         ensures entries { OnOk result (self.new.entries ≡ self.old.entries ++ entry_or_none (entry_words_of opened.old.directives) ∷ []) }
@@ -99,7 +101,7 @@ impl Functions {
         Ok(())
     }
 
-    /// Takes the directive of a statement, which may have none.
+    /// Processes the unwind directive of a statement, if it is one.
     #[tactic(auto, unfolding(crate::specs::Faults::first_of_all))]
     fn take(&mut self, alloc: Global, opened: &mut Open, stmt: &Stmt) -> Result<(), AllocError>
         ensures entries { OnOk result (self.new.entries ≡ self.old.entries ++ new_entries opened.old (directive_of stmt.now.kind)) }
@@ -126,7 +128,7 @@ impl Functions {
         }
     }
 
-    /// Refuses a function that the end of the source leaves open, at its start.
+    /// At the end of the source, refuses a function that is still open; at its start.
     #[tactic(auto, unfolding(crate::specs::Faults::first_of_all))]
     fn close(&mut self, opened: &Open)
         ensures entries { self.new.entries ≡ self.old.entries }
@@ -138,7 +140,7 @@ impl Functions {
     }
 }
 
-/// The functions of statements.
+/// The functions of these statements. Err only if memory runs out.
 pub fn functions_of(alloc: Global, stmts: &[Stmt]) -> Result<Functions, AllocError>
     ensures entries { IfOk result (λ functions. functions.entries ≡ entries_of stmts.now) }
     ensures first { IfOk result (λ functions. functions.first ≡ first_of_all None (unwind_faults_of stmts.now)) }

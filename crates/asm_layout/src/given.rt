@@ -1,25 +1,28 @@
-//! Data of a source, whichever directive gives it: fields of one width, a text, or zeros (docs/objects.md).
+//! The data that a directive gives: fields of one width, a text, or zeros (docs/rules/sources.md).
 ghost use Rattle.std.specs.Prelude.{◌≡◌};
-ghost use Rattle.asm_layout.specs.Given.{bytes_of, limit, takes_addresses};
+ghost use Rattle.asm_layout.specs.Given.{bytes_of, field_limit, takes_addresses};
 
 use asm_statements::Exprs;
 
-/// The width of a field: all that tells `.byte`, `.half` and `.word` apart.
+/// The width of a data field. It is the only difference between `.byte`, `.half` and `.word`.
 #[derive(Clone, Copy)]
 pub enum Width {
+    /// One byte.
     Byte,
+    /// Two bytes.
     Half,
+    /// Four bytes.
     Word,
 }
 
-/// A byte takes the numbers from minus this to twice this, less 1.
+/// The limit of a byte: it takes numbers from `-BYTE_LIMIT` to `2 * BYTE_LIMIT - 1`.
 pub const BYTE_LIMIT: u16 = 0x80;
 
-/// The same of a halfword.
+/// The limit of a halfword, likewise.
 pub const HALF_LIMIT: u16 = 0x8000;
 
 impl Width {
-    /// How many bytes a field has.
+    /// The width in bytes.
     pub fn bytes(self) -> u64
         ensures { result ≡ bytes_of self }
     {
@@ -30,9 +33,9 @@ impl Width {
         }
     }
 
-    /// The limit of the numbers that a field takes; without one it takes every number, modulo 2^32.
+    /// The limit of the numbers that a field takes. None for a word, which takes every number modulo 2^32.
     pub fn limit(self) -> Option<u16>
-        ensures { result ≡ limit self }
+        ensures { result ≡ field_limit self }
     {
         match self {
             Width::Byte => Some(BYTE_LIMIT),
@@ -41,7 +44,7 @@ impl Width {
         }
     }
 
-    /// Whether a field may be an address, which the linker fills.
+    /// Whether a field may hold an address, which the linker fills in.
     pub fn takes_addresses(self) -> bool
         ensures { result ≡ takes_addresses self }
     {
@@ -52,13 +55,13 @@ impl Width {
     }
 }
 
-/// Data as it stands in its statement.
+/// The data of a statement.
 #[derive(Clone, Copy)]
 pub enum Data<'a> {
     /// Fields of one width.
     Fields(Width, &'a Exprs),
-    /// A text, and whether a zero byte closes it.
+    /// A text, and in `closed` whether a zero byte follows it.
     Text { text: &'a [u8], closed: bool },
-    /// So many zeros.
+    /// A number of zero bytes.
     Zeros(i64),
 }

@@ -1,31 +1,35 @@
-//! The labels of a source, and what directives say of them (docs/objects.md).
+//! The labels of a source, and what directives say about them (docs/rules/sources.md).
 ghost use Rattle.std.specs.Prelude.{◌≡◌, [], ◌++◌, map, IfOk, OnOk, None, Some};
 ghost use Rattle.asm_statements.specs.declared.statement.StmtKind.TheVariants.{Size};
 ghost use Rattle.asm_layout.specs.Faults.{first_of_all};
-ghost use Rattle.asm_layout.specs.Labels.{find, is_among, size_between, label_unless, labels_in, named_in, duplicates_from, stmt_of};
-ghost use Rattle.asm_layout.specs.LabelSteps.{fresh, sized, entry_after, labels_after, defines_again, entry_typed, entry_global, described_by, described};
+ghost use Rattle.asm_layout.specs.Labels.{find, is_among, size_between, label_unless, labels_in, label_places, duplicates_from, stmt_of};
+ghost use Rattle.asm_layout.specs.LabelSteps.{blank_label, label_with_size, entry_after, labels_after, defines_again, entry_with_type, entry_global, label_with_directive, label_with_directives};
 
 use crate::fault::{AsmFault, AsmWhat, first_if};
 use crate::placed::PlacedStmt;
+use asm_relocatable::name::copy_name;
+use asm_relocatable::place::Place;
 use asm_statements::{Stmt, StmtKind};
 use eh_word::Name;
 use indexmap::IndexMap;
 use indexmap::map::Entry;
-use relocatable_object::name::copied;
-use relocatable_object::place::Place;
 use std::alloc::{AllocError, Global};
 use std::marker::Model;
 
-/// A label, and what the directives on its name say.
+/// A label, with what the directives on its name say.
 #[derive(Clone, Copy)]
 pub struct Label {
+    /// Where the label is.
     pub place: Place,
+    /// The size that `.size` gave it, in bytes; else 0.
     pub size: u64,
+    /// Whether the last `.type` of its name says function.
     pub function: bool,
+    /// Whether a `.global` names it.
     pub global: bool,
 }
 
-/// The bytes from a label to a place after it in its section; 0 for every other place.
+/// The number of bytes from a label to a later place of its section; 0 for any other place.
 fn size_between(label: Place, end: Place) -> u64
     ensures { result ≡ size_between (Some label) end }
 {
@@ -36,7 +40,7 @@ fn size_between(label: Place, end: Place) -> u64
     }
 }
 
-/// The labels of a source in the order of the text, each name once; contracts see the list of names and labels.
+/// The labels of a source by name, in the order of the text. Contracts see a list of names and labels.
 #[derive(Drop)]
 pub struct Labels {
     map: IndexMap<Name, Label>,
@@ -52,6 +56,7 @@ impl Model for Labels {
 }
 
 impl Labels {
+    /// No labels.
     fn new(alloc: Global) -> Labels
         ensures { result ≡ [] }
     {
@@ -60,9 +65,9 @@ impl Labels {
         }
     }
 
-    /// The place of the label of a name.
+    /// The place of the label with a name, or None.
     pub fn place_named(&self, name: &Name) -> Option<Place>
-        ensures { result ≡ find name.now (named_in self.now) }
+        ensures { result ≡ find name.now (label_places self.now) }
     {
         match self.map.get(name) {
             Some(label) => Some(label.place),
@@ -70,20 +75,20 @@ impl Labels {
         }
     }
 
-    /// The names and labels in the order of the text.
+    /// The names and labels, in the order of the text.
     pub fn into_map(self) -> IndexMap<Name, Label>
         ensures { result.entries ≡ self }
     {
         self.map
     }
 
-    /// Adds a label where its name isn't there, and says whether it was there.
+    /// Adds a label unless its name is taken. Gives whether the name was taken.
     fn define(&mut self, alloc: Global, name: &Name, place: Place) -> Result<bool, AllocError>
-        ensures there { IfOk result (λ there. there ≡ is_among name.now (named_in self.old)) }
+        ensures there { IfOk result (λ there. there ≡ is_among name.now (label_places self.old)) }
         ensures labels { OnOk result (self.new
-            ≡ self.old ++ map fresh (label_unless (is_among name.now (named_in self.old)) name.now place)) }
+            ≡ self.old ++ map blank_label (label_unless (is_among name.now (label_places self.old)) name.now place)) }
     {
-        match self.map.entry(copied(alloc, name)?)? {
+        match self.map.entry(copy_name(alloc, name)?)? {
             Entry::Occupied(_) => Ok(true),
             Entry::Vacant(entry) => {
                 entry.insert(Label {
@@ -97,18 +102,18 @@ impl Labels {
         }
     }
 
-    /// Takes a `.size` at a place: it gives a size to a label before it in the section.
+    /// Processes a `.size` at a place: it gives a size to its label, if that is earlier in the same section.
     fn end(&mut self, name: &Name, end: Place)
-        ensures { self.new ≡ map (entry_after (named_in self.old) (Size name.now) end) self.old }
+        ensures { self.new ≡ map (entry_after (label_places self.old) (Size name.now) end) self.old }
     {
         if let Some(label) = self.map.get_mut(name) {
             label.size = size_between(label.place, end);
         }
     }
 
-    /// Takes what a statement says at its place, and says whether it defines a name that was there.
+    /// Processes a statement at its place. Gives whether it is a label whose name is taken.
     fn take(&mut self, alloc: Global, kind: &StmtKind, place: Place) -> Result<bool, AllocError>
-        ensures again { IfOk result (λ again. again ≡ defines_again (named_in self.old) kind.now) }
+        ensures again { IfOk result (λ again. again ≡ defines_again (label_places self.old) kind.now) }
         ensures labels { OnOk result (self.new ≡ labels_after self.old kind.now place) }
     {
         match kind {
@@ -121,14 +126,16 @@ impl Labels {
         }
     }
 
+    /// Sets whether a label is a function, as `.type` says.
     fn set_function(&mut self, name: &Name, function: bool)
-        ensures { self.new ≡ map (entry_typed name.now function) self.old }
+        ensures { self.new ≡ map (entry_with_type name.now function) self.old }
     {
         if let Some(label) = self.map.get_mut(name) {
             label.function = function;
         }
     }
 
+    /// Marks a label as global.
     fn set_global(&mut self, name: &Name)
         ensures { self.new ≡ map (entry_global name.now) self.old }
     {
@@ -137,9 +144,9 @@ impl Labels {
         }
     }
 
-    /// Takes what a `.type` or a `.global` says.
-    fn describe_by(&mut self, kind: &StmtKind)
-        ensures { self.new ≡ map (described_by kind.now) self.old }
+    /// Processes a `.type` or a `.global`.
+    fn apply_directive(&mut self, kind: &StmtKind)
+        ensures { self.new ≡ map (label_with_directive kind.now) self.old }
     {
         match kind {
             StmtKind::TypeFunction(name) => self.set_function(name, true),
@@ -149,26 +156,31 @@ impl Labels {
         }
     }
 
-    /// Takes what `.type` and `.global` say.
-    pub(crate) fn describe(&mut self, stmts: &[Stmt])
-        ensures { self.new ≡ map (described stmts.now) self.old }
+    /// Processes all `.type` and `.global` directives.
+    pub(crate) fn apply_directives(&mut self, stmts: &[Stmt])
+        ensures { self.new ≡ map (label_with_directives stmts.now) self.old }
     {
         for stmt in stmts {
-            self.describe_by(&stmt.kind);
+            self.apply_directive(&stmt.kind);
         }
     }
 }
 
-/// Labels with their sizes, and the first one whose name an earlier one has.
+/// Labels with their sizes, and the first label whose name was taken.
 #[derive(Drop)]
-pub(crate) struct Defined {
+pub(crate) struct DefinedLabels {
+    /// The labels.
     pub labels: Labels,
+    /// The refusal of the first label whose name was taken.
     pub duplicate: Option<AsmFault>,
 }
 
-/// The labels of statements, without what `.type` and `.global` say.
-pub(crate) fn defined_in(alloc: Global, placed: &[PlacedStmt<'_>]) -> Result<Defined, AllocError>
-    ensures labels { IfOk result (λ defined. defined.labels ≡ map (sized placed.now) (labels_in [] placed.now)) }
+/// The labels of statements with their sizes, before `.type` and `.global`.
+pub(crate) fn define_labels(
+    alloc: Global,
+    placed: &[PlacedStmt<'_>],
+) -> Result<DefinedLabels, AllocError>
+    ensures labels { IfOk result (λ defined. defined.labels ≡ map (label_with_size placed.now) (labels_in [] placed.now)) }
     ensures duplicate { IfOk result (λ defined. defined.duplicate ≡ first_of_all None (duplicates_from [] (map stmt_of placed.now))) }
 {
     let mut labels = Labels::new(alloc);
@@ -177,5 +189,5 @@ pub(crate) fn defined_in(alloc: Global, placed: &[PlacedStmt<'_>]) -> Result<Def
         let again = labels.take(alloc, &one.stmt.kind, one.at)?;
         duplicate = first_if(duplicate, again, one.stmt.line, AsmWhat::DuplicateLabel);
     }
-    Ok(Defined { labels, duplicate })
+    Ok(DefinedLabels { labels, duplicate })
 }

@@ -1,5 +1,5 @@
-//! Where everything of a source stands: its functions by their unwind directives, its labels and pools, and the order
-//! of its refusals (docs/objects.md).
+//! Lays out a source: where its functions, labels and pools are, and which of several refusals is reported
+//! (docs/rules/sources.md).
 #![tactic(auto)]
 
 ghost use Rattle.asm_layout.specs.FaultLaw.{TheFirstIsAnswered, NoneOnlyOfNone};
@@ -16,8 +16,8 @@ pub mod word;
 
 pub use fault::{AsmFault, AsmWhat};
 
-/// Of several refusals the one at the lowest line is answered, there the one with the lowest number, and of those that are
-/// equal in both the first that was found; nothing is answered only where nothing is refused.
+/// Of several refusals, the one at the lowest line is reported; at one line, the one of lowest rank; of equal ones, the
+/// first that was found. None is reported only if nothing is refused.
 pub fn the_first_refusal_is_answered()
     ensures first { TheFirstIsAnswered }
     ensures none { NoneOnlyOfNone }

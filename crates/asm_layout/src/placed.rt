@@ -1,52 +1,60 @@
-//! Statements where they stand, as all that is above asm_layout sees them (docs/objects.md).
+//! Statements with their places, the result of the layout (docs/rules/sources.md).
 ghost use Rattle.std.specs.Prelude.{◌≡◌, length, None, Some, IfOk};
 ghost use Rattle.asm_layout.specs.PlacedStmt.{word_in, puts_in};
 ghost use Rattle.asm_layout.specs.Placing.{moved_word, with_pool_place, has_words, puts_pool};
 
 use crate::word::Words;
+use asm_relocatable::place::Place;
 use asm_statements::Stmt;
-use relocatable_object::place::Place;
 use std::alloc::{AllocError, Global};
 use std::marker::Model;
 
-/// A pool: the place of the text after which it comes, at the next multiple of 4, and its words.
+/// A literal pool. It begins at the next multiple of 4 from `from` on.
 #[derive(Drop)]
 pub struct PlacedPool {
+    /// The place in the text, in bytes from its start, after which the pool comes.
     pub from: u64,
+    /// Its words.
     pub words: Words,
 }
 
-/// A function where it begins: its place in the text; the place of the exception tables after which its table comes, at the
-/// next multiple of 4; and its number in the order of the text.
+/// A function at its `.fnstart`. Its unwind table begins at the next multiple of 4 from `from` on.
 #[derive(Clone, Copy)]
 pub struct PlacedFunction {
+    /// The function's place in the text, in bytes from its start.
     pub start: u64,
+    /// The place in the exception tables, in bytes from their start, after which the function's table comes.
     pub from: u64,
+    /// The function's number in the order of the text, counted from 0.
     pub number: usize,
 }
 
-/// What a statement puts besides its own bytes.
+/// What a statement emits besides its own bytes.
 #[derive(Drop)]
 pub enum Puts {
+    /// Nothing.
     Nothing,
-    /// A `.pool` in the text the words that are to come.
+    /// The literal pool, at a `.pool` in the text.
     Pool(PlacedPool),
-    /// A `.fnstart` outside of a function the function's table.
+    /// The function's unwind table, at a `.fnstart` outside of a function.
     Function(PlacedFunction),
 }
 
-/// What few statements have: the place in the text of the pool word that one loads, and what one puts besides its own bytes.
+/// What few statements have: a pool word that they load (its place in the text), or something that they emit besides
+/// their bytes.
 #[derive(Drop)]
 pub struct Extra {
     word: Option<u64>,
     puts: Puts,
 }
 
-/// A statement and its place; the place in the text of the pool word that it loads, and what it puts besides its own bytes, in a
-/// box, since most have neither.
+/// A statement with its place. Its pool word and what it emits besides its own bytes are boxed, since most have
+/// neither.
 #[derive(Drop)]
 pub struct PlacedStmt<'a> {
+    /// The statement.
     pub stmt: &'a Stmt,
+    /// Where its bytes begin.
     pub at: Place,
     extra: Option<Box<Extra>>,
 }
@@ -59,7 +67,7 @@ impl<'a> Model for PlacedStmt<'a> {
     ghost view = { λ p. record { stmt = p.stmt.now; at = p.at; word = word_in p.extra; puts = puts_in p.extra } };
 }
 
-/// A word so far after the first of some places.
+/// The place of a pool word, given its offset in the first of these pools.
 fn moved_word(pools: &[u64], word: Option<u64>) -> Option<u64>
     ensures { result ≡ moved_word pools.now word }
 {
@@ -69,8 +77,12 @@ fn moved_word(pools: &[u64], word: Option<u64>) -> Option<u64>
     }
 }
 
-/// A word and what is put, boxed; no box for neither.
-fn boxed(alloc: Global, word: Option<u64>, puts: Puts) -> Result<Option<Box<Extra>>, AllocError>
+/// Boxes a word and what is emitted; no box if there is neither.
+fn boxed_extra(
+    alloc: Global,
+    word: Option<u64>,
+    puts: Puts,
+) -> Result<Option<Box<Extra>>, AllocError>
     ensures word { IfOk result (λ extra. word_in extra ≡ word) }
     ensures puts { IfOk result (λ extra. puts_in extra ≡ puts) }
 {
@@ -81,7 +93,7 @@ fn boxed(alloc: Global, word: Option<u64>, puts: Puts) -> Result<Option<Box<Extr
 }
 
 impl<'a> PlacedStmt<'a> {
-    /// A statement at a place, with the word that it loads and what it puts.
+    /// A statement at a place, with the pool word that it loads and what it emits.
     pub(crate) fn new(
         alloc: Global,
         stmt: &'a Stmt,
@@ -94,11 +106,11 @@ impl<'a> PlacedStmt<'a> {
         Ok(PlacedStmt {
             stmt,
             at,
-            extra: boxed(alloc, word, puts)?,
+            extra: boxed_extra(alloc, word, puts)?,
         })
     }
 
-    /// The place in the text of the pool word that it loads.
+    /// The place in the text, in bytes from its start, of the pool word that it loads.
     pub fn word(&self) -> Option<u64>
         ensures { result ≡ self.now.word }
     {
@@ -108,7 +120,7 @@ impl<'a> PlacedStmt<'a> {
         }
     }
 
-    /// What it puts besides its own bytes.
+    /// What it emits besides its own bytes.
     pub fn into_puts(self) -> Puts
         ensures { result ≡ self.entry.puts }
     {
@@ -118,7 +130,7 @@ impl<'a> PlacedStmt<'a> {
         }
     }
 
-    /// Whether it ends a pool with words.
+    /// Whether it emits a pool with words.
     pub(crate) fn puts_pool(&self) -> bool
         ensures { result ≡ puts_pool self.now }
     {
@@ -131,7 +143,7 @@ impl<'a> PlacedStmt<'a> {
         }
     }
 
-    /// Gives it the place of its word, so far after the first of some places.
+    /// Turns the offset of its pool word into a place; the pool is the first of these.
     pub(crate) fn move_word(&mut self, pools: &[u64])
         ensures { self.new ≡ with_pool_place pools.now self.old }
     {

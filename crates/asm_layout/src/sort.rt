@@ -1,9 +1,9 @@
-//! The forms of statements by their sorts, for matches over all of them: each form stands in exactly one of these patterns, or is
-//! `udf` or `.align` (`specs/Sorts.antt`; docs/source-language.md). A match names `StmtKind` in scope. Which data a form
-//! is stands here too.
+//! Groups the forms of statements into patterns, for matches over all of them. Every form except `udf` and `.align` is
+//! in exactly one pattern (`specs/Sorts.antt`; docs/rules/sources.md). A match that uses them must have `StmtKind` in
+//! scope. The data of a statement is here too.
 ghost use Rattle.std.specs.Prelude.{◌≡◌, option_map};
-ghost use Rattle.asm_layout.specs.Given.{given_by};
-ghost use Rattle.asm_layout.specs.Sorts.{given};
+ghost use Rattle.asm_layout.specs.Given.{data_value};
+ghost use Rattle.asm_layout.specs.Sorts.{stmt_data};
 
 use crate::given::{Data, Width};
 use crate::{
@@ -12,7 +12,7 @@ use crate::{
 };
 use asm_statements::StmtKind;
 
-/// An instruction that computes of registers and numbers (`computation` of asm_statements).
+/// A computation on registers and numbers (`computation` of asm_statements).
 #[macro_export]
 macro_rules! computed_form {
     () => {
@@ -23,7 +23,7 @@ macro_rules! computed_form {
     };
 }
 
-/// Another instruction of one halfword that names nothing, but for `udf`.
+/// Any other 16-bit instruction without a name, except `udf`.
 #[macro_export]
 macro_rules! nameless_form {
     () => {
@@ -46,7 +46,7 @@ macro_rules! nameless_form {
     };
 }
 
-/// Another instruction of two halfwords that names nothing.
+/// Any other 32-bit instruction without a name.
 #[macro_export]
 macro_rules! wide_form {
     () => {
@@ -54,7 +54,7 @@ macro_rules! wide_form {
     };
 }
 
-/// An instruction that names a label of the text or a value.
+/// An instruction with a label of the text, or with a value.
 #[macro_export]
 macro_rules! reader_form {
     () => {
@@ -62,7 +62,7 @@ macro_rules! reader_form {
     };
 }
 
-/// An instruction that branches to a label of the text, and to no other name.
+/// A branch that takes only labels of the text.
 #[macro_export]
 macro_rules! local_form {
     () => {
@@ -70,7 +70,7 @@ macro_rules! local_form {
     };
 }
 
-/// An instruction that branches to a name, which another source may have.
+/// A branch to a name, which another source may define.
 #[macro_export]
 macro_rules! branch_form {
     () => {
@@ -91,7 +91,7 @@ macro_rules! data_form {
     };
 }
 
-/// A directive that says something of a name.
+/// A directive about a name.
 #[macro_export]
 macro_rules! name_form {
     () => {
@@ -102,7 +102,7 @@ macro_rules! name_form {
     };
 }
 
-/// A statement that gives no bytes and uses no name.
+/// A statement that emits no bytes and uses no name.
 #[macro_export]
 macro_rules! bare_form {
     () => {
@@ -123,9 +123,9 @@ macro_rules! bare_form {
     };
 }
 
-/// The data that a statement is.
+/// The data of a statement, or None if it is no data.
 pub fn given(kind: &StmtKind) -> Option<Data<'_>>
-    ensures { option_map given_by result ≡ given kind.now }
+    ensures { option_map data_value result ≡ stmt_data kind.now }
 {
     match kind {
         StmtKind::Words(fields) => Some(Data::Fields(Width::Word, fields)),

@@ -1,12 +1,12 @@
-//! The walk over statements: where the next one stands, and the pool that is to come (docs/objects.md).
+//! Walks over the statements and keeps the current place and the words of the next pool (docs/rules/sources.md).
 ghost use Rattle.std.specs.Prelude.{◌≡◌, ◌<◌, [], Some, option_map, length, IfOk, OnOk, OnErr};
 ghost use Rattle.std.specs.List.{position_or_len};
-ghost use Rattle.asm_layout.specs.Given.{given_by};
-ghost use Rattle.asm_layout.specs.Sizes.{times, multiple, data_size, size_at, is_instruction, size_in, sizes_grown, is_too_large, table_size};
+ghost use Rattle.asm_layout.specs.Given.{data_value};
+ghost use Rattle.asm_layout.specs.Sizes.{times, multiple, data_size, size_at, is_instruction, size_in, sizes_with_more, is_too_large, table_size};
 ghost use Rattle.asm_layout.specs.SameWords.{same_word};
 ghost use Rattle.asm_statements.specs.declared.statement.StmtKind.TheVariants.{Pool as ForPool};
-ghost use Rattle.asm_layout.specs.Walks.{entry_at, here, start, started, ended, handling, in_section, grown, cursor_after, pool_with, pool_after, ends_pool, pool_place, sizes_with_pool, next};
-ghost use Rattle.asm_layout.specs.Placing.{word_offset, pool_here, function_puts, puts_at, stood_at};
+ghost use Rattle.asm_layout.specs.Walks.{entry_at, cursor_place, start, after_fnstart, after_fnend, handling, in_section, with_more_bytes, cursor_after, pool_with, pool_after, ends_pool, pool_place, sizes_with_pool, next};
+ghost use Rattle.asm_layout.specs.Placing.{word_offset, pool_here, function_puts, puts_at, unresolved_stmt};
 
 use crate::given::Data;
 use crate::placed::{PlacedFunction, PlacedPool, PlacedStmt, Puts};
@@ -16,29 +16,34 @@ use crate::{
     bare_form, branch_form, computed_form, data_form, local_form, name_form, nameless_form,
     reader_form, wide_form,
 };
+use asm_relocatable::place::{Place, Section};
 use asm_statements::computation::{
     of_register_number, of_three_registers, of_two_registers, of_two_registers_number,
 };
 use asm_statements::{Stmt, StmtKind};
 use asm_unwind::EntryWords;
-use eh_list::bytes::gap;
+use eh_word::bytes::gap;
 use indexmap::IndexSet;
-use relocatable_object::place::{Place, Section};
 use std::alloc::{AllocError, Global};
 use std::marker::Model;
 use std::mem;
 
-/// How many bytes each section has so far. Sums stop at 2^64 - 1, far above what a section may have.
+/// The size of each section so far, in bytes. Sums are capped at 2^64 - 1, far above what a section may have.
 #[derive(Clone, Copy)]
 pub struct Sizes {
+    /// Bytes of the text.
     pub text: u64,
+    /// Bytes of the read-only data.
     pub rodata: u64,
+    /// Bytes of the exception tables.
     pub extab: u64,
+    /// Bytes of the initialized data.
     pub init: u64,
+    /// Bytes of bss.
     pub bss: u64,
 }
 
-/// The most bytes of a section.
+/// The most bytes that a section may have.
 pub const MOST_BYTES: u64 = 1_048_576;
 
 impl Sizes {
@@ -50,7 +55,7 @@ impl Sizes {
         bss: 0,
     };
 
-    /// The size of a section.
+    /// The size of a section, in bytes.
     pub fn of(self, section: Section) -> u64
         ensures { result ≡ size_in self section }
     {
@@ -65,7 +70,7 @@ impl Sizes {
 
     /// Adds bytes to a section.
     fn grow(&mut self, section: Section, by: u64)
-        ensures { self.new ≡ sizes_grown self.old section by }
+        ensures { self.new ≡ sizes_with_more self.old section by }
     {
         match section {
             Section::Text => self.text = self.text.saturating_add(by),
@@ -76,15 +81,15 @@ impl Sizes {
         }
     }
 
-    /// With more bytes in a section.
-    pub fn grown(mut self, section: Section, by: u64) -> Sizes
-        ensures { result ≡ sizes_grown self section by }
+    /// The sizes with more bytes in a section.
+    pub fn with_more(mut self, section: Section, by: u64) -> Sizes
+        ensures { result ≡ sizes_with_more self section by }
     {
         self.grow(section, by);
         self
     }
 
-    /// Whether a section has more bytes than it may.
+    /// Whether a section has more than `MOST_BYTES` bytes.
     pub fn is_too_large(self) -> bool
         ensures { result ≡ is_too_large self }
     {
@@ -96,7 +101,7 @@ impl Sizes {
     }
 }
 
-/// The number that `.align n` makes places a multiple of; 1 outside 0 to 3.
+/// The alignment in bytes that `.align n` asks for; 1 if n is outside of 0 to 3.
 pub fn multiple(n: i64) -> u64
     ensures { result ≡ multiple n }
 {
@@ -108,16 +113,16 @@ pub fn multiple(n: i64) -> u64
     }
 }
 
-/// A length times the size of an element, at most 2^64 - 1.
+/// A length times the size of an element, capped at 2^64 - 1.
 fn times(len: usize, size: u64) -> u64
     ensures { result ≡ times len size }
 {
     (len as u64).saturating_mul(size)
 }
 
-/// How many bytes data has.
+/// The size of data, in bytes.
 fn data_size(given: Data<'_>) -> u64
-    ensures { result ≡ data_size (given_by given.entry) }
+    ensures { result ≡ data_size (data_value given.entry) }
 {
     match given {
         Data::Fields(width, fields) => times(fields.len(), width.bytes()),
@@ -129,8 +134,8 @@ fn data_size(given: Data<'_>) -> u64
     }
 }
 
-/// The bytes of a statement at a place: an instruction that computes says how many it has; `bl`, `b.w` and the barriers have two halfwords,
-/// the other instructions one; `.align` fills up to a multiple.
+/// The size in bytes of a statement at a place. Computations state their own size; `bl`, `b.w` and the barriers have
+/// two halfwords, other instructions one; `.align` fills up to its multiple.
 fn size_at(place: u64, kind: &StmtKind) -> u64
     ensures { result ≡ size_at place kind.now }
 {
@@ -172,21 +177,23 @@ pub fn is_instruction(kind: &StmtKind) -> bool
     }
 }
 
-/// Where the next statement stands.
+/// The current place of the walk.
 #[derive(Clone, Copy)]
-pub struct Cursor {
+pub struct LayoutPosition {
+    /// The section of the next byte.
     pub section: Section,
-    /// The section that `.handlerdata` left.
+    /// The section to return to at `.fnend`: the one that `.handlerdata` left.
     pub left: Option<Section>,
+    /// The sizes of the sections so far.
     pub sizes: Sizes,
     /// Whether a function is open.
     pub inside: bool,
-    /// How many functions began.
+    /// How many functions have begun.
     pub functions: usize,
 }
 
-impl Cursor {
-    const START: Cursor = Cursor {
+impl LayoutPosition {
+    const START: LayoutPosition = LayoutPosition {
         section: Section::Text,
         left: None,
         sizes: Sizes::NONE,
@@ -194,7 +201,7 @@ impl Cursor {
         functions: 0,
     };
 
-    /// The offset of the next byte in its section.
+    /// The offset in bytes of the next byte in its section.
     fn place(self) -> u64
         ensures { result ≡ size_in self.sizes self.section }
     {
@@ -202,8 +209,8 @@ impl Cursor {
     }
 
     /// The place of the next byte.
-    pub fn here(self) -> Place
-        ensures { result ≡ here self }
+    pub fn cursor_place(self) -> Place
+        ensures { result ≡ cursor_place self }
     {
         Place {
             section: self.section,
@@ -212,7 +219,7 @@ impl Cursor {
     }
 }
 
-/// The bytes that a function's table takes in the exception tables at a place.
+/// The size in bytes of a function's unwind table at a place of the exception tables, alignment included.
 fn table_size(place: u64, entry: &EntryWords) -> u64
     ensures { result ≡ table_size place (Some entry.now) }
 {
@@ -222,7 +229,7 @@ fn table_size(place: u64, entry: &EntryWords) -> u64
     }
 }
 
-/// The entry of a function by its number.
+/// The unwind entry of a function by its number, or None if it has none.
 pub fn entry_at(entries: &[Option<EntryWords>], function: usize) -> Option<&EntryWords>
     ensures { option_map (λ e. e.now) result ≡ entry_at entries.now function }
 {
@@ -232,10 +239,10 @@ pub fn entry_at(entries: &[Option<EntryWords>], function: usize) -> Option<&Entr
     }
 }
 
-impl Cursor {
-    /// Goes past the start of a function: its table stands in the exception tables.
+impl LayoutPosition {
+    /// Passes a `.fnstart`: the function's table takes its room in the exception tables.
     fn start(&mut self, entries: &[Option<EntryWords>])
-        ensures { self.new ≡ started entries.now self.old }
+        ensures { self.new ≡ after_fnstart entries.now self.old }
     {
         if !self.inside && self.functions < usize::MAX {
             let size = match entry_at(entries, self.functions) {
@@ -248,16 +255,16 @@ impl Cursor {
         }
     }
 
-    /// Goes past the end of a function.
+    /// Passes a `.fnend`.
     fn end(&mut self)
-        ensures { self.new ≡ ended self.old }
+        ensures { self.new ≡ after_fnend self.old }
     {
         self.section = self.left.unwrap_or(self.section);
         self.left = None;
         self.inside = false;
     }
 
-    /// Goes to the exception tables, from another section on.
+    /// Switches to the exception tables, unless it is there already.
     fn handle(&mut self)
         ensures { self.new ≡ handling self.old }
     {
@@ -267,19 +274,21 @@ impl Cursor {
         }
     }
 
+    /// Switches to a section.
     fn enter(&mut self, section: Section)
         ensures { self.new ≡ in_section self.old section }
     {
         self.section = section;
     }
 
+    /// Adds bytes to the current section.
     fn grow(&mut self, by: u64)
-        ensures { self.new ≡ grown self.old by }
+        ensures { self.new ≡ with_more_bytes self.old by }
     {
         self.sizes.grow(self.section, by);
     }
 
-    /// The function that begins with a statement.
+    /// The function that a statement begins.
     fn function_puts(self, kind: &StmtKind) -> Puts
         ensures { result ≡ function_puts self kind.now }
     {
@@ -298,7 +307,7 @@ impl Cursor {
         }
     }
 
-    /// Goes past a statement, but for what a pool adds.
+    /// Passes a statement; pools are left out.
     fn pass(&mut self, kind: &StmtKind, entries: &[Option<EntryWords>])
         ensures { self.new ≡ cursor_after entries.now self.old kind.now }
     {
@@ -318,7 +327,7 @@ impl Cursor {
     }
 }
 
-/// The words of the next pool, each once, in the order in which they came; contracts see their list.
+/// The words of the next pool, each once, in the order of their first use. Contracts see a list.
 #[derive(Drop)]
 pub struct Pool {
     words: IndexSet<Word>,
@@ -334,7 +343,7 @@ impl Model for Pool {
 }
 
 impl Pool {
-    /// A pool without words.
+    /// An empty pool.
     fn new(alloc: Global) -> Pool
         ensures { length result ≡ 0 }
     {
@@ -343,8 +352,8 @@ impl Pool {
         }
     }
 
-    /// The place of a word in the pool; it goes last where it isn't there. Without memory the pool stays as it is.
-    fn put(&mut self, word: Word) -> Result<usize, AllocError>
+    /// The index of a word in the pool; a new word is added at the end. If memory runs out, the pool is unchanged.
+    fn intern(&mut self, word: Word) -> Result<usize, AllocError>
         ensures index { IfOk result (λ index. index ≡ position_or_len (same_word word) self.old) }
         ensures pool { OnOk result (self.new ≡ pool_with self.old word) }
         ensures err { OnErr result (self.new ≡ self.old) }
@@ -353,14 +362,14 @@ impl Pool {
         Ok(index)
     }
 
-    /// How many words the pool has.
+    /// The number of words.
     pub(crate) fn len(&self) -> usize
         ensures { result ≡ length self.now }
     {
         self.words.len()
     }
 
-    /// The words in order.
+    /// The words, in order.
     fn into_words(self, alloc: Global) -> Result<Words, AllocError>
         ensures { IfOk result (λ words. words ≡ self) }
     {
@@ -372,25 +381,27 @@ impl Pool {
     }
 }
 
-/// A walk over the statements: where the next one stands, and the words that the next pool has so far.
+/// A walk over statements.
 #[derive(Drop)]
 pub struct Walk {
-    pub at: Cursor,
+    /// The current place.
+    pub at: LayoutPosition,
+    /// The words of the next pool so far.
     pub pool: Pool,
 }
 
 impl Walk {
-    /// Before the first statement.
+    /// The walk before the first statement.
     pub(crate) fn new(alloc: Global) -> Walk
         ensures { result ≡ start }
     {
         Walk {
-            at: Cursor::START,
+            at: LayoutPosition::START,
             pool: Pool::new(alloc),
         }
     }
 
-    /// Where a pool that ends here begins.
+    /// Where a pool that is emitted here begins.
     pub(crate) fn pool_place(&self) -> u64
         ensures { result ≡ pool_place self.now }
     {
@@ -400,14 +411,14 @@ impl Walk {
             .saturating_add(gap(self.at.sizes.text, 4))
     }
 
-    /// Whether a statement ends a pool that has words.
+    /// Whether a statement emits a pool with words.
     pub(crate) fn ends_pool(&self, kind: &StmtKind) -> bool
         ensures { result ≡ ends_pool self.now kind.now }
     {
         matches!(kind, StmtKind::Pool) && self.at.section == Section::Text && self.pool.len() > 0
     }
 
-    /// The sizes with the pool that ends here, which is nothing where it has no words.
+    /// The sizes after the pool that is emitted here. A pool without words adds nothing.
     pub(crate) fn sizes_with_pool(&self) -> Sizes
         ensures { result ≡ sizes_with_pool self.now }
     {
@@ -415,10 +426,10 @@ impl Walk {
             return self.at.sizes;
         }
         let by = gap(self.at.sizes.text, 4).saturating_add(times(self.pool.len(), 4));
-        self.at.sizes.grown(Section::Text, by)
+        self.at.sizes.with_more(Section::Text, by)
     }
 
-    /// The pool that is to come, where nothing comes after it.
+    /// The pool that is emitted at the end of the text.
     pub(crate) fn into_pool(self, alloc: Global) -> Result<PlacedPool, AllocError>
         ensures { IfOk result (λ pool. pool ≡ pool_here self) }
     {
@@ -428,7 +439,7 @@ impl Walk {
         })
     }
 
-    /// How far after the start of its pool the word of a statement stands; it goes last where it isn't there.
+    /// The offset in bytes of a statement's word in its pool; a new word is added. None if it loads none.
     fn put_word(&mut self, alloc: Global, kind: &StmtKind) -> Result<Option<u64>, AllocError>
         ensures word { IfOk result (λ word. word ≡ word_offset self.old kind.now) }
         ensures walk { OnOk result (self.new ≡ record self.old { pool = pool_after self.old kind.now }) }
@@ -438,14 +449,14 @@ impl Walk {
                 if self.at.section != Section::Text {
                     return Ok(None);
                 }
-                let index = self.pool.put(word_of(alloc, value.expr())?)?;
+                let index = self.pool.intern(word_of(alloc, value.expr())?)?;
                 Ok(Some(times(index, 4)))
             }
             _ => Ok(None),
         }
     }
 
-    /// What a `.pool` puts here, after which the walk goes.
+    /// Emits the pool at a `.pool` and passes it.
     fn end_pool(&mut self, alloc: Global) -> Result<Puts, AllocError>
         ensures puts { IfOk result (λ puts. puts ≡ puts_at self.old ForPool) }
         ensures walk { OnOk result (self.new ≡ next [] self.old ForPool) }
@@ -459,17 +470,17 @@ impl Walk {
         Ok(Puts::Pool(PlacedPool { from, words }))
     }
 
-    /// A statement where the walk stands, its word by its offset in the pool; the walk goes after it.
+    /// Places a statement and passes it. Its pool word is still an offset in the pool.
     pub(crate) fn place<'a>(
         &mut self,
         alloc: Global,
         stmt: &'a Stmt,
         entries: &[Option<EntryWords>],
     ) -> Result<PlacedStmt<'a>, AllocError>
-        ensures placed { IfOk result (λ placed. placed ≡ stood_at self.old stmt.now) }
+        ensures placed { IfOk result (λ placed. placed ≡ unresolved_stmt self.old stmt.now) }
         ensures walk { OnOk result (self.new ≡ next entries.now self.old stmt.now.kind) }
     {
-        let at = self.at.here();
+        let at = self.at.cursor_place();
         match &stmt.kind {
             StmtKind::Pool => {
                 let puts = self.end_pool(alloc)?;

@@ -7,12 +7,12 @@ use Rattle.asm_layout.specs.declared.fault.AsmWhat.{AsmWhat}
 use Rattle.asm_layout.specs.declared.placed.PlacedPool.{PlacedPool}
 use Rattle.asm_layout.specs.PlacedStmt.{PlacedStmt}
 use Rattle.asm_layout.specs.Faults.{fault_at, first_of, first_of_all}
-use Rattle.asm_layout.specs.Labels.{Named}
+use Rattle.asm_layout.specs.Labels.{NamePlace}
 use Rattle.asm_layout.proofs.FaultLaws.{first_after}
 use Rattle.asm_layout.proofs.FirstLaws.{some_stays}
-use Rattle.relocatable_object.specs.declared.object.IndexRow.{IndexRow}
+use Rattle.asm_relocatable.specs.declared.object.IndexRow.{IndexRow}
 use Rattle.asm_object.specs.declared.parts.Sections.{Sections}
-use Rattle.asm_object.specs.Pieces.{pieces_at, pieces_of, put_rows, rows_of}
+use Rattle.asm_object.specs.Pieces.{pieces_at, pieces_of, rows_of_puts, rows_of}
 use Rattle.asm_object.specs.Objects.{faults_at, refusals_at, refusals_of}
 use Rattle.asm_object.specs.Built.{with_piece, with_pieces}
 
@@ -26,17 +26,17 @@ pub none_before : (first : Option AsmFault) (faults : List AsmFault) → first_o
 none_before None faults e = refl
 none_before (Some fault) faults e = absurd (some_stays fault faults e)
 
-pub first_more : (labels : List Named) (before after all : Option AsmFault) (placed : PlacedStmt) (more : List PlacedStmt) → after ≡ first_of_all before (refusals_at labels placed)
+pub first_more : (labels : List NamePlace) (before after all : Option AsmFault) (placed : PlacedStmt) (more : List PlacedStmt) → after ≡ first_of_all before (refusals_at labels placed)
     → first_of_all before (refusals_of labels (placed ∷ more)) ≡ all → first_of_all after (refusals_of labels more) ≡ all
 first_more labels before after all placed more a e = rw (a, ← first_after before (refusals_at labels placed) (refusals_of labels more)) e
 
-pub sections_more : (entries : List (Option EntryWords)) (labels : List Named) (before after all : Sections) (placed : PlacedStmt) (more : List PlacedStmt) (last : PlacedPool)
+pub sections_more : (entries : List (Option EntryWords)) (labels : List NamePlace) (before after all : Sections) (placed : PlacedStmt) (more : List PlacedStmt) (last : PlacedPool)
     → after ≡ with_pieces before (pieces_at entries labels placed) → with_pieces before (pieces_of entries labels (placed ∷ more) last) ≡ all
     → with_pieces after (pieces_of entries labels more last) ≡ all
 unfolding pieces_of
 sections_more entries labels before after all placed more last a e =
     rw (a, ← fold-append with_piece before (pieces_at entries labels placed) (pieces_of entries labels more last)) e
 
-pub rows_more : (entries : List (Option EntryWords)) (before after all : List IndexRow) (placed : PlacedStmt) (more : List PlacedStmt) → after ≡ before ++ put_rows entries placed.puts
+pub rows_more : (entries : List (Option EntryWords)) (before after all : List IndexRow) (placed : PlacedStmt) (more : List PlacedStmt) → after ≡ before ++ rows_of_puts entries placed.puts
     → before ++ rows_of entries (placed ∷ more) ≡ all → after ++ rows_of entries more ≡ all
 rows_more entries before after all placed more a e = rw (a, append_assoc) e

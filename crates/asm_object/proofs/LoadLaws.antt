@@ -12,35 +12,35 @@ use Rattle.asm_statements.specs.declared.statement.Stmt.{Stmt}
 use Rattle.asm_statements.specs.declared.statement.StmtKind.{StmtKind}
 use Rattle.asm_statements.specs.declared.statement.StmtKind.TheVariants as stmt
 use Rattle.thumb_isa.specs.declared.instr.Instr.TheVariants.{LdrLit}
-use Rattle.thumb_encode.specs.Codes.{encoded_of}
+use Rattle.thumb_encode.specs.Codes.{encode_result}
 use Rattle.asm_unwind.specs.declared.entry.EntryWords.{EntryWords}
 use Rattle.asm_layout.specs.declared.walk.Sizes.{Sizes}
 use Rattle.asm_layout.specs.declared.walk.Walk.{Walk}
 use Rattle.asm_layout.specs.declared.walk.TheConstants.{MOST_BYTES}
 use Rattle.asm_layout.specs.declared.word.Word.{Word}
 use Rattle.asm_layout.specs.declared.word.Word.TheVariants as word
-use Rattle.relocatable_object.specs.declared.place.Section.TheVariants.{Text}
+use Rattle.asm_relocatable.specs.declared.place.Section.TheVariants.{Text}
 use Rattle.asm_layout.specs.Words.{word_of}
 use Rattle.asm_layout.specs.SameWords.{same_word}
 use Rattle.asm_layout.specs.Functions.{entries_of, no_frame}
-use Rattle.asm_layout.specs.Labels.{Named, labels_of}
+use Rattle.asm_layout.specs.Labels.{NamePlace, labels_of}
 use Rattle.asm_layout.specs.Sizes.{sum_64, times, is_too_large}
-use Rattle.eh_list.specs.Bytes.{gap}
-use Rattle.asm_layout.specs.Walks.{start, here, next, is_empty, is_in_text, ends_pool, pool_with, pool_place, coming_pool, sizes_with_pool, walk_after}
-use Rattle.relocatable_object.specs.Sections.{same_section}
+use Rattle.eh_word.specs.Bytes.{gap}
+use Rattle.asm_layout.specs.Walks.{start, cursor_place, next, is_empty, is_in_text, ends_pool, pool_with, pool_place, coming_pool, sizes_with_pool, walk_after}
+use Rattle.asm_relocatable.specs.Sections.{same_section}
 use Rattle.asm_layout.proofs.LayoutLaws.{same_bytes-true}
 use Rattle.asm_object.specs.Bytes.{word_bytes, filling_bytes}
-use Rattle.asm_object.specs.Values.{held}
+use Rattle.asm_object.specs.Values.{section_word}
 use Rattle.asm_object.specs.Pieces.{Piece, words_bytes, pool_pieces, bytes_in, bytes_of_code, pieces_of}
 use Rattle.asm_object.specs.Refusals.{instruction_fault, refusal}
 use Rattle.asm_object.specs.LoadLaw.{LoadsItsWord, LoadsReadTheirWords}
-use Rattle.relocatable_object.specs.declared.object.Object.{Object}
+use Rattle.asm_relocatable.specs.declared.object.Object.{Object}
 use Rattle.asm_object.specs.Instructions.{literal, literal_to}
-use Rattle.asm_object.specs.Objects.{joined}
+use Rattle.asm_object.specs.Objects.{assembled_object}
 use Rattle.asm_object.proofs.PlaceLaws.{Fewer, filled_length, words_length, not_large, none_parts, none_after, walks_on, law_of_ends, law_of_bytes, refusal_parts, not_false, text_here, gives, loads}
 use Rattle.asm_object.proofs.ObjectLaws.{taken, ends_small, entries_count}
 use Rattle.asm_object.proofs.Statements.{walk_pieces}
-use Rattle.asm_layout.specs.Placing.{word_place, placed_from, pool_here}
+use Rattle.asm_layout.specs.Placing.{word_place, place_stmts_from, pool_here}
 use Rattle.asm_object.specs.After.{pieces_from, refusals_from}
 
 -- ---- where a word goes in its pool
@@ -105,13 +105,13 @@ pool_keeps entries walk _ word at e h = h
 -- ---- the bytes of a pool
 
 -- bytes have a word's at a place
-record WordThere (labels : List Named) (text coming : ℕ) (bytes : List ℕ) (word : Word) (at : ℕ) : Type 0 where
+record WordThere (labels : List NamePlace) (text coming : ℕ) (bytes : List ℕ) (word : Word) (at : ℕ) : Type 0 where
   before : List ℕ
   after : List ℕ
-  split : bytes ≡ before ++ word_bytes (held labels word) ++ after
+  split : bytes ≡ before ++ word_bytes (section_word labels word) ++ after
   place : coming + at * 4 ≡ text + length before
 
-pool_has : (labels : List Named) (walk : Walk) (word : Word) (at : ℕ) (rest all : List ℕ) → HasWord walk.pool word at
+pool_has : (labels : List NamePlace) (walk : Walk) (word : Word) (at : ℕ) (rest all : List ℕ) → HasWord walk.pool word at
     → (sizes_with_pool walk).text ≤ MOST_BYTES → all ≡ bytes_in Text (pool_pieces labels (pool_here walk)) ++ rest
     → WordThere labels walk.at.sizes.text (pool_place walk) all word at
 pool_has labels walk word at rest all h small is =
@@ -119,7 +119,7 @@ pool_has labels walk word at rest all h small is =
     let front = words_bytes labels h.front in
     let filled = has_some walk.pool word at h in
     let low = rw filled at small in
-    let words : words_bytes labels walk.pool ≡ front ++ (word_bytes (held labels word) ++ words_bytes labels h.back) = rw (h.split, flat_map-append) in
+    let words : words_bytes labels walk.pool ≡ front ++ (word_bytes (section_word labels word) ++ words_bytes labels h.back) = rw (h.split, flat_map-append) in
     record {
       before = filling_bytes fill ++ front;
       after = words_bytes labels h.back ++ rest;
@@ -133,14 +133,14 @@ pub ends_sizes : (entries : List (Option EntryWords)) (walk : Walk) (kind : Stmt
 ends_sizes entries walk stmt.Pool e = rw (and_true (is_in_text walk.at) (not (is_empty walk.pool)) e).0
 ends_sizes entries walk _ e = cc
 
-ends_pieces : (entries : List (Option EntryWords)) (labels : List Named) (walk : Walk) (word : Option ℕ) (kind : StmtKind) → ends_pool walk kind ≡ true
+ends_pieces : (entries : List (Option EntryWords)) (labels : List NamePlace) (walk : Walk) (word : Option ℕ) (kind : StmtKind) → ends_pool walk kind ≡ true
     → bytes_in Text (walk_pieces entries labels walk word kind) ≡ bytes_in Text (pool_pieces labels (pool_here walk))
 ends_pieces entries labels walk word stmt.Pool e =
     let text = (and_true (is_in_text walk.at) (not (is_empty walk.pool)) e).0 in
     rw (flat_map-append, text, append-nil)
 ends_pieces entries labels walk word _ e = cc
 
-stays : (entries : List (Option EntryWords)) (labels : List Named) (walk : Walk) (kind : StmtKind) (own rest : List Piece) (later end : ℕ) (word : Word) (at : ℕ) (b : Bool)
+stays : (entries : List (Option EntryWords)) (labels : List NamePlace) (walk : Walk) (kind : StmtKind) (own rest : List Piece) (later end : ℕ) (word : Word) (at : ℕ) (b : Bool)
     → ends_pool walk kind ≡ b → (ends_pool walk kind ≡ true → bytes_in Text own ≡ bytes_in Text (pool_pieces labels (pool_here walk)))
     → (next entries walk kind).at.sizes.text + length (bytes_in Text rest) ≡ end → walk.at.sizes.text + length (bytes_in Text (own ++ rest)) ≡ end → end ≤ MOST_BYTES
     → HasWord walk.pool word at
@@ -160,17 +160,17 @@ stays entries labels walk kind own rest later end word at false e pool ends all 
       place = omega (arith, h.place, ends, all, ap length both, length-append first (bytes_in Text rest), length-append first h.before);
     }
 
-word_stays : (entries : List (Option EntryWords)) (labels : List Named) (walk : Walk) (stmts : List Stmt) (word : Word) (at : ℕ) → Fewer entries
+word_stays : (entries : List (Option EntryWords)) (labels : List NamePlace) (walk : Walk) (stmts : List Stmt) (word : Word) (at : ℕ) → Fewer entries
     → refusals_from entries labels walk stmts ≡ [] → is_too_large (sizes_with_pool (walk_after entries walk stmts)) ≡ false → HasWord walk.pool word at
     → WordThere labels walk.at.sizes.text (coming_pool entries walk stmts) (bytes_in Text (pieces_from entries labels walk stmts)) word at
-unfolding pieces_of placed_from walk_after coming_pool
+unfolding pieces_of place_stmts_from walk_after coming_pool
 word_stays entries labels walk [] word at few r h there =
     pool_has labels walk word at [] _ there (not_large (sizes_with_pool walk) Text h) (sym (append-nil (bytes_in Text (pool_pieces labels (pool_here walk)))))
 word_stays entries labels walk (stmt ∷ more) word at few r h there =
     let after = next entries walk stmt.kind in
     let end = (sizes_with_pool (walk_after entries after more)).text in
     let place = word_place walk stmt.kind (cond (ends_pool walk stmt.kind) (pool_place walk) (coming_pool entries after more)) in
-    let parts = none_parts stmt.line (refusal labels stmt.kind walk.at.section (here walk.at).offset place) (refusals_from entries labels after more) r in
+    let parts = none_parts stmt.line (refusal labels stmt.kind walk.at.section (cursor_place walk.at).offset place) (refusals_from entries labels after more) r in
     stays entries labels walk stmt.kind (walk_pieces entries labels walk place stmt.kind) (pieces_from entries labels after more) (coming_pool entries after more) end word at
     (ends_pool walk stmt.kind) refl (ends_pieces entries labels walk place stmt.kind)
     (law_of_ends entries labels after more Text few parts.1 h) (law_of_ends entries labels walk (stmt ∷ more) Text few r h)
@@ -179,7 +179,7 @@ word_stays entries labels walk (stmt ∷ more) word at few r h there =
 
 -- ---- bytes after a statement, and of the statement itself
 
-after_one : (entries : List (Option EntryWords)) (labels : List Named) (before : List Stmt) (stmt : Stmt) (more : List Stmt) → Fewer entries
+after_one : (entries : List (Option EntryWords)) (labels : List NamePlace) (before : List Stmt) (stmt : Stmt) (more : List Stmt) → Fewer entries
     → refusals_from entries labels start (before ++ stmt ∷ more) ≡ [] → is_too_large (sizes_with_pool (walk_after entries start (before ++ stmt ∷ more))) ≡ false
     → drop (next entries (walk_after entries start before) stmt.kind).at.sizes.text (bytes_in Text (pieces_from entries labels start (before ++ stmt ∷ more)))
     ≡ bytes_in Text (pieces_from entries labels (next entries (walk_after entries start before) stmt.kind) more)
@@ -210,7 +210,7 @@ load_there : (stmts before more : List Stmt) (line t : ℕ) (value : Expr) (obje
     refusals_from entries labels walk (load line t value ∷ more) ≡ [] → is_too_large (sizes_with_pool (walk_after entries walk (load line t value ∷ more))) ≡ false
     → drop walk.at.sizes.text object.text ≡ bytes_in Text (pieces_from entries labels walk (load line t value ∷ more))
     → drop after.at.sizes.text object.text ≡ bytes_in Text (pieces_from entries labels after more) → LoadsItsWord stmts before t value object
-unfolding placed_from walk_after pieces_of coming_pool
+unfolding place_stmts_from walk_after pieces_of coming_pool
 load_there stmts before more line t value object few r h own rest =
     let entries = entries_of stmts in
     let labels = labels_of entries stmts in
@@ -220,8 +220,8 @@ load_there stmts before more line t value object few r h own rest =
     let coming = coming_pool entries after more in
     let at = position_or_len (same_word (word_of value)) walk.pool in
     let word = word_place walk kind coming in
-    let parts = none_parts line (refusal labels kind walk.at.section (here walk.at).offset word) (refusals_from entries labels after more) r in
-    let mine = refusal_parts labels kind walk.at.section (here walk.at).offset word parts.0 in
+    let parts = none_parts line (refusal labels kind walk.at.section (cursor_place walk.at).offset word) (refusals_from entries labels after more) r in
+    let mine = refusal_parts labels kind walk.at.section (cursor_place walk.at).offset word parts.0 in
     let text = not_false (same_section walk.at.section Text) mine.1.1 in
     let put : HasWord after.pool (word_of value) at = rw text (put_there walk.pool (word_of value)) in
     let there = word_stays entries labels after more (word_of value) at few parts.1 h put in
@@ -230,24 +230,24 @@ load_there stmts before more line t value object few r h own rest =
     let pool_word_place = sum_64 coming (times at 4) in
     let is : word ≡ Some pool_word_place = ap (λ b. option_map (sum_64 coming) (cond b (Some (times at 4)) None)) text in
     let place : pool_word_place ≡ after.at.sizes.text + length there.before =
-    omega (arith, there.place, ap length there.split, length-append (there.before ++ word_bytes (held labels (word_of value))) there.after, length-append there.before (word_bytes (held labels (word_of value))), ends, large) in
-    let taken : instruction_fault (Some (LdrLit t (literal pool_word_place (here walk.at).offset))) ≡ None =
-    ap (λ o. instruction_fault (Some (LdrLit t (literal_to o (here walk.at).offset)))) (sym is) ∙ loads entries labels walk kind more word refl large parts.0 refl in
-    let has = (gives (LdrLit t (literal pool_word_place (here walk.at).offset))).has taken in
+    omega (arith, there.place, ap length there.split, length-append (there.before ++ word_bytes (section_word labels (word_of value))) there.after, length-append there.before (word_bytes (section_word labels (word_of value))), ends, large) in
+    let taken : instruction_fault (Some (LdrLit t (literal pool_word_place (cursor_place walk.at).offset))) ≡ None =
+    ap (λ o. instruction_fault (Some (LdrLit t (literal_to o (cursor_place walk.at).offset)))) (sym is) ∙ loads entries labels walk kind more word refl large parts.0 refl in
+    let has = (gives (LdrLit t (literal pool_word_place (cursor_place walk.at).offset))).has taken in
     record {
       place = pool_word_place;
-      word = four_there object.text _ there.before (word_bytes (held labels (word_of value))) there.after after.at.sizes.text pool_word_place rest there.split refl place;
+      word = four_there object.text _ there.before (word_bytes (section_word labels (word_of value))) there.after after.at.sizes.text pool_word_place rest there.split refl place;
       code = ap (λ n. take 2 (drop n object.text)) (text_here walk.at.sizes walk.at.section text)
           ∙ ap (take 2) own
-          ∙ ap (λ b. take 2 (cond b (bytes_of_code (encoded_of (LdrLit t (literal_to word (here walk.at).offset)))) [] ++ bytes_in Text (pieces_from entries labels after more))) text
-          ∙ ap (λ o. take 2 (bytes_of_code (encoded_of (LdrLit t (literal_to o (here walk.at).offset))) ++ bytes_in Text (pieces_from entries labels after more))) is
+          ∙ ap (λ b. take 2 (cond b (bytes_of_code (encode_result (LdrLit t (literal_to word (cursor_place walk.at).offset)))) [] ++ bytes_in Text (pieces_from entries labels after more))) text
+          ∙ ap (λ o. take 2 (bytes_of_code (encode_result (LdrLit t (literal_to o (cursor_place walk.at).offset))) ++ bytes_in Text (pieces_from entries labels after more))) is
           ∙ first_two _ _ has;
     }
 
 -- ---- the law
 
 pub law_of_loads : LoadsReadTheirWords
-unfolding joined
+unfolding assembled_object
 law_of_loads before more line t value object few e =
     let stmts = before ++ load line t value ∷ more in
     let entries = entries_of stmts in

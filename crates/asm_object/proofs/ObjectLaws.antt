@@ -15,9 +15,9 @@ use Rattle.asm_unwind.specs.declared.directive.UnwindDirective.{UnwindDirective}
 use Rattle.asm_unwind.specs.declared.entry.EntryWords.{EntryWords}
 use Rattle.asm_unwind.specs.declared.entry.EntryWords.TheVariants as entry
 use Rattle.asm_layout.specs.declared.fault.AsmFault.{AsmFault}
-use Rattle.relocatable_object.specs.declared.place.Place.{Place}
-use Rattle.relocatable_object.specs.declared.place.Section.{Section}
-use Rattle.relocatable_object.specs.declared.place.Section.TheVariants.{Text, Rodata, Extab, Init, Bss}
+use Rattle.asm_relocatable.specs.declared.place.Place.{Place}
+use Rattle.asm_relocatable.specs.declared.place.Section.{Section}
+use Rattle.asm_relocatable.specs.declared.place.Section.TheVariants.{Text, Rodata, Extab, Init, Bss}
 use Rattle.asm_layout.specs.declared.walk.Sizes.{Sizes}
 use Rattle.asm_layout.specs.declared.walk.Walk.{Walk}
 use Rattle.asm_layout.specs.declared.walk.TheConstants.{MOST_BYTES}
@@ -25,26 +25,26 @@ use Rattle.asm_layout.specs.declared.word.Word.{Word}
 use Rattle.asm_layout.specs.declared.word.Word.TheVariants as word
 use Rattle.asm_layout.specs.Faults.{first_of_all, fault_if}
 use Rattle.asm_layout.specs.Functions.{Frame, directive_of, next_frame, new_entries, entries_from, entries_of, no_frame, unwind_faults_of}
-use Rattle.asm_layout.specs.Labels.{Named, labels_of, duplicates_from, too_large_from}
-use Rattle.asm_layout.specs.Sizes.{sum_64, times, multiple, size_in, sizes_grown, is_too_large}
-use Rattle.eh_list.specs.Bytes.{gap}
-use Rattle.asm_layout.specs.Walks.{start, next, coming_pool, here, is_empty, is_in_text, entry_at, pool_place, sizes_with_pool, walk_after}
-use Rattle.relocatable_object.specs.Sections.{same_section}
+use Rattle.asm_layout.specs.Labels.{NamePlace, labels_of, duplicates_from, too_large_from}
+use Rattle.asm_layout.specs.Sizes.{sum_64, times, multiple, size_in, sizes_with_more, is_too_large}
+use Rattle.eh_word.specs.Bytes.{gap}
+use Rattle.asm_layout.specs.Walks.{start, next, coming_pool, cursor_place, is_empty, is_in_text, entry_at, pool_place, sizes_with_pool, walk_after}
+use Rattle.asm_relocatable.specs.Sections.{same_section}
 use Rattle.asm_layout.specs.Words.{word_of}
-use Rattle.relocatable_object.specs.declared.object.Object.{Object}
-use Rattle.relocatable_object.specs.declared.object.Reloc.{Reloc}
+use Rattle.asm_relocatable.specs.declared.object.Object.{Object}
+use Rattle.asm_relocatable.specs.declared.object.Reloc.{Reloc}
 use Rattle.asm_object.specs.Instructions.{linked_unless, text_place}
 use Rattle.asm_object.specs.Values.{link_of}
-use Rattle.asm_object.specs.Pieces.{Piece, place_at, relocs_of, word_relocs, filling_piece, words_piece, pool_pieces, table_pieces, own_piece, relocs_in, bytes_in, put_pieces, pieces_of}
+use Rattle.asm_object.specs.Pieces.{Piece, place_at, relocs_of, word_relocs, filling_piece, words_piece, pool_pieces, table_pieces, own_piece, relocs_in, bytes_in, pieces_of_puts, pieces_of}
 use Rattle.asm_object.specs.Refusals.{refusal}
-use Rattle.asm_object.specs.Objects.{faults_of, joined, object_unless, object_of}
-use Rattle.asm_object.specs.ObjectLaw.{kinds, FieldsStandInOrder, RelocsGoBySection, RelocsHaveKinds}
-use Rattle.relocatable_object.specs.Fields.{StandInOrder, relocs_at, bytes_at}
-use Rattle.relocatable_object.specs.Relocations.{field_size}
+use Rattle.asm_object.specs.Objects.{faults_of, assembled_object, object_unless, object_of}
+use Rattle.asm_object.specs.ObjectLaw.{relocation_kinds, FieldsStandInOrder, RelocsGoBySection, RelocsHaveKinds}
+use Rattle.asm_relocatable.specs.Fields.{StandInOrder, relocs_at, bytes_at}
+use Rattle.asm_relocatable.specs.Relocations.{field_size}
 use Rattle.asm_layout.proofs.FirstLaws.{law_of_none}
 use Rattle.asm_object.proofs.PlaceLaws.{Fewer, not_large, next_sizes, none_parts, law_of_ends, earlier, split}
 use Rattle.asm_object.proofs.Statements.{walk_sets, walk_pieces}
-use Rattle.asm_layout.specs.Placing.{word_place, placed_from, pool_here, pool_puts, function_here}
+use Rattle.asm_layout.specs.Placing.{word_place, place_stmts_from, pool_here, pool_puts, function_here}
 use Rattle.asm_layout.specs.declared.placed.Puts.TheVariants as puts
 use Rattle.asm_object.specs.After.{pieces_from, refusals_from}
 
@@ -55,13 +55,13 @@ both_none [] ys e = (refl, e)
 both_none (x ∷ xs) ys e = absurd (cc)
 
 pub record IsTaken (stmts : List Stmt) (object : Object) : Type 0 where
-  pub object_is : object ≡ joined stmts
+  pub object_is : object ≡ assembled_object stmts
   pub unwound : unwind_faults_of stmts ≡ []
   pub unique : duplicates_from [] stmts ≡ []
   pub small : too_large_from (entries_of stmts) start 0 stmts ≡ []
   pub unrefused : refusals_from (entries_of stmts) (labels_of (entries_of stmts) stmts) start stmts ≡ []
 
-taken_by : (stmts : List Stmt) (object : Object) → object ≡ joined stmts → faults_of stmts ≡ [] → IsTaken stmts object
+taken_by : (stmts : List Stmt) (object : Object) → object ≡ assembled_object stmts → faults_of stmts ≡ [] → IsTaken stmts object
 unfolding faults_of
 taken_by stmts object o e =
     let entries = entries_of stmts in
@@ -74,7 +74,7 @@ pub taken : (stmts : List Stmt) (object : Object) → object_of stmts ≡ Ok obj
 unfolding object_of
 taken stmts object e = by (first_of_all None (faults_of stmts)) refl e
   where
-    by : (first : Option AsmFault) → first_of_all None (faults_of stmts) ≡ first → object_unless first (joined stmts) ≡ Ok object → IsTaken stmts object
+    by : (first : Option AsmFault) → first_of_all None (faults_of stmts) ≡ first → object_unless first (assembled_object stmts) ≡ Ok object → IsTaken stmts object
     by (Some fault) f e = absurd (cc)
     by None f e = taken_by stmts object (cc) (law_of_none (faults_of stmts) f)
 
@@ -141,9 +141,9 @@ diagonal a by relocs h k =
     let e : min (a + by) (2 ^ 64 - 1) ≡ a + by = omega (arith, h) in
     rw (append-nil, e) (k (omega (arith, h)))
 
-grown_stand : (sizes : Sizes) (own s : Section) (by : ℕ) (relocs : List Reloc) → size_in (sizes_grown sizes own by) s ≤ MOST_BYTES
+grown_stand : (sizes : Sizes) (own s : Section) (by : ℕ) (relocs : List Reloc) → size_in (sizes_with_more sizes own by) s ≤ MOST_BYTES
     → (size_in sizes own + by ≤ MOST_BYTES → StandInOrder (size_in sizes own) relocs (size_in sizes own + by))
-    → StandInOrder (size_in sizes s) (cond (same_section own s) relocs [] ++ []) (size_in (sizes_grown sizes own by) s)
+    → StandInOrder (size_in sizes s) (cond (same_section own s) relocs [] ++ []) (size_in (sizes_with_more sizes own by) s)
 grown_stand sizes Text Text by relocs h k = diagonal sizes.text by relocs h k
 grown_stand sizes Rodata Rodata by relocs h k = diagonal sizes.rodata by relocs h k
 grown_stand sizes Extab Extab by relocs h k = diagonal sizes.extab by relocs h k
@@ -163,17 +163,17 @@ table_unlinked : (place : ℕ) (entry : Option EntryWords) (s : Section) → rel
 table_unlinked place (Some (entry.Table words)) s = grind arith
 table_unlinked place _ s = refl
 
-pub start_unlinked : (entries : List (Option EntryWords)) (labels : List Named) (walk : Walk) (s : Section) → relocs_in s (walk_sets entries labels walk stmt.FnStart) ≡ []
+pub start_unlinked : (entries : List (Option EntryWords)) (labels : List NamePlace) (walk : Walk) (s : Section) → relocs_in s (walk_sets entries labels walk stmt.FnStart) ≡ []
 start_unlinked entries labels walk s = grind (arith, table_unlinked walk.at.sizes.extab (entry_at entries walk.at.functions) s)
 
 -- ---- pools
 
-pool_stands : (labels : List Named) (walk : Walk) (s : Section) → size_in (sizes_with_pool walk) s ≤ MOST_BYTES
+pool_stands : (labels : List NamePlace) (walk : Walk) (s : Section) → size_in (sizes_with_pool walk) s ≤ MOST_BYTES
     → StandInOrder (size_in walk.at.sizes s) (relocs_in s (pool_pieces labels (pool_here walk))) (size_in (sizes_with_pool walk) s)
 pool_stands labels walk s =
     let place = pool_place walk in
     let by = sum_64 (gap walk.at.sizes.text 4) (times (length walk.pool) 4) in
-    let sizes = λ (b : Bool). cond b walk.at.sizes (sizes_grown walk.at.sizes Text by) in
+    let sizes = λ (b : Bool). cond b walk.at.sizes (sizes_with_more walk.at.sizes Text by) in
     let filling = filling_piece (place_at Text walk.at.sizes.text) (gap walk.at.sizes.text 4) in
     let words = words_piece labels (place_at Text place) walk.pool in
     elim (is_empty walk.pool) as (λ b. size_in (sizes b) s ≤ MOST_BYTES → StandInOrder (size_in walk.at.sizes s) (relocs_in s (cond b [] (filling ∷ words ∷ []))) (size_in (sizes b) s)) [
@@ -184,55 +184,55 @@ pool_stands labels walk s =
 
 -- ---- one statement
 
-statement_stands : (entries : List (Option EntryWords)) (labels : List Named) (walk : Walk) (word : Option ℕ) (kind : StmtKind) (s : Section)
+statement_stands : (entries : List (Option EntryWords)) (labels : List NamePlace) (walk : Walk) (word : Option ℕ) (kind : StmtKind) (s : Section)
     → size_in (next entries walk kind).at.sizes s ≤ MOST_BYTES
     → StandInOrder (size_in walk.at.sizes s) (relocs_in s (walk_pieces entries labels walk word kind)) (size_in (next entries walk kind).at.sizes s)
 statement_stands entries labels walk word (stmt.Bl name) s h =
-    grown_stand walk.at.sizes walk.at.section s 4 _ h (λ k. link_stands (here walk.at) (text_place labels name) 10 name 4 k (omega arith))
+    grown_stand walk.at.sizes walk.at.section s 4 _ h (λ k. link_stands (cursor_place walk.at) (text_place labels name) 10 name 4 k (omega arith))
 statement_stands entries labels walk word (stmt.B name) s h =
-    grown_stand walk.at.sizes walk.at.section s 2 _ h (λ k. link_stands (here walk.at) (text_place labels name) 102 name 2 k (omega arith))
+    grown_stand walk.at.sizes walk.at.section s 2 _ h (λ k. link_stands (cursor_place walk.at) (text_place labels name) 102 name 2 k (omega arith))
 statement_stands entries labels walk word (stmt.BCond c name) s h =
-    grown_stand walk.at.sizes walk.at.section s 2 _ h (λ k. link_stands (here walk.at) (text_place labels name) 103 name 2 k (omega arith))
+    grown_stand walk.at.sizes walk.at.section s 2 _ h (λ k. link_stands (cursor_place walk.at) (text_place labels name) 103 name 2 k (omega arith))
 statement_stands entries labels walk word (stmt.Words words) s h =
     grown_stand walk.at.sizes walk.at.section s (times (length words) 4) _ h (λ k. words_stand walk.at.section _ _ (map word_of words) (omega (arith, length-map words word_of)) k)
 statement_stands entries labels walk word (stmt.Align n) s h =
-    let filling = filling_piece (here walk.at) (gap (here walk.at).offset (multiple n)) in
-    rw (last_unlinked s (filling ∷ []) (own_piece labels (stmt.Align n) (here walk.at) word) refl, unlinked s filling [] refl) (omega (arith, h, next_sizes entries walk (stmt.Align n) s))
+    let filling = filling_piece (cursor_place walk.at) (gap (cursor_place walk.at).offset (multiple n)) in
+    rw (last_unlinked s (filling ∷ []) (own_piece labels (stmt.Align n) (cursor_place walk.at) word) refl, unlinked s filling [] refl) (omega (arith, h, next_sizes entries walk (stmt.Align n) s))
 statement_stands entries labels walk word stmt.FnStart s h =
-    rw (last_unlinked s (walk_sets entries labels walk stmt.FnStart) (own_piece labels stmt.FnStart (here walk.at) word) refl, start_unlinked entries labels walk s)
+    rw (last_unlinked s (walk_sets entries labels walk stmt.FnStart) (own_piece labels stmt.FnStart (cursor_place walk.at) word) refl, start_unlinked entries labels walk s)
     (omega (arith, h, next_sizes entries walk stmt.FnStart s))
 statement_stands entries labels walk word stmt.Pool s h =
     let ended : Walk = record { at = record walk.at { sizes = sizes_with_pool walk }; pool = [] } in
-    rw (last_unlinked s (walk_sets entries labels walk stmt.Pool) (own_piece labels stmt.Pool (here walk.at) word) refl)
+    rw (last_unlinked s (walk_sets entries labels walk stmt.Pool) (own_piece labels stmt.Pool (cursor_place walk.at) word) refl)
     (elim (is_in_text walk.at) as (λ b. size_in (cond b ended walk).at.sizes s ≤ MOST_BYTES
-    → StandInOrder (size_in walk.at.sizes s) (relocs_in s (put_pieces entries labels (cond b (pool_puts walk) puts.Nothing))) (size_in (cond b ended walk).at.sizes s)) [
+    → StandInOrder (size_in walk.at.sizes s) (relocs_in s (pieces_of_puts entries labels (cond b (pool_puts walk) puts.Nothing))) (size_in (cond b ended walk).at.sizes s)) [
       | true ↦ pool_stands labels walk s
       | false ↦ λ h. omega arith
     ] h)
 statement_stands entries labels walk word kind s h =
-    rw (unlinked s (own_piece labels kind (here walk.at) word) [] refl) (omega (arith, h, next_sizes entries walk kind s))
+    rw (unlinked s (own_piece labels kind (cursor_place walk.at) word) [] refl) (omega (arith, h, next_sizes entries walk kind s))
 
 -- ---- all statements
 
 -- the fields of the statements before some others stand before the place of those
-pub earlier_stand : (entries : List (Option EntryWords)) (labels : List Named) (walk : Walk) (before more : List Stmt) (s : Section) → Fewer entries
+pub earlier_stand : (entries : List (Option EntryWords)) (labels : List NamePlace) (walk : Walk) (before more : List Stmt) (s : Section) → Fewer entries
     → refusals_from entries labels walk (before ++ more) ≡ [] → is_too_large (sizes_with_pool (walk_after entries walk (before ++ more))) ≡ false
     → StandInOrder (size_in walk.at.sizes s) (relocs_in s (earlier entries labels walk before more)) (size_in (walk_after entries walk before).at.sizes s)
-unfolding earlier placed_from walk_after
+unfolding earlier place_stmts_from walk_after
 earlier_stand entries labels walk [] more s few r h = omega arith
 earlier_stand entries labels walk (stmt ∷ before) more s few r h =
     let after = next entries walk stmt.kind in
     let word = word_place walk stmt.kind (coming_pool entries walk (stmt ∷ before ++ more)) in
-    let parts = none_parts stmt.line (refusal labels stmt.kind walk.at.section (here walk.at).offset word) (refusals_from entries labels after (before ++ more)) r in
+    let parts = none_parts stmt.line (refusal labels stmt.kind walk.at.section (cursor_place walk.at).offset word) (refusals_from entries labels after (before ++ more)) r in
     let last = sizes_with_pool (walk_after entries after (before ++ more)) in
     let small : size_in after.at.sizes s ≤ MOST_BYTES = omega (arith, law_of_ends entries labels after (before ++ more) s few parts.1 h, not_large last s h) in
     rw flat_map-append (one_after _ (relocs_in s (walk_pieces entries labels walk word stmt.kind)) (size_in after.at.sizes s) (relocs_in s (earlier entries labels after before more)) _
     (statement_stands entries labels walk word stmt.kind s small) (earlier_stand entries labels after before more s few parts.1 h))
 
-pub all_stand : (entries : List (Option EntryWords)) (labels : List Named) (walk : Walk) (stmts : List Stmt) (s : Section) → Fewer entries
+pub all_stand : (entries : List (Option EntryWords)) (labels : List NamePlace) (walk : Walk) (stmts : List Stmt) (s : Section) → Fewer entries
     → refusals_from entries labels walk stmts ≡ [] → is_too_large (sizes_with_pool (walk_after entries walk stmts)) ≡ false
     → StandInOrder (size_in walk.at.sizes s) (relocs_in s (pieces_from entries labels walk stmts)) (size_in (sizes_with_pool (walk_after entries walk stmts)) s)
-unfolding pieces_of placed_from walk_after
+unfolding pieces_of place_stmts_from walk_after
 all_stand entries labels walk stmts s few r h =
     let last = walk_after entries walk stmts in
     let none = append-nil stmts in
@@ -243,7 +243,7 @@ all_stand entries labels walk stmts s few r h =
 -- ---- relocations are of their pieces' sections, and of the standard's kinds
 
 abbrev pub is_kind : ℕ → Bool
-is_kind number = list_any (λ kind. number == kind) kinds
+is_kind number = list_any (λ kind. number == kind) relocation_kinds
 
 pub record IsOf (section : Section) (reloc : Reloc) : Type 0 where
   pub there : reloc.section ≡ section
@@ -280,14 +280,14 @@ all_both : (xs ys : List Piece) → AllOwn xs → AllOwn ys → AllOwn (xs ++ ys
 all_both [] ys h k = k
 all_both (x ∷ xs) ys h k = (h.0, all_both xs ys h.1 k)
 
-own_own : (labels : List Named) (kind : StmtKind) (place : Place) (word : Option ℕ) → OfSection (own_piece labels kind place word).place.section (own_piece labels kind place word).relocs
+own_own : (labels : List NamePlace) (kind : StmtKind) (place : Place) (word : Option ℕ) → OfSection (own_piece labels kind place word).place.section (own_piece labels kind place word).relocs
 own_own labels (stmt.Bl name) place word = branch_own place (text_place labels name) 10 name refl
 own_own labels (stmt.B name) place word = branch_own place (text_place labels name) 102 name refl
 own_own labels (stmt.BCond c name) place word = branch_own place (text_place labels name) 103 name refl
 own_own labels (stmt.Words words) place word = of_words place.section place.offset (map word_of words)
 own_own labels _ place word = tt
 
-pool_own : (labels : List Named) (walk : Walk) → AllOwn (pool_pieces labels (pool_here walk))
+pool_own : (labels : List NamePlace) (walk : Walk) → AllOwn (pool_pieces labels (pool_here walk))
 pool_own labels walk =
     let pieces = filling_piece (place_at Text walk.at.sizes.text) (gap walk.at.sizes.text 4) ∷ words_piece labels (place_at Text (pool_place walk)) walk.pool ∷ [] in
     elim (is_empty walk.pool) as (λ b. AllOwn (cond b [] pieces)) [ true ↦ tt | false ↦ (tt, (of_words Text (pool_place walk) walk.pool, tt)) ]
@@ -296,24 +296,24 @@ table_own : (place : ℕ) (entry : Option EntryWords) → AllOwn (table_pieces p
 table_own place (Some (entry.Table words)) = (tt, tt)
 table_own place _ = tt
 
-set_own : (entries : List (Option EntryWords)) (labels : List Named) (walk : Walk) (kind : StmtKind) → AllOwn (walk_sets entries labels walk kind)
+set_own : (entries : List (Option EntryWords)) (labels : List NamePlace) (walk : Walk) (kind : StmtKind) → AllOwn (walk_sets entries labels walk kind)
 set_own entries labels walk (stmt.Align n) = (tt, tt)
 set_own entries labels walk stmt.Pool =
-    elim (is_in_text walk.at) as (λ b. AllOwn (put_pieces entries labels (cond b (pool_puts walk) puts.Nothing))) [ true ↦ pool_own labels walk | false ↦ tt ]
+    elim (is_in_text walk.at) as (λ b. AllOwn (pieces_of_puts entries labels (cond b (pool_puts walk) puts.Nothing))) [ true ↦ pool_own labels walk | false ↦ tt ]
 set_own entries labels walk stmt.FnStart =
-    elim walk.at.inside as (λ b. AllOwn (put_pieces entries labels (cond b puts.Nothing (function_here walk.at)))) [
+    elim walk.at.inside as (λ b. AllOwn (pieces_of_puts entries labels (cond b puts.Nothing (function_here walk.at)))) [
       | true ↦ tt
       | false ↦ table_own walk.at.sizes.extab (entry_at entries walk.at.functions)
     ]
 set_own entries labels walk _ = tt
 
-pub all_own : (entries : List (Option EntryWords)) (labels : List Named) (walk : Walk) (stmts : List Stmt) → AllOwn (pieces_from entries labels walk stmts)
-unfolding pieces_of placed_from walk_after
+pub all_own : (entries : List (Option EntryWords)) (labels : List NamePlace) (walk : Walk) (stmts : List Stmt) → AllOwn (pieces_from entries labels walk stmts)
+unfolding pieces_of place_stmts_from walk_after
 all_own entries labels walk [] = pool_own labels walk
 all_own entries labels walk (stmt ∷ more) =
     let word = word_place walk stmt.kind (coming_pool entries walk (stmt ∷ more)) in
     all_both (walk_pieces entries labels walk word stmt.kind) (pieces_from entries labels (next entries walk stmt.kind) more)
-    (all_both (walk_sets entries labels walk stmt.kind) (own_piece labels stmt.kind (here walk.at) word ∷ []) (set_own entries labels walk stmt.kind) (own_own labels stmt.kind (here walk.at) word, tt))
+    (all_both (walk_sets entries labels walk stmt.kind) (own_piece labels stmt.kind (cursor_place walk.at) word ∷ []) (set_own entries labels walk stmt.kind) (own_own labels stmt.kind (cursor_place walk.at) word, tt))
     (all_own entries labels (next entries walk stmt.kind) more)
 
 pub same_is : (a b : Section) → same_section a b ≡ true → a ≡ b
@@ -354,17 +354,17 @@ abbrev pub all_of : List Stmt → List Piece
 all_of stmts = pieces_from (entries_of stmts) (labels_of (entries_of stmts) stmts) start stmts
 
 joined_stands : (stmts : List Stmt) (object : Object) (s : Section) → length stmts < 2 ^ 64 → IsTaken stmts object
-    → StandInOrder 0 (relocs_at s (joined stmts)) (length (bytes_at s (joined stmts)))
-unfolding joined fields_in
+    → StandInOrder 0 (relocs_at s (assembled_object stmts)) (length (bytes_at s (assembled_object stmts)))
+unfolding assembled_object fields_in
 joined_stands stmts object s few t = rw (kept (all_of stmts) s (all_own entries labels start stmts)) (by s)
   where
     entries : List (Option EntryWords)
     entries = entries_of stmts
 
-    labels : List Named
+    labels : List NamePlace
     labels = labels_of (entries_of stmts) stmts
 
-    by : (s : Section) → StandInOrder 0 (fields_in s (all_of stmts)) (length (bytes_at s (joined stmts)))
+    by : (s : Section) → StandInOrder 0 (fields_in s (all_of stmts)) (length (bytes_at s (assembled_object stmts)))
     by Bss = omega arith
     by s =
         let fewer : length (entries_of stmts) < 2 ^ 64 = omega (arith, few, entries_count no_frame stmts) in
@@ -373,8 +373,8 @@ joined_stands stmts object s few t = rw (kept (all_of stmts) s (all_own entries 
         rw all (all_stand entries labels start stmts s fewer t.unrefused ends)
 
 -- the relocations of the exception tables are those of their pieces
-pub table_relocs : (stmts : List Stmt) → relocs_at Extab (joined stmts) ≡ relocs_in Extab (all_of stmts)
-unfolding joined fields_in
+pub table_relocs : (stmts : List Stmt) → relocs_at Extab (assembled_object stmts) ≡ relocs_in Extab (all_of stmts)
+unfolding assembled_object fields_in
 table_relocs stmts = kept (all_of stmts) Extab (all_own (entries_of stmts) (labels_of (entries_of stmts) stmts) start stmts)
 
 pub law_of_fields : FieldsStandInOrder
@@ -383,8 +383,8 @@ law_of_fields stmts object s few e =
     rw t.object_is (joined_stands stmts object s few t)
 
 joined_go : (stmts : List Stmt)
-    → (joined stmts).relocs ≡ relocs_at Text (joined stmts) ++ relocs_at Rodata (joined stmts) ++ relocs_at Extab (joined stmts) ++ relocs_at Init (joined stmts)
-unfolding joined fields_in
+    → (assembled_object stmts).relocs ≡ relocs_at Text (assembled_object stmts) ++ relocs_at Rodata (assembled_object stmts) ++ relocs_at Extab (assembled_object stmts) ++ relocs_at Init (assembled_object stmts)
+unfolding assembled_object fields_in
 joined_go stmts =
     let own = all_own (entries_of stmts) (labels_of (entries_of stmts) stmts) start stmts in
     rw (kept (all_of stmts) Text own, kept (all_of stmts) Rodata own, kept (all_of stmts) Extab own, kept (all_of stmts) Init own) refl
@@ -396,8 +396,8 @@ known_all : (section : Section) (relocs : List Reloc) → OfSection section relo
 known_all section [] h = refl
 known_all section (reloc ∷ more) h = and_from _ _ h.0.known (known_all section more h.1)
 
-joined_known : (stmts : List Stmt) → list_all (λ reloc. is_kind reloc.kind) (joined stmts).relocs ≡ true
-unfolding joined
+joined_known : (stmts : List Stmt) → list_all (λ reloc. is_kind reloc.kind) (assembled_object stmts).relocs ≡ true
+unfolding assembled_object
 joined_known stmts = simp (list_all-append, known Text, known Rodata, known Extab, known Init)
   where
     known : (s : Section) → list_all (λ reloc. is_kind reloc.kind) (relocs_in s (all_of stmts)) ≡ true

@@ -7,24 +7,24 @@ use Rattle.asm_layout.specs.declared.fault.AsmFault.{AsmFault}
 use Rattle.asm_layout.specs.declared.labels.Label.{Label}
 use Rattle.asm_layout.specs.declared.placed.PlacedPool.{PlacedPool}
 use Rattle.asm_layout.specs.PlacedStmt.{PlacedStmt}
-use Rattle.relocatable_object.specs.declared.object.IndexRow.{IndexRow}
-use Rattle.relocatable_object.specs.declared.object.Object.{Object}
-use Rattle.relocatable_object.specs.declared.place.Section.{Section}
-use Rattle.relocatable_object.specs.declared.place.Section.TheVariants.{Text, Rodata, Extab, Init, Bss}
+use Rattle.asm_relocatable.specs.declared.object.IndexRow.{IndexRow}
+use Rattle.asm_relocatable.specs.declared.object.Object.{Object}
+use Rattle.asm_relocatable.specs.declared.place.Section.{Section}
+use Rattle.asm_relocatable.specs.declared.place.Section.TheVariants.{Text, Rodata, Extab, Init, Bss}
 use Rattle.asm_layout.specs.Faults.{first_of, first_of_all, out_of_memory}
 use Rattle.asm_layout.specs.Functions.{entries_of, unwind_faults_of}
 use Rattle.asm_layout.specs.Walks.{start, walk_after}
-use Rattle.relocatable_object.specs.Sections.{same_section}
-use Rattle.asm_layout.specs.Labels.{labels_of, labelled, named_in, duplicates_from, too_large_from}
-use Rattle.asm_layout.specs.Placing.{placed_of, last_pool}
+use Rattle.asm_relocatable.specs.Sections.{same_section}
+use Rattle.asm_layout.specs.Labels.{labels_of, name_with_label, label_places, duplicates_from, too_large_from}
+use Rattle.asm_layout.specs.Placing.{place_stmts, last_pool}
 use Rattle.asm_layout.proofs.FaultLaws.{first_after, first_by_itself}
 use Rattle.asm_layout.proofs.LayoutLaws.{map_after}
 use Rattle.asm_layout.proofs.NamedLaws.{named_in-labelled}
 use Rattle.asm_object.specs.declared.part.Part.{Part}
 use Rattle.asm_object.specs.declared.parts.Sections.{Sections}
 use Rattle.asm_object.specs.Pieces.{Piece, pieces_of, rows_of, bytes_in, relocs_in, mark_of, marks_from}
-use Rattle.asm_object.specs.Objects.{refusals_of, faults_of, joined, object_of}
-use Rattle.asm_object.specs.Built.{part_with, with_piece_in, with_piece, with_pieces, no_part, no_sections, object_built}
+use Rattle.asm_object.specs.Objects.{refusals_of, faults_of, assembled_object, object_of}
+use Rattle.asm_object.specs.Built.{part_with, with_piece_in, with_piece, with_pieces, no_part, no_sections, object_of_parts}
 
 -- ---- refusals
 
@@ -34,16 +34,16 @@ first_of_two faults more = first_after None faults more ∙ first_by_itself (fir
 first_by_parts : (stmts : List Stmt)
     → let entries = entries_of stmts in
     first_of_all (first_of (first_of (first_of_all None (unwind_faults_of stmts)) (first_of_all None (duplicates_from [] stmts))) (first_of_all None (too_large_from entries start 0 stmts)))
-    (refusals_of (named_in (map (labelled entries stmts) (labels_of entries stmts))) (placed_of entries stmts)) ≡ first_of_all None (faults_of stmts)
+    (refusals_of (label_places (map (name_with_label entries stmts) (labels_of entries stmts))) (place_stmts entries stmts)) ≡ first_of_all None (faults_of stmts)
 unfolding faults_of
 first_by_parts stmts = rw named_in-labelled (simp first_of_two (first_by_itself _ _))
 
 -- the first refusal of a source by those of its parts
 pub first_fault : (stmts : List Stmt) (entries : List (Option EntryWords)) (labels : List (List ℕ × Label)) (placed : List PlacedStmt) (unwind duplicate too_large two three all : Option AsmFault)
-    → entries ≡ entries_of stmts → labels ≡ map (labelled entries stmts) (labels_of entries stmts) → placed ≡ placed_of entries stmts
+    → entries ≡ entries_of stmts → labels ≡ map (name_with_label entries stmts) (labels_of entries stmts) → placed ≡ place_stmts entries stmts
     → unwind ≡ first_of_all None (unwind_faults_of stmts) → duplicate ≡ first_of_all None (duplicates_from [] stmts)
     → too_large ≡ first_of_all None (too_large_from entries start 0 stmts) → two ≡ first_of unwind duplicate → three ≡ first_of two too_large
-    → all ≡ first_of_all three (refusals_of (named_in labels) placed) → all ≡ first_of_all None (faults_of stmts)
+    → all ≡ first_of_all three (refusals_of (label_places labels) placed) → all ≡ first_of_all None (faults_of stmts)
 first_fault stmts entries labels placed unwind duplicate too_large two three all e l p u d t v w r = rw (r, w, v, u, d, t, p, l, e) (first_by_parts stmts)
 
 -- ---- what sections hold that were built piece by piece
@@ -86,13 +86,13 @@ text_marks sections (piece ∷ more) = text_marks (with_piece sections piece) mo
 -- the object of a source that nothing is refused of
 all_joined : (stmts : List Stmt)
     → let entries = entries_of stmts in
-    let labels = map (labelled entries stmts) (labels_of entries stmts) in
-    object_built (with_pieces no_sections (pieces_of entries (named_in labels) (placed_of entries stmts) (last_pool entries start stmts))) (rows_of entries (placed_of entries stmts)) labels
-    (walk_after entries start stmts).at.sizes.bss ≡ joined stmts
-unfolding joined
+    let labels = map (name_with_label entries stmts) (labels_of entries stmts) in
+    object_of_parts (with_pieces no_sections (pieces_of entries (label_places labels) (place_stmts entries stmts) (last_pool entries start stmts))) (rows_of entries (place_stmts entries stmts)) labels
+    (walk_after entries start stmts).at.sizes.bss ≡ assembled_object stmts
+unfolding assembled_object
 all_joined stmts =
     let entries = entries_of stmts in
-    let pieces = pieces_of entries (labels_of entries stmts) (placed_of entries stmts) (last_pool entries start stmts) in
+    let pieces = pieces_of entries (labels_of entries stmts) (place_stmts entries stmts) (last_pool entries start stmts) in
     rw (named_in-labelled, map_after, part_built Text no_sections pieces refl, part_built Rodata no_sections pieces refl, part_built Extab no_sections pieces refl, part_built Init no_sections pieces refl, text_marks no_sections pieces)
 
 refused : (stmts : List Stmt) (fault : AsmFault) → first_of_all None (faults_of stmts) ≡ Some fault → object_of stmts ≡ Err fault
@@ -107,9 +107,9 @@ refused_by stmts fault first e (inr is) = inr (refused stmts fault (sym e ∙ is
 
 pub taken : (stmts : List Stmt) (entries : List (Option EntryWords)) (labels : List (List ℕ × Label)) (placed : List PlacedStmt) (last : PlacedPool) (sections : Sections) (rows : List IndexRow) (bss : ℕ) (object : Object)
     → first_of_all None (faults_of stmts) ≡ None
-    → entries ≡ entries_of stmts → labels ≡ map (labelled entries stmts) (labels_of entries stmts) → placed ≡ placed_of entries stmts → last ≡ last_pool entries start stmts
-    → sections ≡ with_pieces no_sections (pieces_of entries (named_in labels) placed last) → rows ≡ rows_of entries placed
-    → bss ≡ (walk_after entries start stmts).at.sizes.bss → object ≡ object_built sections rows labels bss → object_of stmts ≡ Ok object
+    → entries ≡ entries_of stmts → labels ≡ map (name_with_label entries stmts) (labels_of entries stmts) → placed ≡ place_stmts entries stmts → last ≡ last_pool entries start stmts
+    → sections ≡ with_pieces no_sections (pieces_of entries (label_places labels) placed last) → rows ≡ rows_of entries placed
+    → bss ≡ (walk_after entries start stmts).at.sizes.bss → object ≡ object_of_parts sections rows labels bss → object_of stmts ≡ Ok object
 unfolding object_of
 taken stmts entries labels placed last sections rows bss object f e l p q s r b o =
     rw (f, o, s, r, b, q, p, l, e) (ap (λ x. Ok x) (sym (all_joined stmts)))

@@ -1,14 +1,14 @@
--- What the parts of an object stand for, piece by piece (docs/objects.md).
+-- What the parts of an object contain, piece by piece (docs/rules/sources.md).
 use Rattle.std.specs.Prelude.{ℕ, ◌==◌, ◌%◌, ◌^◌, map, not, Bool, if◌then◌else◌, List, [], ◌++◌, fold, length, Some, None}
-use Rattle.relocatable_object.specs.declared.place.Section.{Section}
-use Rattle.relocatable_object.specs.declared.place.Section.TheVariants.{Text, Rodata, Extab, Init, Bss}
-use Rattle.relocatable_object.specs.declared.object.Reloc.{Reloc}
+use Rattle.asm_relocatable.specs.declared.place.Section.{Section}
+use Rattle.asm_relocatable.specs.declared.place.Section.TheVariants.{Text, Rodata, Extab, Init, Bss}
+use Rattle.asm_relocatable.specs.declared.object.Reloc.{Reloc}
 use Rattle.asm_object.specs.declared.part.Part.{Part}
-use Rattle.asm_object.specs.declared.parts.Marked.{Marked}
+use Rattle.asm_object.specs.declared.parts.MarkedText.{MarkedText}
 use Rattle.asm_object.specs.declared.parts.Sections.{Sections}
 use Rattle.asm_layout.specs.declared.labels.Label.{Label}
-use Rattle.relocatable_object.specs.declared.object.IndexRow.{IndexRow}
-use Rattle.relocatable_object.specs.declared.object.Object.{Object}
+use Rattle.asm_relocatable.specs.declared.object.IndexRow.{IndexRow}
+use Rattle.asm_relocatable.specs.declared.object.Object.{Object}
 use Rattle.asm_object.specs.Pieces.{Piece, mark_of}
 use Rattle.asm_object.specs.Objects.{symbol_of}
 
@@ -16,14 +16,14 @@ use Rattle.asm_object.specs.Objects.{symbol_of}
 abbrev pub part_with : Part → List ℕ → List Reloc → Part
 part_with part bytes relocs = record { bytes = part.bytes ++ bytes; relocs = part.relocs ++ relocs }
 
--- a text that has, or has not, grown by bytes from a place on
-abbrev pub marked : Marked → Bool → ℕ → Bool → Marked
-marked text grew place code =
+-- a text after bytes were appended from a place on, or were not
+abbrev pub text_with_mark : MarkedText → Bool → ℕ → Bool → MarkedText
+text_with_mark text grew place code =
     if grew then record text { marks = text.marks ++ mark_of text.last place code; last = Some code } else text
 
-abbrev pub text_with : Marked → Piece → Marked
+abbrev pub text_with : MarkedText → Piece → MarkedText
 text_with text piece =
-    marked (record text { part = part_with text.part piece.bytes piece.relocs })
+    text_with_mark (record text { part = part_with text.part piece.bytes piece.relocs })
     (not (length piece.bytes == 0)) piece.place.offset piece.code
 
 abbrev pub with_piece_in : Section → Sections → Piece → Sections
@@ -53,8 +53,8 @@ no_sections = record {
 }
 
 -- the object of sections, rows and labels
-abbrev pub object_built : Sections → List IndexRow → List (List ℕ × Label) → ℕ → Object
-object_built sections rows labels bss = record {
+abbrev pub object_of_parts : Sections → List IndexRow → List (List ℕ × Label) → ℕ → Object
+object_of_parts sections rows labels bss = record {
   text = sections.text.part.bytes;
   rodata = sections.rodata.bytes;
   extab = sections.extab.bytes;

@@ -1,4 +1,4 @@
--- The bytes of numbers and instructions, the lowest byte first (docs/objects.md; DDI 0419).
+-- The bytes of numbers and instructions, the lowest byte first (docs/rules/sources.md; DDI 0419).
 use Rattle.std.specs.Prelude.{ℕ, ◌/◌, ◌%◌, ◌==◌, if◌then◌else◌, List, [], ◌∷◌, ◌++◌, replicate, flat_map}
 use Rattle.byteorder.specs.Endian.{little_bytes}
 use Rattle.asm_object.specs.declared.bytes.TheConstants.{FILLER}
@@ -22,6 +22,6 @@ code_bytes (Pair first second) = half_bytes first ++ half_bytes second
 abbrev pub fillers : ℕ → List ℕ
 fillers count = flat_map half_bytes (replicate count FILLER)
 
--- what fills a text: one zero byte where the number of bytes is odd, and then instructions
+-- the filling of a text: a zero byte if the number of bytes is odd, then filler instructions
 abbrev pub filling_bytes : ℕ → List ℕ
 filling_bytes count = (if count % 2 == 1 then 0 ∷ [] else []) ++ fillers (count / 2)

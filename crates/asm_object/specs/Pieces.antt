@@ -1,4 +1,4 @@
--- The bytes of statements, each piece at its place, and what the linker fills in them (docs/objects.md, "Sections and places").
+-- The bytes of statements, each piece at its place, with their relocations (docs/rules/sources.md, "Sections and places").
 use Rattle.std.specs.Prelude.{ℕ, ◌+◌, ◌%◌, ◌^◌, ◌==◌, ◌&&◌, not, ℤ, pos, negsuc, Bool, true, false, nat_lt, if◌then◌else◌, List, [], ◌∷◌, ◌++◌, map, flat_map, length, Option, Some, None, Result, Ok, Err}
 use Rattle.byteorder.specs.Endian.{little_bytes}
 use Rattle.asm_statements.specs.declared.statement.Expr.{Expr}
@@ -8,21 +8,21 @@ use Rattle.asm_unwind.specs.declared.entry.EntryWords.TheVariants as entry
 use Rattle.thumb_isa.specs.declared.instr.Instr.{Instr}
 use Rattle.thumb_encode.specs.declared.code.Code.{Code}
 use Rattle.thumb_isa.specs.declared.encode_fault.EncodeFault.{EncodeFault}
-use Rattle.relocatable_object.specs.declared.place.Section.{Section}
-use Rattle.relocatable_object.specs.declared.place.Section.TheVariants.{Text, Extab}
-use Rattle.relocatable_object.specs.declared.object.Reloc.{Reloc}
-use Rattle.relocatable_object.specs.declared.object.Mark.{Mark}
-use Rattle.relocatable_object.specs.declared.object.RowEntry.{RowEntry}
-use Rattle.relocatable_object.specs.declared.object.RowEntry.TheVariants as row
-use Rattle.relocatable_object.specs.declared.object.IndexRow.{IndexRow}
-use Rattle.relocatable_object.specs.declared.place.Place.{Place}
+use Rattle.asm_relocatable.specs.declared.place.Section.{Section}
+use Rattle.asm_relocatable.specs.declared.place.Section.TheVariants.{Text, Extab}
+use Rattle.asm_relocatable.specs.declared.object.Reloc.{Reloc}
+use Rattle.asm_relocatable.specs.declared.object.Mark.{Mark}
+use Rattle.asm_relocatable.specs.declared.object.RowEntry.{RowEntry}
+use Rattle.asm_relocatable.specs.declared.object.RowEntry.TheVariants as row
+use Rattle.asm_relocatable.specs.declared.object.IndexRow.{IndexRow}
+use Rattle.asm_relocatable.specs.declared.place.Place.{Place}
 use Rattle.asm_layout.specs.declared.word.Word.{Word}
 use Rattle.asm_layout.specs.Words.{word_of}
 use Rattle.asm_layout.specs.Sizes.{sum_64, multiple, natural, is_instruction}
 use Rattle.asm_layout.specs.declared.given.Width.{Width}
-use Rattle.asm_layout.specs.Given.{Given, FieldsOf, TextOf, ZerosOf, bytes_of, takes_addresses}
-use Rattle.asm_layout.specs.Sorts.{Operation, Nameless, Undefined, AdrOf, LdrOf, LdrValue, BTo, BCondTo, BlTo, BWideTo, CbzTo, Sort, CodeOf, DataOf, Filling, AboutName, Bare, sort_of, operation, given}
-use Rattle.eh_list.specs.Bytes.{gap, zeros}
+use Rattle.asm_layout.specs.Given.{StmtData, FieldsOf, TextOf, ZerosOf, bytes_of, takes_addresses}
+use Rattle.asm_layout.specs.Sorts.{Operation, Nameless, Undefined, AdrOf, LdrOf, LdrValue, BTo, BCondTo, BlTo, BWideTo, CbzTo, Sort, CodeOf, DataOf, Filling, AboutName, Bare, sort_of, operation, stmt_data}
+use Rattle.eh_word.specs.Bytes.{gap, zeros}
 use Rattle.asm_object.specs.Bytes.{half_bytes, word_bytes, code_bytes, filling_bytes}
 use Rattle.asm_layout.specs.declared.placed.PlacedFunction.{PlacedFunction}
 use Rattle.asm_layout.specs.declared.placed.PlacedPool.{PlacedPool}
@@ -30,11 +30,11 @@ use Rattle.asm_layout.specs.declared.placed.Puts.{Puts}
 use Rattle.asm_layout.specs.declared.placed.Puts.TheVariants as puts
 use Rattle.asm_layout.specs.PlacedStmt.{PlacedStmt}
 use Rattle.asm_layout.specs.Walks.{entry_at, is_empty}
-use Rattle.relocatable_object.specs.Sections.{same_section}
-use Rattle.asm_layout.specs.Labels.{Named}
+use Rattle.asm_relocatable.specs.Sections.{same_section}
+use Rattle.asm_layout.specs.Labels.{NamePlace}
 use Rattle.asm_object.specs.declared.value.Link.{Link}
-use Rattle.asm_object.specs.Values.{number, held, low_or_zero, link_of}
-use Rattle.asm_object.specs.Instructions.{instruction, coded, branch_link}
+use Rattle.asm_object.specs.Values.{number, section_word, low_or_zero, link_of}
+use Rattle.asm_object.specs.Instructions.{instruction, encode_option, branch_link}
 
 -- bytes at a place, code or words, with the relocations in them
 pub record Piece : Type 0 where
@@ -62,10 +62,10 @@ word_relocs section offset [] = []
 word_relocs section offset (word ∷ more) =
     relocs_of (place_at section offset) (link_of word) ++ word_relocs section (sum_64 offset 4) more
 
-abbrev pub words_bytes : List Named → List Word → List ℕ
-words_bytes labels words = flat_map (λ word. word_bytes (held labels word)) words
+abbrev pub words_bytes : List NamePlace → List Word → List ℕ
+words_bytes labels words = flat_map (λ word. word_bytes (section_word labels word)) words
 
-abbrev pub words_piece : List Named → Place → List Word → Piece
+abbrev pub words_piece : List NamePlace → Place → List Word → Piece
 words_piece labels place words = record {
   place = place;
   code = false;
@@ -76,13 +76,13 @@ words_piece labels place words = record {
 abbrev pub bytes_piece : Place → Bool → List ℕ → Piece
 bytes_piece place code bytes = record { place = place; code = code; bytes = bytes; relocs = [] }
 
--- a text is filled with instructions, and this counts as code; another section with zeros
+-- a text is filled with instructions, which count as code; another section with zeros
 abbrev pub filling_piece : Place → ℕ → Piece
 filling_piece place count =
     bytes_piece place true (if same_section place.section Text then filling_bytes count else zeros count)
 
--- a pool, at a multiple of 4; nothing without words
-abbrev pub pool_pieces : List Named → PlacedPool → List Piece
+-- a literal pool, at a multiple of 4; nothing if it has no words
+abbrev pub pool_pieces : List NamePlace → PlacedPool → List Piece
 pool_pieces labels pool =
     if is_empty pool.words then []
     else filling_piece (place_at Text pool.from) (gap pool.from 4)
@@ -105,13 +105,13 @@ bytes_of_coded (Some code) = bytes_of_code code
 bytes_of_coded None = []
 
 abbrev pub bytes_of_instruction : Option Instr → List ℕ
-bytes_of_instruction i = bytes_of_coded (coded i)
+bytes_of_instruction i = bytes_of_coded (encode_option i)
 
 abbrev pub low_byte_or_zero : ℤ → ℕ
 low_byte_or_zero (pos n) = if nat_lt n 256 then n else 0
 low_byte_or_zero (negsuc n) = 0
 
--- the halfword of `udf`, which is no instruction of the encoder's
+-- the halfword of `udf`, which the encoder doesn't have
 abbrev pub undefined_half : Option Operation → Option ℕ
 undefined_half None = None
 undefined_half (Some (Nameless _)) = None
@@ -132,11 +132,11 @@ abbrev pub bytes_of_half : Option ℕ → List ℕ
 bytes_of_half None = []
 bytes_of_half (Some half) = half_bytes half
 
--- the bytes of an instruction of which the encoder says what it says
+-- the bytes of an instruction, given the result of the encoder
 abbrev pub code_bytes_of : StmtKind → Option (Result Code EncodeFault) → List ℕ
 code_bytes_of kind code = bytes_of_half (udf_half kind) ++ bytes_of_coded code
 
-abbrev pub code_piece : List Named → StmtKind → Place → Option (Result Code EncodeFault) → Piece
+abbrev pub code_piece : List NamePlace → StmtKind → Place → Option (Result Code EncodeFault) → Piece
 code_piece labels kind place code = record {
   place = place;
   code = true;
@@ -144,40 +144,40 @@ code_piece labels kind place code = record {
   relocs = relocs_of place (branch_link labels kind);
 }
 
-abbrev pub instruction_piece : List Named → StmtKind → Place → Option ℕ → Piece
-instruction_piece labels kind place word = code_piece labels kind place (coded (instruction labels kind place.offset word))
+abbrev pub instruction_piece : List NamePlace → StmtKind → Place → Option ℕ → Piece
+instruction_piece labels kind place word = code_piece labels kind place (encode_option (instruction labels kind place.offset word))
 
--- the bytes of fields: those of words where they may be addresses, and else those of their numbers
-abbrev pub fields_bytes : List Named → Width → List Expr → List ℕ
+-- the bytes of fields: of words if the width takes addresses, else of numbers
+abbrev pub fields_bytes : List NamePlace → Width → List Expr → List ℕ
 fields_bytes labels width fields =
     if takes_addresses width then words_bytes labels (map word_of fields)
     else flat_map (λ field. little_bytes (bytes_of width) (low_or_zero (number labels field))) fields
 
 -- the bytes of data
-abbrev pub given_bytes : List Named → Option Given → List ℕ
-given_bytes labels None = []
-given_bytes labels (Some (FieldsOf width fields)) = fields_bytes labels width fields
-given_bytes labels (Some (TextOf text closed)) = if closed then text ++ 0 ∷ [] else text
-given_bytes labels (Some (ZerosOf n)) = zeros (natural n)
+abbrev pub bytes_of_data : List NamePlace → Option StmtData → List ℕ
+bytes_of_data labels None = []
+bytes_of_data labels (Some (FieldsOf width fields)) = fields_bytes labels width fields
+bytes_of_data labels (Some (TextOf text closed)) = if closed then text ++ 0 ∷ [] else text
+bytes_of_data labels (Some (ZerosOf n)) = zeros (natural n)
 
-abbrev pub data_bytes : List Named → StmtKind → List ℕ
-data_bytes labels kind = given_bytes labels (given kind)
+abbrev pub data_bytes : List NamePlace → StmtKind → List ℕ
+data_bytes labels kind = bytes_of_data labels (stmt_data kind)
 
--- the relocations of fields from a place on: those of words where they may be addresses
+-- the relocations of fields from a place on, if the width takes addresses
 abbrev pub fields_relocs : Width → List Expr → Place → List Reloc
 fields_relocs width fields place = if takes_addresses width then word_relocs place.section place.offset (map word_of fields) else []
 
 -- the relocations of data
-abbrev pub given_relocs : Option Given → Place → List Reloc
-given_relocs None place = []
-given_relocs (Some (FieldsOf width fields)) place = fields_relocs width fields place
-given_relocs (Some (TextOf _ _)) place = []
-given_relocs (Some (ZerosOf _)) place = []
+abbrev pub relocs_of_data : Option StmtData → Place → List Reloc
+relocs_of_data None place = []
+relocs_of_data (Some (FieldsOf width fields)) place = fields_relocs width fields place
+relocs_of_data (Some (TextOf _ _)) place = []
+relocs_of_data (Some (ZerosOf _)) place = []
 
 abbrev pub data_relocs : StmtKind → Place → List Reloc
-data_relocs kind place = given_relocs (given kind) place
+data_relocs kind place = relocs_of_data (stmt_data kind) place
 
-abbrev pub data_piece : List Named → StmtKind → Place → Piece
+abbrev pub data_piece : List NamePlace → StmtKind → Place → Piece
 data_piece labels kind place = record {
   place = place;
   code = false;
@@ -185,14 +185,14 @@ data_piece labels kind place = record {
   relocs = data_relocs kind place;
 }
 
--- the pool or the table that a statement puts
-abbrev pub put_pieces : List (Option EntryWords) → List Named → Puts → List Piece
-put_pieces entries labels (puts.Pool pool) = pool_pieces labels pool
-put_pieces entries labels (puts.Function function) =
+-- the literal pool or the unwind table that a statement emits
+abbrev pub pieces_of_puts : List (Option EntryWords) → List NamePlace → Puts → List Piece
+pieces_of_puts entries labels (puts.Pool pool) = pool_pieces labels pool
+pieces_of_puts entries labels (puts.Function function) =
     table_pieces function.from (entry_at entries function.number)
-put_pieces entries labels puts.Nothing = []
+pieces_of_puts entries labels puts.Nothing = []
 
--- what a statement of a sort fills, or what it puts, as only `.align` fills
+-- what a statement fills, or else what it emits; only `.align` fills
 abbrev pub filled_or : Sort → Place → List Piece → List Piece
 filled_or (CodeOf _ _) place put = put
 filled_or (DataOf _) place put = put
@@ -200,26 +200,26 @@ filled_or (Filling n) place put = filling_piece place (gap place.offset (multipl
 filled_or (AboutName _) place put = put
 filled_or Bare place put = put
 
--- what a statement fills, or the pool or table that it puts
-abbrev pub set_pieces : List (Option EntryWords) → List Named → StmtKind → Place → Puts → List Piece
-set_pieces entries labels kind place put = filled_or (sort_of kind) place (put_pieces entries labels put)
+-- the filling of a statement, or the pool or table that it emits
+abbrev pub set_pieces : List (Option EntryWords) → List NamePlace → StmtKind → Place → Puts → List Piece
+set_pieces entries labels kind place put = filled_or (sort_of kind) place (pieces_of_puts entries labels put)
 
--- a statement's own bytes, where the encoder says of it what it says
-abbrev pub own_piece_by : List Named → StmtKind → Place → Option (Result Code EncodeFault) → Piece
+-- a statement's own bytes, given the result of the encoder
+abbrev pub own_piece_by : List NamePlace → StmtKind → Place → Option (Result Code EncodeFault) → Piece
 own_piece_by labels kind place code = if is_instruction kind then code_piece labels kind place code else data_piece labels kind place
 
--- the same where its pool word may have a place too
-abbrev pub own_piece : List Named → StmtKind → Place → Option ℕ → Piece
-own_piece labels kind place word = own_piece_by labels kind place (coded (instruction labels kind place.offset word))
+-- the same, given the place of its pool word, if it has one
+abbrev pub own_piece : List NamePlace → StmtKind → Place → Option ℕ → Piece
+own_piece labels kind place word = own_piece_by labels kind place (encode_option (instruction labels kind place.offset word))
 
 -- the pieces of a statement where it stands
-abbrev pub pieces_at : List (Option EntryWords) → List Named → PlacedStmt → List Piece
+abbrev pub pieces_at : List (Option EntryWords) → List NamePlace → PlacedStmt → List Piece
 pieces_at entries labels placed =
     set_pieces entries labels placed.stmt.kind placed.at placed.puts
     ++ own_piece labels placed.stmt.kind placed.at placed.word ∷ []
 
 -- the pieces of statements in the order of the text, the pool at its end last
-unfoldable pub pieces_of : List (Option EntryWords) → List Named → List PlacedStmt → PlacedPool → List Piece
+unfoldable pub pieces_of : List (Option EntryWords) → List NamePlace → List PlacedStmt → PlacedPool → List Piece
 pieces_of entries labels [] last = pool_pieces labels last
 pieces_of entries labels (placed ∷ more) last = pieces_at entries labels placed ++ pieces_of entries labels more last
 
@@ -239,18 +239,18 @@ changes_to None code = true
 changes_to (Some last) code = not (same_bool last code)
 
 -- a piece that has bytes of the text
-abbrev pub shows : Piece → Bool
-shows piece = same_section piece.place.section Text && not (length piece.bytes == 0)
+abbrev pub is_text_piece : Piece → Bool
+is_text_piece piece = same_section piece.place.section Text && not (length piece.bytes == 0)
 
--- a mark where bytes at a place of the text are of another sort than the last ones
+-- a mark, if the bytes at a place of the text are of another kind than the bytes before
 abbrev pub mark_of : Option Bool → ℕ → Bool → List Mark
 mark_of last place code = if changes_to last code then record { offset = place % 2 ^ 32; code = code } ∷ [] else []
 
--- the changes between code and words in the text; its first bytes are one
+-- the changes between code and data in the text; its first bytes make one
 unfoldable pub marks_from : Option Bool → List Piece → List Mark
 marks_from last [] = []
 marks_from last (piece ∷ more) =
-    if shows piece
+    if is_text_piece piece
     then mark_of last piece.place.offset piece.code ++ marks_from (Some piece.code) more
     else marks_from last more
 
@@ -268,11 +268,11 @@ row_of function (Some words) = record {
 } ∷ []
 
 -- the row of the function that a statement begins
-abbrev pub put_rows : List (Option EntryWords) → Puts → List IndexRow
-put_rows entries (puts.Function function) = row_of function (entry_at entries function.number)
-put_rows entries (puts.Pool _) = []
-put_rows entries puts.Nothing = []
+abbrev pub rows_of_puts : List (Option EntryWords) → Puts → List IndexRow
+rows_of_puts entries (puts.Function function) = row_of function (entry_at entries function.number)
+rows_of_puts entries (puts.Pool _) = []
+rows_of_puts entries puts.Nothing = []
 
 -- the rows of functions in the order of the text
 abbrev pub rows_of : List (Option EntryWords) → List PlacedStmt → List IndexRow
-rows_of entries placed = flat_map (λ p. put_rows entries p.puts) placed
+rows_of entries placed = flat_map (λ p. rows_of_puts entries p.puts) placed

@@ -1,24 +1,24 @@
-//! Bytes of instructions and of what fills a text (docs/objects.md; DDI 0419).
+//! The bytes of instructions, and of the filling of a text (docs/rules/sources.md; DDI 0419).
 ghost use Rattle.std.specs.Prelude.{◌≡◌, ◌<◌, ◌++◌, OnOk, replicate};
 ghost use Rattle.byteorder.specs.Endian.{little_bytes};
-ghost use Rattle.eh_list.specs.Bytes.{gap};
+ghost use Rattle.eh_word.specs.Bytes.{gap};
 ghost use Rattle.asm_layout.specs.Given.{bytes_of};
 ghost use Rattle.asm_object.specs.Bytes.{byte_bytes, half_bytes, word_bytes, code_bytes, filling_bytes};
 
 use asm_layout::given::Width;
-use eh_list::bytes::gap;
-use relocatable_object::object::Octets;
+use asm_relocatable::object::Octets;
+use eh_word::bytes::gap;
 use std::alloc::AllocError;
 use thumb_encode::code::Code;
 
-/// Adds a byte by its number modulo 256.
+/// Appends a number modulo 256 as a byte.
 fn push_byte(bytes: &mut Octets, n: u32) -> Result<(), AllocError>
     ensures { OnOk result (bytes.new ≡ bytes.old ++ byte_bytes n) }
 {
     bytes.push((n % 256) as u8)
 }
 
-/// Adds the low two bytes of a number, the lowest first.
+/// Appends the low two bytes of a number, lowest first.
 #[tactic(auto, using(crate::proofs::ByteLemmas::low_half))]
 pub fn push_half(bytes: &mut Octets, n: u32) -> Result<(), AllocError>
     ensures { OnOk result (bytes.new ≡ bytes.old ++ half_bytes n) }
@@ -26,7 +26,7 @@ pub fn push_half(bytes: &mut Octets, n: u32) -> Result<(), AllocError>
     bytes.push_half((n % 0x1_0000) as u16)
 }
 
-/// Adds as many of the low bytes of a number as a field of a width has, the lowest first.
+/// Appends the low bytes of a number, as many as a field of this width has, lowest first.
 pub fn push_field(bytes: &mut Octets, width: Width, n: u32) -> Result<(), AllocError>
     ensures { OnOk result (bytes.new ≡ bytes.old ++ little_bytes (bytes_of width) n) }
 {
@@ -37,7 +37,7 @@ pub fn push_field(bytes: &mut Octets, width: Width, n: u32) -> Result<(), AllocE
     }
 }
 
-/// Adds the halfwords of an instruction.
+/// Appends the halfwords of an instruction.
 pub fn push_code(bytes: &mut Octets, code: Code) -> Result<(), AllocError>
     ensures { OnOk result (bytes.new ≡ bytes.old ++ code_bytes code) }
 {
@@ -50,10 +50,10 @@ pub fn push_code(bytes: &mut Octets, code: Code) -> Result<(), AllocError>
     }
 }
 
-/// The instruction that fills the text: `mov r8, r8`.
+/// The instruction that fills a text: `mov r8, r8`.
 pub const FILLER: u32 = 0x46c0;
 
-/// Fills a text to the next multiple: one zero byte from an odd place on, and then instructions.
+/// Fills a text up to the next multiple: a zero byte if the place is odd, then filler instructions.
 pub fn push_filling(bytes: &mut Octets, place: u64, multiple: u64) -> Result<(), AllocError>
     requires { 0 < multiple }
     ensures { OnOk result (bytes.new ≡ bytes.old ++ filling_bytes (gap place multiple)) }

@@ -1,8 +1,8 @@
-//! The instructions of statements, and where their labels lead (docs/objects.md; DDI 0419, DDI 0553).
+//! The instructions of statements, with the offsets to their labels (docs/rules/sources.md; DDI 0419, DDI 0553).
 ghost use Rattle.std.specs.Prelude.{◌≡◌, IfOk};
-ghost use Rattle.asm_layout.specs.Labels.{named_in};
+ghost use Rattle.asm_layout.specs.Labels.{label_places};
 ghost use Rattle.asm_statements.specs.Computations.{of_two_registers, of_three_registers, of_register_number, of_two_registers_number};
-ghost use Rattle.asm_object.specs.Instructions.{pc, base, between, text_place, branch, literal, literal_to, label_literal, instruction, coded, branch_link};
+ghost use Rattle.asm_object.specs.Instructions.{pc, base, place_difference, text_place, branch, literal, literal_to, label_literal, instruction, encode_option, branch_link};
 
 use crate::value::Link;
 use asm_layout::labels::Labels;
@@ -10,29 +10,29 @@ use asm_layout::{
     bare_form, computed_form, data_form, local_form, name_form, nameless_form, reader_form,
     wide_form,
 };
+use asm_relocatable::name::copy_name;
+use asm_relocatable::place::{Place, Section};
+use asm_relocatable::relocation::{R_ARM_THM_CALL, R_ARM_THM_JUMP8, R_ARM_THM_JUMP11};
 use asm_statements::StmtKind;
 use asm_statements::computation::{
     of_register_number, of_three_registers, of_two_registers, of_two_registers_number, offset,
-    unsigned,
+    unsigned_field,
 };
 use eh_word::Name;
-use relocatable_object::name::copied;
-use relocatable_object::place::{Place, Section};
-use relocatable_object::relocation::{R_ARM_THM_CALL, R_ARM_THM_JUMP8, R_ARM_THM_JUMP11};
 use std::alloc::{AllocError, Global};
 use thumb_encode::code::Code;
 use thumb_encode::encode::encode;
 use thumb_isa::encode_fault::EncodeFault;
 use thumb_isa::instr::Instr;
 
-/// The difference of two places as an offset's field takes it.
-fn between(to: u64, from: u64) -> i32
-    ensures { result ≡ between to from }
+/// The difference of two places, as an offset of an instruction.
+fn place_difference(to: u64, from: u64) -> i32
+    ensures { result ≡ place_difference to from }
 {
     i32::try_from(i128::from(to) - i128::from(from)).unwrap_or(i32::MAX)
 }
 
-/// Where an instruction at a place finds its pc.
+/// The value of pc that an instruction at a place reads.
 fn pc(place: u64) -> u64
     ensures { result ≡ pc place }
 {
@@ -46,9 +46,9 @@ pub fn base(place: u64) -> u64
     pc(place) / 4 * 4
 }
 
-/// The place of a label in the text.
+/// The offset in bytes of a label in the text, or None if the text has no such label.
 pub fn text_place(labels: &Labels, name: &Name) -> Option<u64>
-    ensures { result ≡ text_place (named_in labels.now) name.now }
+    ensures { result ≡ text_place (label_places labels.now) name.now }
 {
     match labels.place_named(name) {
         Some(
@@ -61,26 +61,26 @@ pub fn text_place(labels: &Labels, name: &Name) -> Option<u64>
     }
 }
 
-/// The offset of a branch at a place: to a label in the text, else -4, which the linker fills where it may.
+/// The offset of a branch: to a label of the text, or else -4, the value that the linker replaces.
 fn branch(labels: &Labels, name: &Name, place: u64) -> i32
-    ensures { result ≡ branch (named_in labels.now) name.now place }
+    ensures { result ≡ branch (label_places labels.now) name.now place }
 {
     match text_place(labels, name) {
-        Some(to) => between(to, pc(place)),
+        Some(to) => place_difference(to, pc(place)),
         None => -4,
     }
 }
 
-/// The offset of a literal at a place.
+/// The offset of a literal load from its base.
 fn literal(to: u64, place: u64) -> i32
     ensures { result ≡ literal to place }
 {
-    between(to, base(place))
+    place_difference(to, base(place))
 }
 
-/// The offset of a label in the text from the base of a place; 0 without one.
+/// The offset of a label of the text from the load's base; 0 if there is no such label.
 fn label_literal(labels: &Labels, name: &Name, place: u64) -> i32
-    ensures { result ≡ label_literal (named_in labels.now) name.now place }
+    ensures { result ≡ label_literal (label_places labels.now) name.now place }
 {
     match text_place(labels, name) {
         Some(to) => literal(to, place),
@@ -88,7 +88,7 @@ fn label_literal(labels: &Labels, name: &Name, place: u64) -> i32
     }
 }
 
-/// The offset from a place to a pool word; 0 without one.
+/// The offset of a pool word from the load's base; 0 if there is no word.
 fn word_literal(word: Option<u64>, place: u64) -> i32
     ensures { result ≡ literal_to word place }
 {
@@ -98,9 +98,9 @@ fn word_literal(word: Option<u64>, place: u64) -> i32
     }
 }
 
-/// The instruction of a statement at a place, where `word` is the place of its pool word; None for `udf` and directives.
+/// The instruction of a statement, whose pool word is at `word`. None for `udf` and for directives.
 fn instruction(labels: &Labels, kind: &StmtKind, place: u64, word: Option<u64>) -> Option<Instr>
-    ensures { result ≡ instruction (named_in labels.now) kind.now place word }
+    ensures { result ≡ instruction (label_places labels.now) kind.now place word }
 {
     Some(match kind {
         StmtKind::TwoRegisters { what, d, m } => of_two_registers(*what, *d, *m).instr,
@@ -145,7 +145,7 @@ fn instruction(labels: &Labels, kind: &StmtKind, place: u64, word: Option<u64>) 
         StmtKind::Bx { m } => Instr::Bx { m: *m },
         StmtKind::Blx { m } => Instr::Blx { m: *m },
         StmtKind::Svc { imm } => Instr::Svc {
-            imm: unsigned(*imm),
+            imm: unsigned_field(*imm),
         },
         StmtKind::Hint { n } => Instr::Hint { n: *n },
         StmtKind::Barrier { op } => Instr::Barrier {
@@ -188,12 +188,12 @@ fn instruction(labels: &Labels, kind: &StmtKind, place: u64, word: Option<u64>) 
     })
 }
 
-/// What the encoder says of an instruction: its code, or why it has none; None where there is no instruction.
-pub type Coded = Option<Result<Code, EncodeFault>>;
+/// The result of the encoder: the code of an instruction or why it has none. None if the statement has no instruction.
+pub type EncodeResult = Option<Result<Code, EncodeFault>>;
 
-/// What the encoder says of a statement at a place, where `word` is the place of its pool word.
-pub fn coded(labels: &Labels, kind: &StmtKind, place: u64, word: Option<u64>) -> Coded
-    ensures { result ≡ coded (instruction (named_in labels.now) kind.now place word) }
+/// Encodes a statement at a place, whose pool word is at `word`.
+pub fn encode_stmt(labels: &Labels, kind: &StmtKind, place: u64, word: Option<u64>) -> EncodeResult
+    ensures { result ≡ encode_option (instruction (label_places labels.now) kind.now place word) }
 {
     match instruction(labels, kind, place, word) {
         Some(i) => Some(encode(&i)),
@@ -201,13 +201,13 @@ pub fn coded(labels: &Labels, kind: &StmtKind, place: u64, word: Option<u64>) ->
     }
 }
 
-/// What the linker puts into a branch, if anything: the kinds of `bl`, `b` and `b` with a condition (Arm ELF, IHI 0044).
+/// The relocation of a branch, if it needs one: of `bl`, `b` or `b` with a condition (IHI 0044).
 pub fn branch_link(
     alloc: Global,
     labels: &Labels,
     kind: &StmtKind,
 ) -> Result<Option<Link>, AllocError>
-    ensures { IfOk result (λ link. link ≡ branch_link (named_in labels.now) kind.now) }
+    ensures { IfOk result (λ link. link ≡ branch_link (label_places labels.now) kind.now) }
 {
     let (kind, name) = match kind {
         StmtKind::Bl(name) => (R_ARM_THM_CALL, name),
@@ -229,7 +229,7 @@ pub fn branch_link(
     }
     Ok(Some(Link {
         kind,
-        name: copied(alloc, name)?,
+        name: copy_name(alloc, name)?,
         addend: -4,
     }))
 }

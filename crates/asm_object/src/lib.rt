@@ -1,4 +1,4 @@
-//! Objects of statements: the assembler of the source language, without its reader (docs/objects.md).
+//! The assembler: makes objects of statements (docs/rules/sources.md).
 #![tactic(auto)]
 
 ghost use Rattle.asm_object.specs.PlaceLaw.{
@@ -19,37 +19,36 @@ mod symbols;
 mod value;
 
 pub use asm_layout::fault::{AsmFault, AsmWhat};
-pub use assembly::assemble;
-pub use relocatable_object::{
+pub use asm_relocatable::{
     IndexRow, IndexRows, Mark, Marks, ObjSymbol, ObjSymbols, Object, Octets, Reloc, Relocs,
     RowEntry, Section,
 };
+pub use assembly::assemble;
 
-/// Where a statement stands is the number of bytes of its section before it, where nothing is refused and no section is too
-/// large: a section ends after the bytes of its statements, and from a statement's place on it has the bytes of that
-/// statement and of those after it.
+/// If nothing is refused and no section is too large, a statement's place counts the bytes of its section before it.
+/// From there on the section has the bytes of the statement and of those after it, and it ends after the last one's.
 pub fn places_count_bytes()
     ensures end { SectionsEndAfterTheirBytes }
     ensures before { PlacesCountTheBytesBefore }
     ensures there { BytesStandAtTheirPlaces }
 {}
 
-/// The fields that the linker fills stand in the order of the sections, and in a section one after the other, each whole in
-/// the section's bytes, in every object that statements stand for. So no two of them share a byte.
+/// Relocations are ordered by section, and in a section their fields follow one another, whole in the section's bytes.
+/// So no two fields of an object share a byte.
 pub fn fields_stand_in_order()
     ensures fields { FieldsStandInOrder }
     ensures sections { RelocsGoBySection }
     ensures kinds { RelocsHaveKinds }
 {}
 
-/// The symbol of a label stands in the section where the statements before the label end, and at the place after them, in
-/// every object that statements stand for.
+/// In every object, the symbol of a label is where the statements before the label end: in that section, at that
+/// offset.
 pub fn symbols_stand_at_their_labels()
     ensures { SymbolsStandAtTheirLabels }
 {}
 
-/// A `ldr` of a value reads the value's word, in every object that statements stand for: its offset leads to a place of the text
-/// with the bytes of the word.
+/// In every object, a `ldr` of a value loads that value's word: its offset leads to a place of the text with the bytes
+/// of the word.
 pub fn loads_read_their_words()
     ensures { LoadsReadTheirWords }
 {}

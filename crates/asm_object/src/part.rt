@@ -1,18 +1,18 @@
-//! A section as it grows: its bytes, and what the linker fills in them (docs/objects.md).
+//! A section as it grows: its bytes and its relocations (docs/rules/sources.md).
 ghost use Rattle.std.specs.Prelude.{◌≡◌, ◌++◌, [], flat_map, map, OnOk};
 ghost use Rattle.byteorder.specs.Endian.{little_bytes};
-ghost use Rattle.asm_layout.specs.Given.{bytes_of, given_by};
-ghost use Rattle.asm_layout.specs.Labels.{named_in};
+ghost use Rattle.asm_layout.specs.Given.{bytes_of, data_value};
+ghost use Rattle.asm_layout.specs.Labels.{label_places};
 ghost use Rattle.asm_layout.specs.Words.{low_word, word_of};
 ghost use Rattle.asm_object.specs.Bytes.{word_bytes};
-ghost use Rattle.asm_object.specs.Values.{held, low_or_zero, link_of, number};
+ghost use Rattle.asm_object.specs.Values.{section_word, low_or_zero, link_of, number};
 ghost use Rattle.asm_object.specs.Instructions.{branch_link};
-ghost use Rattle.asm_object.specs.Pieces.{relocs_of, word_relocs, words_bytes, udf_half, code_bytes_of, fields_bytes, given_bytes, data_bytes, fields_relocs, given_relocs, data_relocs};
+ghost use Rattle.asm_object.specs.Pieces.{relocs_of, word_relocs, words_bytes, udf_half, code_bytes_of, fields_bytes, bytes_of_data, data_bytes, fields_relocs, relocs_of_data, data_relocs};
 ghost use Rattle.asm_object.specs.Built.{part_with, no_part};
 
 use crate::bytes::{push_code, push_field, push_half};
-use crate::code::{Coded, branch_link};
-use crate::value::{Link, held, link_of, number};
+use crate::code::{EncodeResult, branch_link};
+use crate::value::{Link, link_of, number, section_word};
 use asm_layout::given::{Data, Width};
 use asm_layout::labels::Labels;
 use asm_layout::sort::given;
@@ -21,12 +21,12 @@ use asm_layout::{
     bare_form, branch_form, computed_form, data_form, local_form, name_form, nameless_form,
     reader_form, wide_form,
 };
-use asm_statements::{Expr, Exprs, Lent, StmtKind};
-use relocatable_object::object::{Octets, Reloc, Relocs};
-use relocatable_object::place::{Place, Section};
+use asm_relocatable::object::{Octets, Reloc, Relocs};
+use asm_relocatable::place::{Place, Section};
+use asm_statements::{Expr, Exprs, ExprsRef, StmtKind};
 use std::alloc::{AllocError, Global};
 
-/// Adds what the linker fills at a place, if anything.
+/// Appends the relocation of a place, if it has one.
 fn push_link(relocs: &mut Relocs, at: Place, link: Option<Link>) -> Result<(), AllocError>
     ensures { OnOk result (relocs.new ≡ relocs.old ++ relocs_of at link) }
 {
@@ -42,7 +42,7 @@ fn push_link(relocs: &mut Relocs, at: Place, link: Option<Link>) -> Result<(), A
     Ok(())
 }
 
-/// Adds numbers as fields.
+/// Appends numbers as fields.
 fn push_plain(bytes: &mut Octets, width: Width, numbers: &[i64]) -> Result<(), AllocError>
     ensures { OnOk result (bytes.new ≡ bytes.old ++ flat_map (λ n. little_bytes (bytes_of width) (low_word n)) numbers.now) }
 {
@@ -52,14 +52,14 @@ fn push_plain(bytes: &mut Octets, width: Width, numbers: &[i64]) -> Result<(), A
     Ok(())
 }
 
-/// Adds the numbers of fields.
+/// Appends the numbers of expressions as fields.
 fn push_numbers(
     bytes: &mut Octets,
     labels: &Labels,
     width: Width,
     fields: &[Expr],
 ) -> Result<(), AllocError>
-    ensures { OnOk result (bytes.new ≡ bytes.old ++ flat_map (λ field. little_bytes (bytes_of width) (low_or_zero (number (named_in labels.now) field))) fields.now) }
+    ensures { OnOk result (bytes.new ≡ bytes.old ++ flat_map (λ field. little_bytes (bytes_of width) (low_or_zero (number (label_places labels.now) field))) fields.now) }
 {
     for field in fields {
         push_field(bytes, width, low_number(number(labels, field).unwrap_or(0)))?;
@@ -67,7 +67,7 @@ fn push_numbers(
     Ok(())
 }
 
-/// The halfword of `udf`.
+/// The halfword of a `udf`; None for any other statement.
 fn udf_half(kind: &StmtKind) -> Option<u32>
     ensures { result ≡ udf_half kind.now }
 {
@@ -86,15 +86,17 @@ fn udf_half(kind: &StmtKind) -> Option<u32>
     }
 }
 
-/// The bytes of a section so far, and what the linker fills in them.
+/// The bytes and the relocations of a section so far.
 #[derive(Drop)]
 pub struct Part {
+    /// The bytes.
     pub bytes: Octets,
+    /// The relocations, ascending by offset.
     pub relocs: Relocs,
 }
 
 impl Part {
-    /// Without bytes.
+    /// An empty section.
     pub fn new(alloc: Global) -> Part
         ensures { result ≡ no_part }
     {
@@ -104,15 +106,15 @@ impl Part {
         }
     }
 
-    /// Adds a word at a place.
+    /// Appends a word at a place.
     fn push_word(&mut self, labels: &Labels, at: Place, word: Word) -> Result<(), AllocError>
-        ensures { OnOk result (self.new ≡ part_with self.old (word_bytes (held (named_in labels.now) word)) (relocs_of at (link_of word))) }
+        ensures { OnOk result (self.new ≡ part_with self.old (word_bytes (section_word (label_places labels.now) word)) (relocs_of at (link_of word))) }
     {
-        self.bytes.push_word(held(labels, &word))?;
+        self.bytes.push_word(section_word(labels, &word))?;
         push_link(&mut self.relocs, at, link_of(word))
     }
 
-    /// Adds the words of a list from a place on.
+    /// Appends the words of a list, from a place on.
     #[tactic(auto, unfolding(crate::specs::Pieces::word_relocs))]
     fn push_words(
         &mut self,
@@ -121,7 +123,7 @@ impl Part {
         at: Place,
         words: &[Expr],
     ) -> Result<(), AllocError>
-        ensures { OnOk result (self.new ≡ part_with self.old (words_bytes (named_in labels.now) (map word_of words.now)) (word_relocs at.section at.offset (map word_of words.now))) }
+        ensures { OnOk result (self.new ≡ part_with self.old (words_bytes (label_places labels.now) (map word_of words.now)) (word_relocs at.section at.offset (map word_of words.now))) }
     {
         let mut offset = at.offset;
         for expr in words {
@@ -136,10 +138,10 @@ impl Part {
         Ok(())
     }
 
-    /// Adds the words of a pool from a place of the text on.
+    /// Appends the words of a literal pool, from a place of the text on.
     #[tactic(auto, unfolding(crate::specs::Pieces::word_relocs))]
     pub fn push_pool(&mut self, labels: &Labels, from: u64, words: Words) -> Result<(), AllocError>
-        ensures { OnOk result (self.new ≡ part_with self.old (words_bytes (named_in labels.now) words) (word_relocs Section.Text from words)) }
+        ensures { OnOk result (self.new ≡ part_with self.old (words_bytes (label_places labels.now) words) (word_relocs Section.Text from words)) }
     {
         let mut offset = from;
         for word in words.into_vec() {
@@ -153,7 +155,7 @@ impl Part {
         Ok(())
     }
 
-    /// Adds expressions as fields from a place on.
+    /// Appends expressions as fields, from a place on.
     fn push_mixed(
         &mut self,
         alloc: Global,
@@ -162,7 +164,7 @@ impl Part {
         width: Width,
         fields: &[Expr],
     ) -> Result<(), AllocError>
-        ensures { OnOk result (self.new ≡ part_with self.old (fields_bytes (named_in labels.now) width fields.now) (fields_relocs width fields.now at)) }
+        ensures { OnOk result (self.new ≡ part_with self.old (fields_bytes (label_places labels.now) width fields.now) (fields_relocs width fields.now at)) }
     {
         if width.takes_addresses() {
             return self.push_words(alloc, labels, at, fields);
@@ -170,7 +172,7 @@ impl Part {
         push_numbers(&mut self.bytes, labels, width, fields)
     }
 
-    /// Adds fields from a place on.
+    /// Appends fields, from a place on.
     fn push_fields(
         &mut self,
         alloc: Global,
@@ -179,15 +181,15 @@ impl Part {
         width: Width,
         fields: &Exprs,
     ) -> Result<(), AllocError>
-        ensures { OnOk result (self.new ≡ part_with self.old (fields_bytes (named_in labels.now) width fields.now) (fields_relocs width fields.now at)) }
+        ensures { OnOk result (self.new ≡ part_with self.old (fields_bytes (label_places labels.now) width fields.now) (fields_relocs width fields.now at)) }
     {
-        match fields.lent() {
-            Lent::Numbers(numbers) => push_plain(&mut self.bytes, width, numbers),
-            Lent::Mixed(fields) => self.push_mixed(alloc, labels, at, width, fields),
+        match fields.as_exprs_ref() {
+            ExprsRef::Numbers(numbers) => push_plain(&mut self.bytes, width, numbers),
+            ExprsRef::Mixed(fields) => self.push_mixed(alloc, labels, at, width, fields),
         }
     }
 
-    /// Adds data at a place.
+    /// Appends data at a place.
     fn push_given(
         &mut self,
         alloc: Global,
@@ -195,7 +197,7 @@ impl Part {
         at: Place,
         given: Data<'_>,
     ) -> Result<(), AllocError>
-        ensures { OnOk result (self.new ≡ part_with self.old (given_bytes (named_in labels.now) (Some (given_by given.entry))) (given_relocs (Some (given_by given.entry)) at)) }
+        ensures { OnOk result (self.new ≡ part_with self.old (bytes_of_data (label_places labels.now) (Some (data_value given.entry))) (relocs_of_data (Some (data_value given.entry)) at)) }
     {
         match given {
             Data::Fields(width, fields) => self.push_fields(alloc, labels, at, width, fields),
@@ -207,7 +209,7 @@ impl Part {
         }
     }
 
-    /// Adds the bytes of a statement that is no instruction.
+    /// Appends the bytes of a statement that is no instruction.
     pub fn push_data(
         &mut self,
         alloc: Global,
@@ -215,7 +217,7 @@ impl Part {
         at: Place,
         kind: &StmtKind,
     ) -> Result<(), AllocError>
-        ensures { OnOk result (self.new ≡ part_with self.old (data_bytes (named_in labels.now) kind.now) (data_relocs kind.now at)) }
+        ensures { OnOk result (self.new ≡ part_with self.old (data_bytes (label_places labels.now) kind.now) (data_relocs kind.now at)) }
     {
         match given(kind) {
             Some(found) => self.push_given(alloc, labels, at, found),
@@ -223,16 +225,16 @@ impl Part {
         }
     }
 
-    /// Adds the bytes of an instruction at a place, where `code` is what the encoder says.
+    /// Appends the bytes of an instruction at a place. `code` is the result of the encoder.
     pub fn push_instruction(
         &mut self,
         alloc: Global,
         labels: &Labels,
         at: Place,
         kind: &StmtKind,
-        code: Coded,
+        code: EncodeResult,
     ) -> Result<(), AllocError>
-        ensures { OnOk result (self.new ≡ part_with self.old (code_bytes_of kind.now code) (relocs_of at (branch_link (named_in labels.now) kind.now))) }
+        ensures { OnOk result (self.new ≡ part_with self.old (code_bytes_of kind.now code) (relocs_of at (branch_link (label_places labels.now) kind.now))) }
     {
         if let Some(half) = udf_half(kind) {
             push_half(&mut self.bytes, half)?;

@@ -1,13 +1,13 @@
-//! The sections of an object as they grow, statement by statement (docs/objects.md).
+//! The sections of an object as they grow, statement by statement (docs/rules/sources.md).
 ghost use Rattle.std.specs.Prelude.{◌≡◌, ◌<◌, ◌++◌, ◌∷◌, [], nat_lt, length, flat_map, OnOk};
-ghost use Rattle.asm_layout.specs.Labels.{named_in};
-ghost use Rattle.eh_list.specs.Bytes.{gap};
+ghost use Rattle.asm_layout.specs.Labels.{label_places};
+ghost use Rattle.eh_word.specs.Bytes.{gap};
 ghost use Rattle.asm_object.specs.Bytes.{word_bytes};
-ghost use Rattle.asm_object.specs.Pieces.{place_at, words_piece, filling_piece, pool_pieces, table_pieces, code_piece, data_piece, put_pieces, set_pieces, own_piece_by, row_entry, row_of, put_rows};
-ghost use Rattle.asm_object.specs.Built.{marked, text_with, with_piece, with_pieces, no_sections};
+ghost use Rattle.asm_object.specs.Pieces.{place_at, words_piece, filling_piece, pool_pieces, table_pieces, code_piece, data_piece, pieces_of_puts, set_pieces, own_piece_by, row_entry, row_of, rows_of_puts};
+ghost use Rattle.asm_object.specs.Built.{text_with_mark, text_with, with_piece, with_pieces, no_sections};
 
 use crate::bytes::push_filling;
-use crate::code::Coded;
+use crate::code::EncodeResult;
 use crate::part::Part;
 use asm_layout::labels::Labels;
 use asm_layout::placed::{PlacedFunction, PlacedPool, Puts};
@@ -17,26 +17,28 @@ use asm_layout::{
     bare_form, branch_form, computed_form, data_form, local_form, name_form, nameless_form,
     reader_form, wide_form,
 };
+use asm_relocatable::object::{IndexRow, IndexRows, Mark, Marks, Octets, RowEntry};
+use asm_relocatable::place::{Place, Section};
 use asm_statements::StmtKind;
 use asm_unwind::EntryWords;
-use eh_list::bytes::gap;
-use relocatable_object::object::{IndexRow, IndexRows, Mark, Marks, Octets, RowEntry};
-use relocatable_object::place::{Place, Section};
+use eh_word::bytes::gap;
 use std::alloc::{AllocError, Global};
 
-/// The text so far, with a mark at each change between code and words.
+/// The text so far, with a mark at each change between code and data.
 #[derive(Drop)]
-pub struct Marked {
+pub struct MarkedText {
+    /// The bytes and relocations.
     pub part: Part,
+    /// The marks, ascending by offset.
     pub marks: Marks,
-    /// Whether the last bytes are code; None without bytes.
+    /// Whether the last bytes are code; None if there are none.
     last: Option<bool>,
 }
 
-impl Marked {
-    /// Adds a mark if the bytes from a length on are of another sort than the ones before.
+impl MarkedText {
+    /// Adds a mark if bytes were appended since a length and their kind differs from that of the bytes before.
     fn mark(&mut self, before: usize, place: u64, code: bool) -> Result<(), AllocError>
-        ensures { OnOk result (self.new ≡ marked self.old (nat_lt before (length self.old.part.bytes)) place code) }
+        ensures { OnOk result (self.new ≡ text_with_mark self.old (nat_lt before (length self.old.part.bytes)) place code) }
     {
         if self.part.bytes.len() <= before {
             return Ok(());
@@ -52,7 +54,7 @@ impl Marked {
         Ok(())
     }
 
-    /// Adds a statement's data.
+    /// Appends a statement's data.
     fn push_data(
         &mut self,
         alloc: Global,
@@ -60,30 +62,30 @@ impl Marked {
         at: Place,
         kind: &StmtKind,
     ) -> Result<(), AllocError>
-        ensures { OnOk result (self.new ≡ text_with self.old (data_piece (named_in labels.now) kind.now at)) }
+        ensures { OnOk result (self.new ≡ text_with self.old (data_piece (label_places labels.now) kind.now at)) }
     {
         let before = self.part.bytes.len();
         self.part.push_data(alloc, labels, at, kind)?;
         self.mark(before, at.offset, false)
     }
 
-    /// Adds an instruction.
+    /// Appends an instruction.
     fn push_instruction(
         &mut self,
         alloc: Global,
         labels: &Labels,
         at: Place,
         kind: &StmtKind,
-        code: Coded,
+        code: EncodeResult,
     ) -> Result<(), AllocError>
-        ensures { OnOk result (self.new ≡ text_with self.old (code_piece (named_in labels.now) kind.now at code)) }
+        ensures { OnOk result (self.new ≡ text_with self.old (code_piece (label_places labels.now) kind.now at code)) }
     {
         let before = self.part.bytes.len();
         self.part.push_instruction(alloc, labels, at, kind, code)?;
         self.mark(before, at.offset, true)
     }
 
-    /// Fills to the next multiple, from the place of the next byte on.
+    /// Fills up to the next multiple.
     fn push_filling(&mut self, place: u64, multiple: u64) -> Result<(), AllocError>
         requires { 0 < multiple }
         ensures { OnOk result (self.new ≡ text_with self.old (filling_piece (place_at Section.Text place) (gap place multiple))) }
@@ -93,9 +95,9 @@ impl Marked {
         self.mark(before, place, true)
     }
 
-    /// Adds the words of a pool.
+    /// Appends the words of a literal pool.
     fn push_pool(&mut self, labels: &Labels, from: u64, words: Words) -> Result<(), AllocError>
-        ensures { OnOk result (self.new ≡ text_with self.old (words_piece (named_in labels.now) (place_at Section.Text from) words)) }
+        ensures { OnOk result (self.new ≡ text_with self.old (words_piece (label_places labels.now) (place_at Section.Text from) words)) }
     {
         let before = self.part.bytes.len();
         self.part.push_pool(labels, from, words)?;
@@ -106,19 +108,23 @@ impl Marked {
 /// The sections of an object so far.
 #[derive(Drop)]
 pub struct Sections {
-    pub text: Marked,
+    /// The text.
+    pub text: MarkedText,
+    /// The read-only data.
     pub rodata: Part,
+    /// The exception tables.
     pub extab: Part,
+    /// The initialized data.
     pub init: Part,
 }
 
 impl Sections {
-    /// Without bytes.
+    /// Empty sections.
     pub fn new(alloc: Global) -> Sections
         ensures { result ≡ no_sections }
     {
         Sections {
-            text: Marked {
+            text: MarkedText {
                 part: Part::new(alloc),
                 marks: Marks::new(alloc),
                 last: None,
@@ -129,7 +135,7 @@ impl Sections {
         }
     }
 
-    /// Adds a statement's data to its section.
+    /// Appends a statement's data to its section.
     fn push_data(
         &mut self,
         alloc: Global,
@@ -137,7 +143,7 @@ impl Sections {
         at: Place,
         kind: &StmtKind,
     ) -> Result<(), AllocError>
-        ensures { OnOk result (self.new ≡ with_piece self.old (data_piece (named_in labels.now) kind.now at)) }
+        ensures { OnOk result (self.new ≡ with_piece self.old (data_piece (label_places labels.now) kind.now at)) }
     {
         match at.section {
             Section::Text => self.text.push_data(alloc, labels, at, kind),
@@ -148,16 +154,16 @@ impl Sections {
         }
     }
 
-    /// Adds an instruction to its section.
+    /// Appends an instruction to its section.
     fn push_instruction(
         &mut self,
         alloc: Global,
         labels: &Labels,
         at: Place,
         kind: &StmtKind,
-        code: Coded,
+        code: EncodeResult,
     ) -> Result<(), AllocError>
-        ensures { OnOk result (self.new ≡ with_piece self.old (code_piece (named_in labels.now) kind.now at code)) }
+        ensures { OnOk result (self.new ≡ with_piece self.old (code_piece (label_places labels.now) kind.now at code)) }
     {
         match at.section {
             Section::Text => self.text.push_instruction(alloc, labels, at, kind, code),
@@ -168,16 +174,16 @@ impl Sections {
         }
     }
 
-    /// Adds a statement's own bytes, where `code` is what the encoder says.
+    /// Appends a statement's own bytes. `code` is the result of the encoder.
     pub fn push_own(
         &mut self,
         alloc: Global,
         labels: &Labels,
         at: Place,
         kind: &StmtKind,
-        code: Coded,
+        code: EncodeResult,
     ) -> Result<(), AllocError>
-        ensures { OnOk result (self.new ≡ with_piece self.old (own_piece_by (named_in labels.now) kind.now at code)) }
+        ensures { OnOk result (self.new ≡ with_piece self.old (own_piece_by (label_places labels.now) kind.now at code)) }
     {
         if is_instruction(kind) {
             self.push_instruction(alloc, labels, at, kind, code)
@@ -186,7 +192,7 @@ impl Sections {
         }
     }
 
-    /// Fills a section to the next multiple.
+    /// Fills a section up to the next multiple.
     fn push_filling(&mut self, at: Place, multiple: u64) -> Result<(), AllocError>
         requires { 0 < multiple }
         ensures { OnOk result (self.new ≡ with_piece self.old (filling_piece at (gap at.offset multiple))) }
@@ -201,9 +207,9 @@ impl Sections {
         }
     }
 
-    /// Adds a pool.
+    /// Appends a literal pool to the text.
     pub fn push_pool(&mut self, labels: &Labels, pool: PlacedPool) -> Result<(), AllocError>
-        ensures { OnOk result (self.new ≡ with_pieces self.old (pool_pieces (named_in labels.now) pool)) }
+        ensures { OnOk result (self.new ≡ with_pieces self.old (pool_pieces (label_places labels.now) pool)) }
     {
         let PlacedPool { from, words } = pool;
         if words.is_empty() {
@@ -214,7 +220,7 @@ impl Sections {
         self.text.push_pool(labels, place, words)
     }
 
-    /// Adds the words of a function's table, at the next multiple of 4 after a place of the exception tables.
+    /// Appends the words of a function's table to the exception tables, at the next multiple of 4 from a place on.
     fn push_table(&mut self, place: u64, entry: &EntryWords) -> Result<(), AllocError>
         ensures { OnOk result (self.new ≡ with_pieces self.old (table_pieces place (Some entry.now))) }
     {
@@ -227,14 +233,14 @@ impl Sections {
         }
     }
 
-    /// Adds the pool or the table that a statement puts.
+    /// Appends the literal pool or the unwind table that a statement emits.
     fn push_put(
         &mut self,
         labels: &Labels,
         entries: &[Option<EntryWords>],
         puts: Puts,
     ) -> Result<(), AllocError>
-        ensures { OnOk result (self.new ≡ with_pieces self.old (put_pieces entries.now (named_in labels.now) puts)) }
+        ensures { OnOk result (self.new ≡ with_pieces self.old (pieces_of_puts entries.now (label_places labels.now) puts)) }
     {
         match puts {
             Puts::Pool(pool) => self.push_pool(labels, pool),
@@ -246,7 +252,7 @@ impl Sections {
         }
     }
 
-    /// Adds what a statement fills, and the pool or table that it puts.
+    /// Appends the filling of a statement, and the pool or table that it emits.
     pub fn push_set(
         &mut self,
         labels: &Labels,
@@ -255,7 +261,7 @@ impl Sections {
         kind: &StmtKind,
         puts: Puts,
     ) -> Result<(), AllocError>
-        ensures { OnOk result (self.new ≡ with_pieces self.old (set_pieces entries.now (named_in labels.now) kind.now at puts)) }
+        ensures { OnOk result (self.new ≡ with_pieces self.old (set_pieces entries.now (label_places labels.now) kind.now at puts)) }
     {
         match kind {
             StmtKind::Align(n) => self.push_filling(at, multiple(*n)),
@@ -273,7 +279,7 @@ impl Sections {
     }
 }
 
-/// Adds the words of a table.
+/// Appends the words of a table.
 fn push_table_words(bytes: &mut Octets, words: &[u32]) -> Result<(), AllocError>
     ensures { OnOk result (bytes.new ≡ bytes.old ++ flat_map word_bytes words.now) }
 {
@@ -283,7 +289,7 @@ fn push_table_words(bytes: &mut Octets, words: &[u32]) -> Result<(), AllocError>
     Ok(())
 }
 
-/// The row of an entry whose table stands at a place of the exception tables.
+/// The row entry of an unwind entry whose table is at an offset of the exception tables.
 fn row_entry(entry: &EntryWords, table: u64) -> RowEntry
     ensures { result ≡ row_entry table entry.now }
 {
@@ -294,13 +300,13 @@ fn row_entry(entry: &EntryWords, table: u64) -> RowEntry
     }
 }
 
-/// Adds the row of the function that begins with a statement.
+/// Adds the index row of the function that a statement begins, if it does and the function has an entry.
 pub fn push_row(
     rows: &mut IndexRows,
     entries: &[Option<EntryWords>],
     puts: &Puts,
 ) -> Result<(), AllocError>
-    ensures { OnOk result (rows.new ≡ rows.old ++ put_rows entries.now puts.now) }
+    ensures { OnOk result (rows.new ≡ rows.old ++ rows_of_puts entries.now puts.now) }
 {
     match puts {
         Puts::Function(function) => {
@@ -313,7 +319,7 @@ pub fn push_row(
     }
 }
 
-/// The row of a function.
+/// The index row of a function.
 fn row_of(function: PlacedFunction, entry: &EntryWords) -> IndexRow
     ensures { result ∷ [] ≡ row_of function (Some entry.now) }
 {

@@ -1,15 +1,15 @@
-//! Why a statement is refused at its place (docs/objects.md, in the order of its table).
+//! The refusals of single statements, in the order of the table of docs/rules/sources.md.
 ghost use Rattle.std.specs.Prelude.{◌≡◌, None, Some, List};
 ghost use Rattle.std.specs.List.{list_all};
-ghost use Rattle.asm_statements.specs.Exprs.{plain};
-ghost use Rattle.asm_layout.specs.Given.{given_by, FieldsOf};
-ghost use Rattle.asm_layout.specs.Sorts.{given};
-ghost use Rattle.asm_layout.specs.Labels.{Named, named_in};
+ghost use Rattle.asm_statements.specs.Exprs.{number_exprs};
+ghost use Rattle.asm_layout.specs.Given.{data_value, FieldsOf};
+ghost use Rattle.asm_layout.specs.Sorts.{stmt_data};
+ghost use Rattle.asm_layout.specs.Labels.{NamePlace, label_places};
 ghost use Rattle.asm_object.specs.Values.{is_word_known};
-ghost use Rattle.asm_object.specs.Instructions.{instruction, coded};
-ghost use Rattle.asm_object.specs.Refusals.{are_names_known, fits, fault_unless, coded_fault, encode_fault_by, encode_or, numbers_refusal, data_refusal, first_refusal, is_pool_too_far, has_bytes, is_misplaced, refusal};
+ghost use Rattle.asm_object.specs.Instructions.{instruction, encode_option};
+ghost use Rattle.asm_object.specs.Refusals.{are_names_known, fits_field, fault_unless, coded_fault, encode_fault_by, encode_or, numbers_refusal, data_refusal, first_refusal, is_pool_too_far, has_bytes, is_misplaced, refusal};
 
-use crate::code::{Coded, base, text_place};
+use crate::code::{EncodeResult, base, text_place};
 use crate::value::{is_known, is_word_known, number};
 use asm_layout::fault::AsmWhat;
 use asm_layout::given::{Data, Width};
@@ -20,16 +20,16 @@ use asm_layout::{
     bare_form, branch_form, computed_form, data_form, local_form, name_form, nameless_form,
     reader_form, wide_form,
 };
-use asm_statements::{Expr, Exprs, Lent, StmtKind};
-use relocatable_object::place::{Place, Section};
+use asm_relocatable::place::{Place, Section};
+use asm_statements::{Expr, Exprs, ExprsRef, StmtKind};
 use thumb_isa::encode_fault::EncodeFault;
 
-/// The most bytes from a `ldr` to its pool word.
+/// The greatest distance in bytes from a `ldr` to its pool word.
 pub const MOST_TO_POOL: u64 = 1020;
 
-/// Whether the names of words may be used.
+/// Whether all names of these words are defined or may be left to the linker.
 fn are_words_known(labels: &Labels, words: &[Expr]) -> bool
-    ensures { result ≡ list_all (λ word. is_word_known (named_in labels.now) word) words.now }
+    ensures { result ≡ list_all (λ word. is_word_known (label_places labels.now) word) words.now }
 {
     for word in words {
         if !is_word_known(labels, word) {
@@ -39,10 +39,10 @@ fn are_words_known(labels: &Labels, words: &[Expr]) -> bool
     true
 }
 
-/// Whether the names of a statement that is no data may be used.
+/// Whether all names of a statement other than data are defined or may be left to the linker.
 fn are_names_known(labels: &Labels, kind: &StmtKind) -> bool
-    requires { given kind.now ≡ None }
-    ensures { result ≡ are_names_known (named_in labels.now) kind.now }
+    requires { stmt_data kind.now ≡ None }
+    ensures { result ≡ are_names_known (label_places labels.now) kind.now }
 {
     match kind {
         StmtKind::Adr { name, .. }
@@ -67,23 +67,23 @@ fn are_names_known(labels: &Labels, kind: &StmtKind) -> bool
     }
 }
 
-/// Whether a number fits a field, from `-limit` to `2 * limit - 1`.
-fn fits(number: i128, limit: u16) -> bool
-    ensures { result ≡ fits limit (Some number) }
+/// Whether a number is in the range of a field, from `-limit` to `2 * limit - 1`.
+fn fits_field(number: i128, limit: u16) -> bool
+    ensures { result ≡ fits_field limit (Some number) }
 {
     let limit = i128::from(limit);
     -limit <= number && number < 2 * limit
 }
 
-/// A fault where a test doesn't hold.
+/// The fault if a test fails, else None.
 fn fault_unless(holds: bool, fault: EncodeFault) -> Option<EncodeFault>
     ensures { result ≡ fault_unless holds fault }
 {
     if holds { None } else { Some(fault) }
 }
 
-/// Why an instruction has no code.
-fn coded_fault(code: &Coded) -> Option<EncodeFault>
+/// Why an instruction can't be encoded.
+fn coded_fault(code: &EncodeResult) -> Option<EncodeFault>
     ensures { result ≡ coded_fault code.now }
 {
     match code {
@@ -92,8 +92,8 @@ fn coded_fault(code: &Coded) -> Option<EncodeFault>
     }
 }
 
-/// The refusal that a fault is.
-fn encoded(fault: Option<EncodeFault>) -> Option<AsmWhat>
+/// The refusal of a fault.
+fn encode_refusal(fault: Option<EncodeFault>) -> Option<AsmWhat>
     ensures { result ≡ encode_or fault None }
 {
     match fault {
@@ -102,26 +102,26 @@ fn encoded(fault: Option<EncodeFault>) -> Option<AsmWhat>
     }
 }
 
-/// Why the numbers of fields are refused: one isn't known, else one doesn't fit.
+/// Why the numbers of fields are refused: one is unknown, or else one doesn't fit.
 fn numbers_refusal(labels: &Labels, limit: u16, fields: &[Expr]) -> Option<AsmWhat>
-    ensures { result ≡ numbers_refusal (named_in labels.now) limit fields.now }
+    ensures { result ≡ numbers_refusal (label_places labels.now) limit fields.now }
 {
     let mut all_fit = true;
     for field in fields {
         let Some(n) = number(labels, field) else {
             return Some(AsmWhat::UndefinedLocal);
         };
-        all_fit = all_fit && fits(n, limit);
+        all_fit = all_fit && fits_field(n, limit);
     }
-    encoded(fault_unless(all_fit, EncodeFault::ImmediateRange))
+    encode_refusal(fault_unless(all_fit, EncodeFault::ImmediateRange))
 }
 
-/// Whether numbers fit their fields.
+/// Whether all numbers fit their fields.
 fn all_within(limit: u16, numbers: &[i64]) -> bool
-    ensures { result ≡ list_all (λ n. fits limit (Some n)) numbers.now }
+    ensures { result ≡ list_all (λ n. fits_field limit (Some n)) numbers.now }
 {
     for n in numbers {
-        if !fits(i128::from(*n), limit) {
+        if !fits_field(i128::from(*n), limit) {
             return false;
         }
     }
@@ -131,10 +131,10 @@ fn all_within(limit: u16, numbers: &[i64]) -> bool
 /// Why numbers are refused as fields of a width.
 #[tactic(auto, using(crate::proofs::PlainLemmas::unlimited))]
 fn plain_refusal(width: Width, numbers: &[i64]) -> Option<AsmWhat>
-    ensures { (labels : List Named) → result ≡ data_refusal labels (FieldsOf width (plain numbers.now)) }
+    ensures { (labels : List NamePlace) → result ≡ data_refusal labels (FieldsOf width (number_exprs numbers.now)) }
 {
     match width.limit() {
-        Some(limit) => encoded(fault_unless(
+        Some(limit) => encode_refusal(fault_unless(
             all_within(limit, numbers),
             EncodeFault::ImmediateRange,
         )),
@@ -145,7 +145,7 @@ fn plain_refusal(width: Width, numbers: &[i64]) -> Option<AsmWhat>
 /// Why expressions are refused as fields of a width.
 #[tactic(auto, using(crate::proofs::RefusalLemmas::numbered, crate::proofs::RefusalLemmas::addressed))]
 fn mixed_refusal(labels: &Labels, width: Width, fields: &[Expr]) -> Option<AsmWhat>
-    ensures { result ≡ data_refusal (named_in labels.now) (FieldsOf width fields.now) }
+    ensures { result ≡ data_refusal (label_places labels.now) (FieldsOf width fields.now) }
 {
     match width.limit() {
         Some(limit) => numbers_refusal(labels, limit, fields),
@@ -161,29 +161,29 @@ fn mixed_refusal(labels: &Labels, width: Width, fields: &[Expr]) -> Option<AsmWh
 
 /// Why fields of a width are refused.
 fn fields_refusal(labels: &Labels, width: Width, fields: &Exprs) -> Option<AsmWhat>
-    ensures { result ≡ data_refusal (named_in labels.now) (FieldsOf width fields.now) }
+    ensures { result ≡ data_refusal (label_places labels.now) (FieldsOf width fields.now) }
 {
-    match fields.lent() {
-        Lent::Numbers(numbers) => plain_refusal(width, numbers),
-        Lent::Mixed(fields) => mixed_refusal(labels, width, fields),
+    match fields.as_exprs_ref() {
+        ExprsRef::Numbers(numbers) => plain_refusal(width, numbers),
+        ExprsRef::Mixed(fields) => mixed_refusal(labels, width, fields),
     }
 }
 
 /// Why data is refused.
 fn data_refusal(labels: &Labels, given: Data<'_>) -> Option<AsmWhat>
-    ensures { result ≡ data_refusal (named_in labels.now) (given_by given.entry) }
+    ensures { result ≡ data_refusal (label_places labels.now) (data_value given.entry) }
 {
     match given {
         Data::Fields(width, fields) => fields_refusal(labels, width, fields),
         Data::Text { .. } => None,
-        Data::Zeros(n) => encoded(fault_unless(n >= 0, EncodeFault::ImmediateRange)),
+        Data::Zeros(n) => encode_refusal(fault_unless(n >= 0, EncodeFault::ImmediateRange)),
     }
 }
 
-/// Why `encode` refuses the instruction of a statement that is no data.
-fn encode_fault(kind: &StmtKind, code: &Coded) -> Option<EncodeFault>
-    requires { given kind.now ≡ None }
-    ensures { (labels : List Named) → result ≡ encode_fault_by labels kind.now code.now }
+/// Why `encode` refuses the instruction of a statement other than data.
+fn encode_fault(kind: &StmtKind, code: &EncodeResult) -> Option<EncodeFault>
+    requires { stmt_data kind.now ≡ None }
+    ensures { (labels : List NamePlace) → result ≡ encode_fault_by labels kind.now code.now }
 {
     match kind {
         StmtKind::Udf { imm } => fault_unless(
@@ -202,21 +202,21 @@ fn encode_fault(kind: &StmtKind, code: &Coded) -> Option<EncodeFault>
     }
 }
 
-/// Why the names or the instruction of a statement that is no data are refused.
-fn instruction_refusal(labels: &Labels, kind: &StmtKind, code: &Coded) -> Option<AsmWhat>
-    requires { given kind.now ≡ None }
-    ensures { result ≡ first_refusal (named_in labels.now) kind.now code.now }
+/// Why the names or the instruction of a statement other than data are refused.
+fn instruction_refusal(labels: &Labels, kind: &StmtKind, code: &EncodeResult) -> Option<AsmWhat>
+    requires { stmt_data kind.now ≡ None }
+    ensures { result ≡ first_refusal (label_places labels.now) kind.now code.now }
 {
     if !are_names_known(labels, kind) {
         return Some(AsmWhat::UndefinedLocal);
     }
-    encoded(encode_fault(kind, code))
+    encode_refusal(encode_fault(kind, code))
 }
 
 /// Why the names, the instruction or the numbers of a statement are refused.
 #[tactic(auto, using(crate::proofs::RefusalLemmas::of_data))]
-fn first_refusal(labels: &Labels, kind: &StmtKind, code: &Coded) -> Option<AsmWhat>
-    ensures { result ≡ first_refusal (named_in labels.now) kind.now code.now }
+fn first_refusal(labels: &Labels, kind: &StmtKind, code: &EncodeResult) -> Option<AsmWhat>
+    ensures { result ≡ first_refusal (label_places labels.now) kind.now code.now }
 {
     match given(kind) {
         Some(found) => data_refusal(labels, found),
@@ -224,7 +224,7 @@ fn first_refusal(labels: &Labels, kind: &StmtKind, code: &Coded) -> Option<AsmWh
     }
 }
 
-/// Whether a pool word is too far from the place of its `ldr`.
+/// Whether a pool word is too far from its `ldr`.
 fn is_pool_too_far(place: u64, word: Option<u64>) -> bool
     ensures { result ≡ is_pool_too_far place word }
 {
@@ -234,7 +234,7 @@ fn is_pool_too_far(place: u64, word: Option<u64>) -> bool
     }
 }
 
-/// Whether a statement gives bytes of its own.
+/// Whether a statement emits bytes of its own.
 fn has_bytes(kind: &StmtKind) -> bool
     ensures { result ≡ has_bytes kind.now }
 {
@@ -245,7 +245,7 @@ fn has_bytes(kind: &StmtKind) -> bool
     }
 }
 
-/// Whether a statement may not stand in its section.
+/// Whether a statement is not allowed in its section.
 fn is_misplaced(kind: &StmtKind, section: Section) -> bool
     ensures { result ≡ is_misplaced kind.now section }
 {
@@ -256,18 +256,19 @@ fn is_misplaced(kind: &StmtKind, section: Section) -> bool
     }
 }
 
-/// Why a statement is refused at a place, where `word` is the place of its pool word and `code` what the encoder says: the
-/// lowest refusal of an undefined name, an instruction or number, a pool and a section.
+/// The first refusal of a statement at a place, in this order: an undefined name, an instruction or number, a pool word
+/// too far away, a wrong section.
+/// `word` is the place of its pool word, `code` the result of the encoder.
 #[tactic(auto, using(crate::proofs::RefusalLemmas::first_stays, crate::proofs::RefusalLemmas::then_rest), unfolding(crate::specs::Refusals::refusal))]
 pub fn refusal(
     labels: &Labels,
     kind: &StmtKind,
     at: Place,
     word: Option<u64>,
-    code: &Coded,
+    code: &EncodeResult,
 ) -> Option<AsmWhat>
-    requires { code.now ≡ coded (instruction (named_in labels.now) kind.now at.offset word) }
-    ensures { result ≡ refusal (named_in labels.now) kind.now at.section at.offset word }
+    requires { code.now ≡ encode_option (instruction (label_places labels.now) kind.now at.offset word) }
+    ensures { result ≡ refusal (label_places labels.now) kind.now at.section at.offset word }
 {
     let first = first_refusal(labels, kind, code);
     if first.is_some() {

@@ -1,14 +1,14 @@
-//! The symbols and relocations of an object (docs/objects.md).
+//! The symbols and relocations of an object (docs/rules/sources.md).
 ghost use Rattle.std.specs.Prelude.{◌≡◌, ◌++◌, map, IfOk};
 ghost use Rattle.asm_object.specs.Objects.{symbol_of};
 
 use asm_layout::labels::{Label, Labels};
 use asm_layout::word::low_part;
+use asm_relocatable::object::{ObjSymbol, ObjSymbols, Relocs};
 use eh_word::Name;
-use relocatable_object::object::{ObjSymbol, ObjSymbols, Relocs};
 use std::alloc::{AllocError, Global};
 
-/// A label as a symbol.
+/// The symbol of a label.
 fn symbol(name: Name, label: Label) -> ObjSymbol
     ensures { result ≡ symbol_of (name, label) }
 {
@@ -22,7 +22,7 @@ fn symbol(name: Name, label: Label) -> ObjSymbol
     }
 }
 
-/// The symbols of labels, in their order.
+/// The symbols of labels, in order.
 pub fn symbols(alloc: Global, labels: Labels) -> Result<ObjSymbols, AllocError>
     ensures { IfOk result (λ symbols. symbols ≡ map symbol_of labels) }
 {
@@ -34,7 +34,7 @@ pub fn symbols(alloc: Global, labels: Labels) -> Result<ObjSymbols, AllocError>
     Ok(ObjSymbols::of_vec(symbols))
 }
 
-/// The relocations of four sections, in their order.
+/// The relocations of the four sections, in order.
 pub fn relocs(
     text: Relocs,
     rodata: Relocs,

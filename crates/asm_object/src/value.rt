@@ -1,29 +1,29 @@
-//! What names and words stand for, and what the linker puts into words (docs/objects.md; IHI 0044).
+//! The values of names and words, and the relocations of words (docs/rules/sources.md; IHI 0044).
 ghost use Rattle.std.specs.Prelude.{◌≡◌, ◌^◌, pos, neg_ℤ, ◌<ℤ◌, IfSome};
-ghost use Rattle.asm_layout.specs.Labels.{named_in};
-ghost use Rattle.asm_object.specs.Values.{is_known, distance, is_word_known, number, held, signed, link_of};
+ghost use Rattle.asm_layout.specs.Labels.{label_places};
+ghost use Rattle.asm_object.specs.Values.{is_known, distance, is_word_known, number, section_word, signed_word, link_of};
 
 use asm_layout::labels::Labels;
 use asm_layout::word::{Word, low_number};
+use asm_relocatable::name::is_local;
+use asm_relocatable::relocation::{R_ARM_ABS32, R_ARM_PREL31, R_ARM_REL32, R_ARM_TARGET2};
 use asm_statements::Expr;
+use eh_codes::words::REFERENCE_MARK;
 use eh_word::Name;
-use relocatable_object::name::is_local;
-use relocatable_object::relocation::{R_ARM_ABS32, R_ARM_PREL31, R_ARM_REL32, R_ARM_TARGET2};
-use unwind_codes::words::REFERENCE_MARK;
 
-/// Bit 31: as a signed number, one that has it is below 0.
+/// Bit 31, the sign bit of a word.
 const TOP_BIT: u32 = 0x8000_0000;
 
-/// Whether a name may be used: a local one has a label.
+/// Whether a name may be used: if it is local, it must have a label.
 pub fn is_known(labels: &Labels, name: &Name) -> bool
-    ensures { result ≡ is_known (named_in labels.now) name.now }
+    ensures { result ≡ is_known (label_places labels.now) name.now }
 {
     !is_local(name) || labels.place_named(name).is_some()
 }
 
-/// How far the first label stands after the second, where both stand in one section.
+/// The offset in bytes of the first label from the second, if both are in one section.
 fn distance(labels: &Labels, a: &Name, b: &Name) -> Option<i128>
-    ensures exact { result ≡ distance (named_in labels.now) a.now b.now }
+    ensures exact { result ≡ distance (label_places labels.now) a.now b.now }
     ensures bound { IfSome result (λ d. (neg_ℤ (pos (2 ^ 64)) <ℤ d) × (d <ℤ pos (2 ^ 64))) }
 {
     match (labels.place_named(a), labels.place_named(b)) {
@@ -34,9 +34,9 @@ fn distance(labels: &Labels, a: &Name, b: &Name) -> Option<i128>
     }
 }
 
-/// Whether the names of a word may be used.
+/// Whether all names of an expression may be used.
 pub fn is_word_known(labels: &Labels, expr: &Expr) -> bool
-    ensures { result ≡ is_word_known (named_in labels.now) expr.now }
+    ensures { result ≡ is_word_known (label_places labels.now) expr.now }
 {
     match expr {
         Expr::Num(_) => true,
@@ -49,9 +49,9 @@ pub fn is_word_known(labels: &Labels, expr: &Expr) -> bool
     }
 }
 
-/// The number that a half or a byte is given.
+/// The number of an expression as a halfword or byte; None if it is unknown.
 pub fn number(labels: &Labels, expr: &Expr) -> Option<i128>
-    ensures { result ≡ number (named_in labels.now) expr.now }
+    ensures { result ≡ number (label_places labels.now) expr.now }
 {
     match expr {
         Expr::Num(n) => Some(i128::from(*n)),
@@ -64,10 +64,9 @@ pub fn number(labels: &Labels, expr: &Expr) -> Option<i128>
     }
 }
 
-/// What the section holds for a word, before the linker: the number, or 0 for a name's, with bit 31 where it is a
-/// reference to a type.
-pub fn held(labels: &Labels, word: &Word) -> u32
-    ensures { result ≡ held (named_in labels.now) word.now }
+/// The word before linking: its number, or 0 if it takes a name's address. Bit 31 is set for a reference to a type.
+pub fn section_word(labels: &Labels, word: &Word) -> u32
+    ensures { result ≡ section_word (label_places labels.now) word.now }
 {
     match word {
         Word::Num(n) => *n,
@@ -80,17 +79,20 @@ pub fn held(labels: &Labels, word: &Word) -> u32
     }
 }
 
-/// What the linker puts into a field: the kind of its relocation (Arm ELF, IHI 0044), the name and the addend.
+/// A relocation without its place.
 #[derive(Drop)]
 pub struct Link {
+    /// The relocation's number (IHI 0044).
     pub kind: u32,
+    /// The name whose address the field takes.
     pub name: Name,
+    /// The number that is added to the address.
     pub addend: i32,
 }
 
-/// A number modulo 2^32 as a signed number.
-fn signed(n: u32) -> i32
-    ensures { result ≡ signed n }
+/// A word as a signed number.
+fn signed_word(n: u32) -> i32
+    ensures { result ≡ signed_word n }
 {
     if n < TOP_BIT {
         n as i32
@@ -99,13 +101,13 @@ fn signed(n: u32) -> i32
     }
 }
 
-/// What the linker puts into a word, if anything; it takes the word's name.
+/// The relocation of a word, if it needs one. Takes the name out of the word.
 pub fn link_of(word: Word) -> Option<Link>
     ensures { result ≡ link_of word }
 {
     let (kind, name, addend) = match word {
         Word::Num(_) | Word::Diff(_, _, _) => return None,
-        Word::Of(name, n) => (R_ARM_ABS32, name, signed(n)),
+        Word::Of(name, n) => (R_ARM_ABS32, name, signed_word(n)),
         Word::Rel(name) => (R_ARM_REL32, name, 0),
         Word::Target2(name) => (R_ARM_TARGET2, name, 0),
         Word::Prel31(name) | Word::Prel31Ref(name) => (R_ARM_PREL31, name, 0),

@@ -7,7 +7,7 @@ use Rattle.asm_read.specs.declared.read.TheConstants.{MOST_LINES}
 use Rattle.asm_statements.specs.declared.statement.Stmt.{Stmt}
 use Rattle.asm_read.specs.declared.fault.SourceFault.{SourceFault}
 use Rattle.asm_read.specs.Fault.{fault_at}
-use Rattle.asm_read.specs.Reading.{is_inside, lines_of, added, excess, line_of, read_lines, read_of}
+use Rattle.asm_read.specs.Reading.{is_inside, lines_of, append_stmts, excess_fault, line_of, read_lines, source_stmts}
 
 pub lines_step : (text : List ℕ) → 0 < length text → lines_of text ≡ take (prefix_len is_inside text) text ∷ lines_of (drop (prefix_len is_inside text + 1) text)
 unfolding lines_of
@@ -21,23 +21,23 @@ lines_step (b ∷ c ∷ bs) h =
 
 -- the length of the line, and the text after it, under names
 module _ (out : List Stmt) (n : ℕ) (text : List ℕ) (len : ℕ) (some : 0 < length text) where
-  pub read_next : (new : List Stmt) (rest : List ℕ) → n ≤ MOST_LINES → len ≡ prefix_len is_inside text → rest ≡ drop (len + 1) text → added out (line_of n (take len text)) ≡ Ok new → added out (read_lines n (lines_of text)) ≡ added new (read_lines (n + 1) (lines_of rest))
+  pub read_next : (new : List Stmt) (rest : List ℕ) → n ≤ MOST_LINES → len ≡ prefix_len is_inside text → rest ≡ drop (len + 1) text → append_stmts out (line_of n (take len text)) ≡ Ok new → append_stmts out (read_lines n (lines_of text)) ≡ append_stmts new (read_lines (n + 1) (lines_of rest))
   unfolding read_lines
   read_next new rest few el er h = grind (arith, nat_tests, lines_step text, append_assoc)
 
-  pub read_refused : (f : SourceFault) → n ≤ MOST_LINES → len ≡ prefix_len is_inside text → line_of n (take len text) ≡ Err f → added out (read_lines n (lines_of text)) ≡ Err f
+  pub read_refused : (f : SourceFault) → n ≤ MOST_LINES → len ≡ prefix_len is_inside text → line_of n (take len text) ≡ Err f → append_stmts out (read_lines n (lines_of text)) ≡ Err f
   unfolding read_lines
   read_refused f few el h = grind (arith, nat_tests, lines_step text)
 
-  pub read_many : MOST_LINES < n → len ≡ prefix_len is_inside text → added out (read_lines n (lines_of text)) ≡ Err (fault_at n 1 (excess (take len text)))
+  pub read_many : MOST_LINES < n → len ≡ prefix_len is_inside text → append_stmts out (read_lines n (lines_of text)) ≡ Err (fault_at n 1 (excess_fault (take len text)))
   unfolding read_lines
   read_many many el = grind (arith, nat_tests, lines_step text)
 
-pub read_end : (out : List Stmt) (n : ℕ) (text : List ℕ) → length text ≤ 0 → added out (read_lines n (lines_of text)) ≡ Ok out
+pub read_end : (out : List Stmt) (n : ℕ) (text : List ℕ) → length text ≤ 0 → append_stmts out (read_lines n (lines_of text)) ≡ Ok out
 unfolding read_lines lines_of
 read_end out n [] h = ap (λ x. Ok x) (append-nil out)
 read_end out n (b ∷ bs) h = absurd (omega arith)
 
-pub read_start : (text : List ℕ) → added [] (read_lines 1 (lines_of text)) ≡ read_of text
-unfolding read_of
+pub read_start : (text : List ℕ) → append_stmts [] (read_lines 1 (lines_of text)) ≡ source_stmts text
+unfolding source_stmts
 read_start text = grind arith

@@ -5,9 +5,9 @@ use Rattle.std.proofs.lemmas.Bool.{cond_both, cond-false, cond-true}
 use Rattle.std.proofs.lemmas.Bool.Decides.{nat_tests}
 use Rattle.std.proofs.lemmas.List.{drop_all}
 use Rattle.asm_read.specs.declared.token.Front.{Front}
-use Rattle.asm_read.specs.declared.token.Kind.{Kind}
-use Rattle.asm_read.specs.declared.token.Kind.TheVariants.{Mark, End, Bad}
-use Rattle.asm_read.specs.Tokens.{is_blank, is_digit, is_name_byte, is_mark, kind_of_number, number_of, closing, character_front, quoted_front, signed, minus_front, front_of, placed, token_at}
+use Rattle.asm_read.specs.declared.token.TokenKind.{TokenKind}
+use Rattle.asm_read.specs.declared.token.TokenKind.TheVariants.{Mark, End, Bad}
+use Rattle.asm_read.specs.Tokens.{is_blank, is_digit, is_name_byte, is_mark, kind_of_number, number_of, closing, character_front, quoted_front, after_minus, minus_front, front_of, place_token, token_at}
 use Rattle.asm_read.specs.Operands.{is_mark_of}
 use Rattle.asm_read.specs.Marks.{is_lone_mark, begins_with, mark_after}
 
@@ -24,7 +24,7 @@ no_text : (m : ℕ) (n : Option ℕ) → is_mark_of m (quoted_front n).kind ≡ 
 no_text m None = refl
 no_text m (Some n) = refl
 
-no_sign : (m len : ℕ) (kind : Kind) → (45 == m) ≡ false → is_mark_of m kind ≡ false → is_mark_of m (signed len kind).kind ≡ false
+no_sign : (m len : ℕ) (kind : TokenKind) → (45 == m) ≡ false → is_mark_of m kind ≡ false → is_mark_of m (after_minus len kind).kind ≡ false
 no_sign m len Bad h k = grind (arith, nat_tests)
 no_sign m len _ h k = k
 
@@ -75,7 +75,7 @@ mark_front b bs h =
     ∙ cond-false (is_digit b) _ _ (no_digit b h) ∙ cond-false (b == 45) _ _ (no_dash b h) ∙ cond-false (is_name_byte b) _ _ (no_name b h)
     ∙ cond-true (is_mark b) _ _ (a_mark b h)
 
-placed_kind : (from start len : ℕ) (kind : Kind) → (placed from start len kind).kind ≡ kind
+placed_kind : (from start len : ℕ) (kind : TokenKind) → (place_token from start len kind).kind ≡ kind
 placed_kind from start len End = refl
 placed_kind from start len _ = refl
 
@@ -107,7 +107,7 @@ lone_mark m line from blanks e h b =
     let start = start_of line from in
     let front = lone_front m (drop start line) (sym h) (sym (b ∙ ap (λ n. begins_with m (drop (from + n) line)) e)) in
     ap (λ n. Some (from + n + 1)) e
-    ∙ sym (ap (λ (f : Front). let t = placed from start f.len f.kind in if is_mark_of m t.kind then Some t.end else None) front
+    ∙ sym (ap (λ (f : Front). let t = place_token from start f.len f.kind in if is_mark_of m t.kind then Some t.end else None) front
     ∙ cond-true (m == m) _ _ (grind (arith, nat_tests)))
 
 -- at the line's last place stands its end

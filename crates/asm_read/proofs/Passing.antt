@@ -1,7 +1,7 @@
 -- No form begins with a word that is passed over.
 use Rattle.std.proofs.Common.{◌≡◌, List, ℕ, None, Some, Ok, Err, if◌then◌else◌, arith}
 use Rattle.asm_read.specs.declared.token.Token.{Token}
-use Rattle.asm_read.specs.declared.line.Stop.{Stop}
+use Rattle.asm_read.specs.declared.line.LineEnd.{LineEnd}
 use Rattle.asm_read.specs.declared.choice.Statement.{Statement}
 use Rattle.asm_read.specs.Operands.{stop, name_of}
 use Rattle.asm_read.specs.Forms.{rows}
@@ -14,7 +14,7 @@ module _ (line : List ℕ) (token : Token) where
   unfolding word_statement
   with_form s h = grind (arith, passed_over (name_of line token) line token.end None)
 
-  pub with_stop : (s : Stop) → first_fit rows (name_of line token) line token.end None ≡ Err (Some s) → word_statement line token ≡ Err s
+  pub with_stop : (s : LineEnd) → first_fit rows (name_of line token) line token.end None ≡ Err (Some s) → word_statement line token ≡ Err s
   unfolding word_statement
   with_stop s h = grind (arith, passed_over (name_of line token) line token.end None)
 

@@ -7,16 +7,16 @@ use Rattle.std.proofs.lemmas.Bool.{cond_both}
 use Rattle.std.proofs.lemmas.List.{drop_more, drop_all, length-drop}
 use Rattle.std.proofs.lemmas.List.Sums.{prefix_len_is}
 use Rattle.std.specs.Cmp.Lexicographic.{nat_list_cmp_total, texts_ties, same_text}
-use Rattle.asm_read.specs.declared.line.Stop.{Stop}
+use Rattle.asm_read.specs.declared.line.LineEnd.{LineEnd}
 use Rattle.asm_read.specs.declared.choice.Statement.{Statement}
 use Rattle.asm_read.specs.Operands.{same}
-use Rattle.asm_read.specs.Fits.{fresh, fits}
+use Rattle.asm_read.specs.Fits.{no_operands, read_pieces}
 use Rattle.asm_read.specs.declared.table.Group.{Group}
 use Rattle.asm_read.specs.declared.table.Group.TheVariants as group
 use Rattle.asm_read.specs.Patterns.{pieces_of}
 use Rattle.asm_read.specs.Forms.{CodeRow, row_of, TableRow, group_of, forms_in, directives, a_to_b, c_to_l, m_to_z, rows}
 use Rattle.asm_read.specs.Plans.{is_passed}
-use Rattle.asm_read.specs.Search.{is_before, rises, tried, try_form, otherwise, first_fit}
+use Rattle.asm_read.specs.Search.{is_before, rises, form_attempt, try_form, or_else_form, first_fit}
 
 -- ---- the order of words
 
@@ -85,8 +85,8 @@ parted _ v w h i j d le lt e = absurd (omega arith)
 
 -- the place where a test begins to fail is the length of the front that passes
 pub partition_is : {X : Type 0} (p : X → Bool) (xs : List X) (i : ℕ) → i ≤ length xs → IsPartitionPoint (λ y. p y ≡ true) (λ y. p y ≡ false) xs i → i ≡ prefix_len p xs
-partition_is p [] i fits h = omega arith
-partition_is p (x ∷ xs) i fits h = sym (prefix_len_is p (x ∷ xs) i x fits (λ k. h.0 k x (omega arith)) (h.1 i x (omega arith)))
+partition_is p [] i read_pieces h = omega arith
+partition_is p (x ∷ xs) i read_pieces h = sym (prefix_len_is p (x ∷ xs) i x read_pieces (λ k. h.0 k x (omega arith)) (h.1 i x (omega arith)))
 
 -- after a form of the word none is before it
 pub row_rises : (rs : List CodeRow) (i : ℕ) (d : CodeRow) (w : List ℕ) → i < length rs → same (row_of (get_or rs i d)).word w ≡ true → rises w (map row_of (drop i rs)) ≡ true → rises w (map row_of (drop (i + 1) rs)) ≡ true
@@ -118,12 +118,12 @@ passed_holds _ = refl
 
 module _ (w line : List ℕ) (from : ℕ) where
   -- a form of another word is passed over
-  other_form : (f : TableRow) (fs : List TableRow) (best : Option Stop) → same f.word w ≡ false → first_fit (f ∷ fs) w line from best ≡ first_fit fs w line from best
+  other_form : (f : TableRow) (fs : List TableRow) (best : Option LineEnd) → same f.word w ≡ false → first_fit (f ∷ fs) w line from best ≡ first_fit fs w line from best
   unfolding first_fit try_form
   other_form f fs best h = rw h
 
   -- after a word there is none of it
-  none_after : (fs : List TableRow) (v : List ℕ) (best : Option Stop) → is_before w v ≡ true → rises v fs ≡ true → first_fit fs w line from best ≡ Err best
+  none_after : (fs : List TableRow) (v : List ℕ) (best : Option LineEnd) → is_before w v ≡ true → rises v fs ≡ true → first_fit fs w line from best ≡ Err best
   unfolding first_fit
   none_after [] v best h r = refl
   none_after (f ∷ fs) v best h r =
@@ -131,7 +131,7 @@ module _ (w line : List ℕ) (from : ℕ) where
       grind (arith, next, texts_ties f.word w, nat_list_cmp_total.antisymm f.word w, other_form f fs best, none_after fs f.word best)
 
   -- forms of words before a word are passed over
-  pub skipped : (rs : List CodeRow) (best : Option Stop) → first_fit (map row_of (drop (words_before w rs) rs)) w line from best ≡ first_fit (map row_of rs) w line from best
+  pub skipped : (rs : List CodeRow) (best : Option LineEnd) → first_fit (map row_of (drop (words_before w rs) rs)) w line from best ≡ first_fit (map row_of rs) w line from best
   skipped [] best = refl
   skipped (r ∷ rs) best =
       cond_both (is_before (row_of r).word w) (1 + words_before w rs) 0 (λ k. first_fit (map row_of (drop k (r ∷ rs))) w line from best ≡ first_fit (map row_of (r ∷ rs)) w line from best)
@@ -139,16 +139,16 @@ module _ (w line : List ℕ) (from : ℕ) where
 
   -- ---- one row after another
 
-  pub row_hit : (rs : List CodeRow) (i : ℕ) (d : CodeRow) (best : Option Stop) (s : Statement) → i < length rs → same (row_of (get_or rs i d)).word w ≡ true → tried (row_of (get_or rs i d)).form.makes best (fits (pieces_of (row_of (get_or rs i d)).form.operands) line (fresh from)) ≡ Ok s → first_fit (map row_of (drop i rs)) w line from best ≡ Ok s
+  pub row_hit : (rs : List CodeRow) (i : ℕ) (d : CodeRow) (best : Option LineEnd) (s : Statement) → i < length rs → same (row_of (get_or rs i d)).word w ≡ true → form_attempt (row_of (get_or rs i d)).form.makes best (read_pieces (pieces_of (row_of (get_or rs i d)).form.operands) line (no_operands from)) ≡ Ok s → first_fit (map row_of (drop i rs)) w line from best ≡ Ok s
   unfolding first_fit try_form
   row_hit rs i d best s h e t = rw (drop_more rs i d h, e, t)
 
-  pub row_miss : (rs : List CodeRow) (i : ℕ) (d : CodeRow) (best next : Option Stop) → i < length rs → same (row_of (get_or rs i d)).word w ≡ true → tried (row_of (get_or rs i d)).form.makes best (fits (pieces_of (row_of (get_or rs i d)).form.operands) line (fresh from)) ≡ Err next → first_fit (map row_of (drop i rs)) w line from best ≡ first_fit (map row_of (drop (i + 1) rs)) w line from next
+  pub row_miss : (rs : List CodeRow) (i : ℕ) (d : CodeRow) (best next : Option LineEnd) → i < length rs → same (row_of (get_or rs i d)).word w ≡ true → form_attempt (row_of (get_or rs i d)).form.makes best (read_pieces (pieces_of (row_of (get_or rs i d)).form.operands) line (no_operands from)) ≡ Err next → first_fit (map row_of (drop i rs)) w line from best ≡ first_fit (map row_of (drop (i + 1) rs)) w line from next
   unfolding first_fit try_form
   row_miss rs i d best next h e t = rw (drop_more rs i d h, e, t)
 
   -- a form of another word, and all after it
-  pub row_other : (rs : List CodeRow) (i : ℕ) (d : CodeRow) (best : Option Stop) → i < length rs → rises w (map row_of (drop i rs)) ≡ true → same (row_of (get_or rs i d)).word w ≡ false → first_fit (map row_of (drop i rs)) w line from best ≡ Err best
+  pub row_other : (rs : List CodeRow) (i : ℕ) (d : CodeRow) (best : Option LineEnd) → i < length rs → rises w (map row_of (drop i rs)) ≡ true → same (row_of (get_or rs i d)).word w ≡ false → first_fit (map row_of (drop i rs)) w line from best ≡ Err best
   row_other rs i d best h r e =
       let f = row_of (get_or rs i d) in
       let more = map row_of (drop (i + 1) rs) in
@@ -157,22 +157,22 @@ module _ (w line : List ℕ) (from : ℕ) where
   -- ---- the groups of the table
 
   -- forms of which none begins with a word
-  none_of : (fs : List TableRow) (p : List ℕ → Bool) (best : Option Stop) → list_all (λ f. p f.word) fs ≡ true → p w ≡ false → first_fit fs w line from best ≡ Err best
+  none_of : (fs : List TableRow) (p : List ℕ → Bool) (best : Option LineEnd) → list_all (λ f. p f.word) fs ≡ true → p w ≡ false → first_fit fs w line from best ≡ Err best
   unfolding first_fit
   none_of [] p best h n = refl
   none_of (f ∷ fs) p best h n = grind (arith, same_text f.word w, other_form f fs best, none_of fs p best)
 
   -- forms in two parts
-  first_fit_append : (fs gs : List TableRow) (best : Option Stop) → first_fit (fs ++ gs) w line from best ≡ otherwise (first_fit fs w line from best) (λ b. first_fit gs w line from b)
+  first_fit_append : (fs gs : List TableRow) (best : Option LineEnd) → first_fit (fs ++ gs) w line from best ≡ or_else_form (first_fit fs w line from best) (λ b. first_fit gs w line from b)
   unfolding first_fit
   first_fit_append [] gs best = refl
   first_fit_append (f ∷ fs) gs best = grind (arith, first_fit_append fs gs)
 
-  kept : (r : Result Statement (Option Stop)) → otherwise r (λ b. Err b) ≡ r
+  kept : (r : Result Statement (Option LineEnd)) → or_else_form r (λ b. Err b) ≡ r
   kept (Ok s) = refl
   kept (Err b) = refl
 
-  grouped : (g : Group) (best : Option Stop) → ((h : Group) → is_group h g ≡ false → (b : Option Stop) → first_fit (forms_in h) w line from b ≡ Err b) → first_fit (forms_in g) w line from best ≡ first_fit rows w line from best
+  grouped : (g : Group) (best : Option LineEnd) → ((h : Group) → is_group h g ≡ false → (b : Option LineEnd) → first_fit (forms_in h) w line from b ≡ Err b) → first_fit (forms_in g) w line from best ≡ first_fit rows w line from best
   unfolding rows
   grouped group.Directives best none =
       simp (first_fit_append, none group.AToB refl, none group.CToL refl, none group.MToZ refl, kept)
@@ -184,9 +184,9 @@ module _ (w line : List ℕ) (from : ℕ) where
       simp (first_fit_append, none group.Directives refl, none group.AToB refl, none group.CToL refl)
 
   -- a word's group has all its forms
-  pub word_grouped : (best : Option Stop) → first_fit (forms_in (group_of w)) w line from best ≡ first_fit rows w line from best
+  pub word_grouped : (best : Option LineEnd) → first_fit (forms_in (group_of w)) w line from best ≡ first_fit rows w line from best
   word_grouped best = grouped (group_of w) best (λ h n b. none_of (forms_in h) (λ v. is_group h (group_of v)) b (group_holds h) n)
 
   -- a word that is passed over has none
-  pub passed_over : (best : Option Stop) → is_passed w ≡ true → first_fit rows w line from best ≡ Err best
+  pub passed_over : (best : Option LineEnd) → is_passed w ≡ true → first_fit rows w line from best ≡ Err best
   passed_over best h = sym (word_grouped best) ∙ none_of (forms_in (group_of w)) (λ v. not (is_passed v)) best (passed_holds (group_of w)) (ap not h)

@@ -1,4 +1,4 @@
--- The refusals of a source (docs/source-language.md, "Refusals").
+-- The refusals of a source (docs/rules/sources.md, "Refusals of text").
 use Rattle.std.specs.Prelude.{ℕ, List, codes}
 use Rattle.asm_read.specs.declared.fault.SourceFault.{SourceFault}
 use Rattle.asm_read.specs.declared.fault.SourceWhat.{SourceWhat}

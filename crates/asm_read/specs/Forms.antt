@@ -1,6 +1,7 @@
--- The forms of statements, as the code's table has them (src/table.rt): of each the word that it begins with, what stands
--- after it, and the statement that it makes. That they are the language is a law of their own: each line that
--- docs/source-language.md has for a statement reads back as that statement (the crate asm_text).
+-- The forms of statements, read off the code's tables (src/table.rt): the word, the operands after it, and the
+-- statement.
+-- That the tables are the language is proved apart (asm_line_laws): each line that docs/rules/sources.md gives for a
+-- statement reads back as that statement.
 use Rattle.std.specs.Prelude.{ℕ, ◌==◌, if◌then◌else◌, List, ◌++◌, map, slice_index}
 use Rattle.std.specs.Borrow.{Bor}
 use Rattle.asm_read.specs.Tokens.{is_between}
@@ -44,7 +45,7 @@ c_to_l = map row_in C_TO_L
 unfoldable pub m_to_z : List TableRow
 m_to_z = map row_in M_TO_Z
 
--- the group that has the forms of a word, if it has any
+-- the group to search for a word
 abbrev pub group_of : List ℕ → Group
 group_of word =
     let first = slice_index word 0 in
@@ -53,13 +54,13 @@ group_of word =
     else if is_between 99 108 first then group.CToL
     else group.MToZ
 
--- the forms of a group; their words rise
+-- the forms of a group, sorted by their words
 abbrev pub forms_in : Group → List TableRow
 forms_in group.Directives = directives
 forms_in group.AToB = a_to_b
 forms_in group.CToL = c_to_l
 forms_in group.MToZ = m_to_z
 
--- the forms; of one word they are tried in this order
+-- all forms; those of one word are tried in this order
 unfoldable pub rows : List TableRow
 rows = directives ++ (a_to_b ++ (c_to_l ++ m_to_z))

@@ -1,4 +1,4 @@
--- The operands of forms as patterns of pieces (docs/source-language.md, "Statements" and "Directives").
+-- The operands of forms as patterns of pieces (docs/rules/sources.md, "Statements" and "Directives").
 use Rattle.std.specs.Prelude.{List, [], ◌∷◌}
 use Rattle.asm_read.specs.declared.form.Piece.{Piece}
 use Rattle.asm_read.specs.declared.form.Piece.TheVariants.{Dot, Expression, Expressions, First, Function, Mark, MaybeHash, Name, Number, Object, Registers, RegistersWithFirst, Rodata, SameName, Second, Sp, Text, Third, UpToThree, WordExpressions, Zero}

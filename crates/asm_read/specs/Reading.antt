@@ -1,11 +1,11 @@
--- The statements of a text, or the first place at which it is refused (docs/source-language.md, "Refusals").
+-- The statements of a text, or the first place at which it is refused (docs/rules/sources.md, "Refusals of text").
 use Rattle.std.specs.Prelude.{ℕ, ◌+◌, ◌==◌, not, nat_lt, Bool, if◌then◌else◌, List, [], ◌∷◌, ◌++◌, Option, Some, None, Result, Ok, Err}
 use Rattle.asm_read.specs.declared.fault.SourceFault.{SourceFault}
 use Rattle.asm_read.specs.declared.fault.SourceWhat.{SourceWhat}
 use Rattle.asm_read.specs.declared.fault.SourceWhat.TheVariants.{NotAscii, TooManyLines}
 use Rattle.asm_read.specs.declared.line.Span.{Span}
-use Rattle.asm_read.specs.declared.line.Stop.{Stop}
-use Rattle.asm_read.specs.declared.plan.Plan.{Plan}
+use Rattle.asm_read.specs.declared.line.LineEnd.{LineEnd}
+use Rattle.asm_read.specs.declared.plan.LineContent.{LineContent}
 use Rattle.asm_read.specs.declared.read.TheConstants.{MOST_LINES}
 use Rattle.asm_read.specs.declared.choice.Statement.{Statement}
 use Rattle.asm_statements.specs.declared.statement.Stmt.{Stmt}
@@ -25,7 +25,7 @@ abbrev pub in_front : ℕ → List (List ℕ) → List (List ℕ)
 in_front b [] = (b ∷ []) ∷ []
 in_front b (line ∷ lines) = (b ∷ line) ∷ lines
 
--- the lines of a text: a line feed ends one, and after the last line feed stands one only if bytes do
+-- the lines of a text: each ends at a line feed; after the last one there is a line only if bytes follow
 unfoldable pub lines_of : List ℕ → List (List ℕ)
 lines_of [] = []
 lines_of (b ∷ bs) = if b == 10 then [] ∷ lines_of bs else in_front b (lines_of bs)
@@ -42,10 +42,10 @@ statement_stmts number line None = []
 statement_stmts number line (Some s) = stmt number (kind_of line s) ∷ []
 
 -- a line's statements: the label comes before the rest
-abbrev pub stmts_of : ℕ → List ℕ → Plan → List Stmt
+abbrev pub stmts_of : ℕ → List ℕ → LineContent → List Stmt
 stmts_of number line plan = label_stmts number line plan.label ++ statement_stmts number line plan.statement
 
-abbrev pub line_as : ℕ → List ℕ → Result Plan Stop → Result (List Stmt) SourceFault
+abbrev pub line_as : ℕ → List ℕ → Result LineContent LineEnd → Result (List Stmt) SourceFault
 line_as number line (Ok plan) = Ok (stmts_of number line plan)
 line_as number line (Err stop) = Err (fault_at number (stop.at + 1) stop.what)
 
@@ -54,26 +54,26 @@ abbrev pub line_of : ℕ → List ℕ → Result (List Stmt) SourceFault
 line_of number line = line_as number line (line_plan line)
 
 -- statements with those that follow
-abbrev pub added : List Stmt → Result (List Stmt) SourceFault → Result (List Stmt) SourceFault
-added stmts (Ok more) = Ok (stmts ++ more)
-added stmts (Err fault) = Err fault
+abbrev pub append_stmts : List Stmt → Result (List Stmt) SourceFault → Result (List Stmt) SourceFault
+append_stmts stmts (Ok more) = Ok (stmts ++ more)
+append_stmts stmts (Err fault) = Err fault
 
-abbrev pub then_added : Result (List Stmt) SourceFault → Result (List Stmt) SourceFault → Result (List Stmt) SourceFault
-then_added (Ok stmts) more = added stmts more
-then_added (Err fault) more = Err fault
+abbrev pub then_append_stmts : Result (List Stmt) SourceFault → Result (List Stmt) SourceFault → Result (List Stmt) SourceFault
+then_append_stmts (Ok stmts) more = append_stmts stmts more
+then_append_stmts (Err fault) more = Err fault
 
--- why a line past the last that may stand is refused, at its first byte
-abbrev pub excess : List ℕ → SourceWhat
-excess [] = TooManyLines
-excess (b ∷ bs) = if not_plain b then NotAscii else TooManyLines
+-- why a line beyond the last allowed one is refused, at its first byte
+abbrev pub excess_fault : List ℕ → SourceWhat
+excess_fault [] = TooManyLines
+excess_fault (b ∷ bs) = if not_plain b then NotAscii else TooManyLines
 
 -- lines from a number on
 unfoldable pub read_lines : ℕ → List (List ℕ) → Result (List Stmt) SourceFault
 read_lines number [] = Ok []
 read_lines number (line ∷ lines) =
-    if nat_lt MOST_LINES number then Err (fault_at number 1 (excess line))
-    else then_added (line_of number line) (read_lines (number + 1) lines)
+    if nat_lt MOST_LINES number then Err (fault_at number 1 (excess_fault line))
+    else then_append_stmts (line_of number line) (read_lines (number + 1) lines)
 
 -- the statements of a text, or its first refusal
-unfoldable pub read_of : List ℕ → Result (List Stmt) SourceFault
-read_of text = read_lines 1 (lines_of text)
+unfoldable pub source_stmts : List ℕ → Result (List Stmt) SourceFault
+source_stmts text = read_lines 1 (lines_of text)

@@ -1,4 +1,4 @@
--- The statement that a form makes of its operands (docs/source-language.md, "Statements" and "Directives").
+-- The statement that a form makes of its operands (docs/rules/sources.md, "Statements" and "Directives").
 use Rattle.std.specs.Prelude.{ℕ, ◌-◌, false, true, List, length, slice_range}
 use Rattle.asm_read.specs.declared.line.Span.{Span}
 use Rattle.asm_read.specs.declared.form.Operands.{Operands}
@@ -17,19 +17,19 @@ use Rattle.asm_read.specs.declared.makes.Named.TheVariants as named
 use Rattle.asm_read.specs.declared.choice.Statement.{Statement}
 use Rattle.asm_statements.specs.declared.statement.StmtKind.{StmtKind}
 use Rattle.asm_statements.specs.declared.statement.StmtKind.TheVariants.{TwoRegisters, ThreeRegisters, RegisterNumber, TwoRegistersNumber, AddRdSp, AddSp, SubSp, Rsbs, Adr, LdrLabel, LdrPool, MemImm, MemReg, MemSp, Push, Pop, Stm, LdmBack, Ldm, B, BCond, Bl, Cbz, BWide, Bx, Blx, Svc, Udf, Hint, Barrier, Text, Data, Bss, Rodata, Global, TypeFunction, TypeObject, Size, Words, Halves, Bytes, Ascii, Asciz, Space, Align, Pool, FnStart, FnEnd, Save, Pad, SetFp, CantUnwind, PersonalityIndex, HandlerData}
-use Rattle.asm_read.specs.Tokens.{unescaped}
+use Rattle.asm_read.specs.Tokens.{unescape}
 use Rattle.asm_read.specs.Operands.{bytes_of}
 use Rattle.asm_read.specs.Expressions.{expr_from, expressions_at, exprs_of}
 
--- what stands between the first and the last byte
+-- the bytes between the first and the last
 abbrev pub inside : List ℕ → List ℕ
 inside quoted = slice_range quoted 1 (length quoted - 1)
 
--- the bytes that a text with its quotes stands for
+-- the bytes of a quoted text, given the text with its quotes
 abbrev pub text_of : List ℕ → Span → List ℕ
-text_of line s = unescaped false (inside (bytes_of line s))
+text_of line s = unescape false (inside (bytes_of line s))
 
--- computations with an operand that is always the same
+-- computations with a fixed operand
 abbrev pub computation_of : Computation → Operands → StmtKind
 computation_of computation.AddRdSp o = AddRdSp o.first o.number
 computation_of computation.AddSp o = AddSp o.number
@@ -75,36 +75,36 @@ directive_of directive.PersonalityIndex o = PersonalityIndex o.number
 directive_of directive.HandlerData o = HandlerData
 
 -- forms with names, texts and expressions
-abbrev pub named_of : List ℕ → Named → Operands → StmtKind
-named_of line named.Adr o = Adr o.first (bytes_of line o.name)
-named_of line named.LdrLabel o = LdrLabel o.first (bytes_of line o.name)
-named_of line named.LdrPool o = LdrPool o.first (expr_from line o.from)
-named_of line named.B o = B (bytes_of line o.name)
-named_of line (named.BCond cond) o = BCond cond (bytes_of line o.name)
-named_of line named.Bl o = Bl (bytes_of line o.name)
-named_of line (named.Cbz nonzero) o = Cbz nonzero o.first (bytes_of line o.name)
-named_of line named.BWide o = BWide (bytes_of line o.name)
-named_of line named.Global o = Global (bytes_of line o.name)
-named_of line named.TypeFunction o = TypeFunction (bytes_of line o.name)
-named_of line named.TypeObject o = TypeObject (bytes_of line o.name)
-named_of line named.Size o = Size (bytes_of line o.name)
-named_of line named.Words o = Words (exprs_of line (expressions_at (length line) true line o.from))
-named_of line named.Halves o = Halves (exprs_of line (expressions_at (length line) false line o.from))
-named_of line named.Bytes o = Bytes (exprs_of line (expressions_at (length line) false line o.from))
-named_of line named.Ascii o = Ascii (text_of line o.name)
-named_of line named.Asciz o = Asciz (text_of line o.name)
+abbrev pub stmt_of_named : List ℕ → Named → Operands → StmtKind
+stmt_of_named line named.Adr o = Adr o.first (bytes_of line o.name)
+stmt_of_named line named.LdrLabel o = LdrLabel o.first (bytes_of line o.name)
+stmt_of_named line named.LdrPool o = LdrPool o.first (expr_from line o.from)
+stmt_of_named line named.B o = B (bytes_of line o.name)
+stmt_of_named line (named.BCond cond) o = BCond cond (bytes_of line o.name)
+stmt_of_named line named.Bl o = Bl (bytes_of line o.name)
+stmt_of_named line (named.Cbz nonzero) o = Cbz nonzero o.first (bytes_of line o.name)
+stmt_of_named line named.BWide o = BWide (bytes_of line o.name)
+stmt_of_named line named.Global o = Global (bytes_of line o.name)
+stmt_of_named line named.TypeFunction o = TypeFunction (bytes_of line o.name)
+stmt_of_named line named.TypeObject o = TypeObject (bytes_of line o.name)
+stmt_of_named line named.Size o = Size (bytes_of line o.name)
+stmt_of_named line named.Words o = Words (exprs_of line (expressions_at (length line) true line o.from))
+stmt_of_named line named.Halves o = Halves (exprs_of line (expressions_at (length line) false line o.from))
+stmt_of_named line named.Bytes o = Bytes (exprs_of line (expressions_at (length line) false line o.from))
+stmt_of_named line named.Ascii o = Ascii (text_of line o.name)
+stmt_of_named line named.Asciz o = Asciz (text_of line o.name)
 
-abbrev pub made_of : List ℕ → Makes → Operands → StmtKind
-made_of line (makes.OfTwoRegisters what) o = TwoRegisters what o.first o.second
-made_of line (makes.OfThreeRegisters what) o = ThreeRegisters what o.first o.second o.third
-made_of line (makes.OfRegisterNumber what) o = RegisterNumber what o.first o.number
-made_of line (makes.OfTwoRegistersNumber what) o = TwoRegistersNumber what o.first o.second o.number
-made_of line (makes.Computes c) o = computation_of c o
-made_of line (makes.Transfers t) o = transfer_of t o
-made_of line (makes.Controls c) o = control_of c o
-made_of line (makes.Directs d) o = directive_of d o
-made_of line (makes.Names n) o = named_of line n o
+abbrev pub stmt_of_makes : List ℕ → Makes → Operands → StmtKind
+stmt_of_makes line (makes.OfTwoRegisters what) o = TwoRegisters what o.first o.second
+stmt_of_makes line (makes.OfThreeRegisters what) o = ThreeRegisters what o.first o.second o.third
+stmt_of_makes line (makes.OfRegisterNumber what) o = RegisterNumber what o.first o.number
+stmt_of_makes line (makes.OfTwoRegistersNumber what) o = TwoRegistersNumber what o.first o.second o.number
+stmt_of_makes line (makes.Computes c) o = computation_of c o
+stmt_of_makes line (makes.Transfers t) o = transfer_of t o
+stmt_of_makes line (makes.Controls c) o = control_of c o
+stmt_of_makes line (makes.Directs d) o = directive_of d o
+stmt_of_makes line (makes.Names n) o = stmt_of_named line n o
 
 -- the statement that a form makes
 unfoldable pub kind_of : List ℕ → Statement → StmtKind
-kind_of line s = made_of line s.makes s.operands
+kind_of line s = stmt_of_makes line s.makes s.operands

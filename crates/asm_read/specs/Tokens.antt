@@ -1,8 +1,8 @@
--- The tokens of a line: a grammar by cases on its bytes (docs/source-language.md, "Tokens").
+-- The tokens of a line: a grammar by cases on its bytes (docs/rules/sources.md, "Tokens").
 use Rattle.std.specs.Prelude.{ℕ, ◌+◌, ◌-◌, ◌*◌, ◌==◌, ◌&&◌, ◌||◌, not, nat_lt, nat_le, Bool, true, false, if◌then◌else◌, List, [], ◌∷◌, length, take, drop, slice_index, Option, Some, None, is_some, unwrap_or, option_and_then, pos, ◌-ℤ◌}
 use Rattle.std.specs.List.{prefix_len}
-use Rattle.asm_read.specs.declared.token.Kind.{Kind}
-use Rattle.asm_read.specs.declared.token.Kind.TheVariants.{Word, Number, Wide, Quoted, Mark, End, Bad}
+use Rattle.asm_read.specs.declared.token.TokenKind.{TokenKind}
+use Rattle.asm_read.specs.declared.token.TokenKind.TheVariants.{Word, Number, Wide, Quoted, Mark, End, Bad}
 use Rattle.asm_read.specs.declared.token.Front.{Front}
 use Rattle.asm_read.specs.declared.token.Token.{Token}
 use Rattle.asm_read.specs.declared.token.TheConstants.{GREATEST, FARTHEST_BELOW}
@@ -40,7 +40,7 @@ hex_digit b =
 abbrev pub decimal_digit : ℕ → Option ℕ
 decimal_digit b = if is_digit b then Some (b - 48) else None
 
--- the number that digits make after the number before them, where each of them is a digit
+-- appends digits to a number; None if one of the bytes is no digit
 abbrev pub number_from : (ℕ → Option ℕ) → ℕ → ℕ → List ℕ → Option ℕ
 number_from digit base n [] = Some n
 number_from digit base n (b ∷ bs) = option_and_then (λ d. number_from digit base (n * base + d) bs) (digit b)
@@ -54,13 +54,13 @@ abbrev pub number_of : List ℕ → Option ℕ
 number_of run =
     if is_hexadecimal run then number_from hex_digit 16 0 (drop 2 run) else number_from decimal_digit 10 0 run
 
--- a number within 32 bits, signed or unsigned, or one that is too wide, or none
-abbrev pub kind_of_number : Bool → Option ℕ → Kind
+-- a number that fits 32 bits, signed or unsigned; one that is too wide; or no token
+abbrev pub kind_of_number : Bool → Option ℕ → TokenKind
 kind_of_number negative None = Bad
 kind_of_number true (Some n) = if nat_le n FARTHEST_BELOW then Number (pos 0 -ℤ pos n) else Wide
 kind_of_number false (Some n) = if nat_le n GREATEST then Number (pos n) else Wide
 
-abbrev pub front : Kind → ℕ → Front
+abbrev pub front : TokenKind → ℕ → Front
 front kind len = record { kind = kind; len = len }
 
 -- a character in single quotes: a byte other than a quote or a backslash, or an escape
@@ -80,7 +80,8 @@ abbrev pub one_more : Option ℕ → Option ℕ
 one_more None = None
 one_more (Some n) = Some (n + 1)
 
--- how many bytes a text has up to and with the quote that closes it; whether the byte before was a backslash
+-- the length of a text up to its closing quote, that quote included; the flag says whether the byte before was a
+-- backslash
 abbrev pub closing : Bool → List ℕ → Option ℕ
 closing escaped [] = None
 closing true (b ∷ bs) = if is_some (escape_of b) then one_more (closing false bs) else None
@@ -91,15 +92,15 @@ quoted_front None = front Bad 0
 quoted_front (Some n) = front Quoted (n + 1)
 
 -- a number or a character with the minus sign before it; where there is none, the sign alone
-abbrev pub signed : ℕ → Kind → Front
-signed len Bad = front (Mark 45) 1
-signed len kind = front kind (len + 1)
+abbrev pub after_minus : ℕ → TokenKind → Front
+after_minus len Bad = front (Mark 45) 1
+after_minus len kind = front kind (len + 1)
 
--- a minus sign belongs to the number or the character that follows at once; before what is none it is a mark
+-- a minus sign belongs to a number or character right after it; otherwise it is a mark
 abbrev pub minus_front : List ℕ → Front
 minus_front bs =
     let f = if slice_index bs 0 == 39 then character_front true bs else if is_digit (slice_index bs 0) then run_front true bs else front Bad 0 in
-    signed f.len f.kind
+    after_minus f.len f.kind
 
 -- the token at the front of bytes that begin with no blank
 unfoldable pub front_of : List ℕ → Front
@@ -114,23 +115,23 @@ front_of (b ∷ bs) =
     else if is_mark b then front (Mark b) 1
     else front Bad 0
 
-abbrev pub token : ℕ → ℕ → Kind → Token
+abbrev pub token : ℕ → ℕ → TokenKind → Token
 token start end kind = record { start = start; end = end; kind = kind }
 
--- the line's end stands after the last token, blanks and a comment after it
-abbrev pub placed : ℕ → ℕ → ℕ → Kind → Token
-placed from start len End = token from from End
-placed from start len kind = token start (start + len) kind
+-- places a token; the end of the line is placed right after the last token, before blanks and a comment
+abbrev pub place_token : ℕ → ℕ → ℕ → TokenKind → Token
+place_token from start len End = token from from End
+place_token from start len kind = token start (start + len) kind
 
 -- the token at a place of a line, which blanks may lead to
 unfoldable pub token_at : List ℕ → ℕ → Token
 token_at line from =
     let start = from + prefix_len is_blank (drop from line) in
     let f = front_of (drop start line) in
-    placed from start f.len f.kind
+    place_token from start f.len f.kind
 
 -- the bytes that the inside of a text stands for
-abbrev pub unescaped : Bool → List ℕ → List ℕ
-unescaped escaped [] = []
-unescaped true (b ∷ bs) = unwrap_or (escape_of b) b ∷ unescaped false bs
-unescaped false (b ∷ bs) = if b == 92 then unescaped true bs else b ∷ unescaped false bs
+abbrev pub unescape : Bool → List ℕ → List ℕ
+unescape escaped [] = []
+unescape true (b ∷ bs) = unwrap_or (escape_of b) b ∷ unescape false bs
+unescape false (b ∷ bs) = if b == 92 then unescape true bs else b ∷ unescape false bs

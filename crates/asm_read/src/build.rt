@@ -1,9 +1,9 @@
-//! Statements of the operands that a line has (docs/source-language.md).
+//! Builds a statement from its form and the operands that were read (docs/rules/sources.md).
 ghost use Rattle.std.specs.Prelude.{◌≡◌, ◌==◌, ◌+◌, ◌<◌, ◌≤◌, ◌++◌, ◌∷◌, [], false, length, count_by, Option, IfOk, OnOk};
-ghost use Rattle.asm_read.specs.Tokens.{unescaped};
+ghost use Rattle.asm_read.specs.Tokens.{unescape};
 ghost use Rattle.asm_read.specs.Operands.{bytes_of};
 ghost use Rattle.asm_read.specs.Expressions.{expr_of, expr_from, expressions_at, exprs_of};
-ghost use Rattle.asm_read.specs.Statements.{text_of, computation_of, transfer_of, control_of, directive_of, named_of, kind_of};
+ghost use Rattle.asm_read.specs.Statements.{text_of, computation_of, transfer_of, control_of, directive_of, stmt_of_named, kind_of};
 
 use crate::choice::Statement;
 use crate::expression::{Shape, expression_at, list_item_at};
@@ -15,16 +15,16 @@ use asm_statements::{Expr, Exprs, PoolValue, StmtKind};
 use eh_word::{Name, NameMemory};
 use std::alloc::{AllocError, Global};
 
-/// The name of a span.
+/// Copies the bytes of a span as a name.
 fn name(alloc: Global, line: &[u8], span: Span) -> Result<Name, NameMemory>
     ensures { IfOk result (λ n. n ≡ bytes_of line.now span) }
 {
     Name::of(alloc, bytes_of(line, span))
 }
 
-/// The bytes that the inside of a text stands for.
-fn unescaped(alloc: Global, inside: &[u8]) -> Result<Vec<u8>, AllocError>
-    ensures { IfOk result (λ v. v.items ≡ unescaped false inside.now) }
+/// The bytes that a quoted text stands for, given the bytes between its quotes.
+fn unescape(alloc: Global, inside: &[u8]) -> Result<Vec<u8>, AllocError>
+    ensures { IfOk result (λ v. v.items ≡ unescape false inside.now) }
 {
     let mut bytes = Vec::new(alloc);
     let mut escaped = false;
@@ -41,7 +41,7 @@ fn unescaped(alloc: Global, inside: &[u8]) -> Result<Vec<u8>, AllocError>
     Ok(bytes)
 }
 
-/// The expressions between commas at an offset; none past the line's end.
+/// The comma-separated expressions at an offset. Empty if the offset is past the line's end.
 #[tactic(auto, using(crate::proofs::Past::exprs_past))]
 fn exprs(alloc: Global, word: bool, line: &[u8], from: usize) -> Result<Exprs, NameMemory>
     ensures { IfOk result (λ e. e ≡ exprs_of line.now (expressions_at (length line.now) word line.now from)) }
@@ -50,22 +50,23 @@ fn exprs(alloc: Global, word: bool, line: &[u8], from: usize) -> Result<Exprs, N
         return Ok(Exprs::new(alloc));
     }
     let mut exprs = exprs_from(alloc, word, line, from)?;
-    // no more come
+    // the list ends here
     exprs.shrink_to_fit();
     Ok(exprs)
 }
 
-/// The text of a span that has its quotes.
+/// The bytes that a quoted text stands for. The span includes the quotes.
 fn text(alloc: Global, line: &[u8], span: Span) -> Result<Name, NameMemory>
     ensures { IfOk result (λ n. n ≡ text_of line.now span) }
 {
     let quoted = bytes_of(line, span);
     match quoted {
-        [_, inside @ .., _] => Ok(Name::of_vec(unescaped(alloc, inside)?)),
+        [_, inside @ .., _] => Ok(Name::of_vec(unescape(alloc, inside)?)),
         _ => Ok(Name::of_vec(Vec::new(alloc))),
     }
 }
 
+/// The expression of a shape, with its names copied out of the line.
 fn expr(alloc: Global, line: &[u8], shape: Shape) -> Result<Expr, NameMemory>
     ensures { IfOk result (λ e. e ≡ expr_of line.now shape) }
 {
@@ -80,7 +81,7 @@ fn expr(alloc: Global, line: &[u8], shape: Shape) -> Result<Expr, NameMemory>
     })
 }
 
-/// The expression at an offset; 0 where none stands there.
+/// The expression at an offset, or the number 0 if none starts there.
 #[tactic(auto, using(crate::proofs::Past::expr_past), unfolding(crate::specs::Expressions::expr_from))]
 fn expr_from(alloc: Global, line: &[u8], from: usize) -> Result<Expr, NameMemory>
     ensures { IfOk result (λ e. e ≡ expr_from line.now from) }
@@ -94,7 +95,7 @@ fn expr_from(alloc: Global, line: &[u8], from: usize) -> Result<Expr, NameMemory
     }
 }
 
-/// How many expressions stand between the commas of bytes, or fewer: a text or a comment may have commas of its own.
+/// The number of commas plus 1: an upper bound of how many expressions follow. Texts and comments may add commas.
 fn most_expressions(bytes: &[u8]) -> usize
     ensures { result ≡ count_by (λ b. b == 44) bytes.now + 1 }
 {
@@ -107,7 +108,7 @@ fn most_expressions(bytes: &[u8]) -> usize
     most
 }
 
-/// Adds the expression of a shape, where at most so many come.
+/// Adds the expression of a shape. `most` is how many expressions the list may hold in the end.
 fn push_shape(
     alloc: Global,
     line: &[u8],
@@ -124,7 +125,7 @@ fn push_shape(
     Ok(())
 }
 
-/// The expressions between commas at an offset; none where no list stands there.
+/// The comma-separated expressions at an offset. Empty if no list starts there.
 #[tactic(auto, using(crate::proofs::Steps::joined_none, crate::proofs::Steps::joined_stop, crate::proofs::Steps::joined_more, crate::proofs::Steps::joined_last, crate::proofs::Steps::joined_end))]
 fn exprs_from(alloc: Global, word: bool, line: &[u8], from: usize) -> Result<Exprs, NameMemory>
     requires { from ≤ length line.now }
@@ -148,7 +149,7 @@ fn exprs_from(alloc: Global, word: bool, line: &[u8], from: usize) -> Result<Exp
     Ok(Exprs::new(alloc))
 }
 
-/// Computations with an operand that is always the same.
+/// Builds a computation with a fixed operand (sp or 0).
 fn computation_of(computation: Computation, operands: Operands) -> StmtKind
     ensures { result ≡ computation_of computation operands }
 {
@@ -165,7 +166,7 @@ fn computation_of(computation: Computation, operands: Operands) -> StmtKind
     }
 }
 
-/// Loads, stores and register lists.
+/// Builds a load, a store or a push or pop of a register list.
 fn transfer_of(transfer: Transfer, operands: Operands) -> StmtKind
     ensures { result ≡ transfer_of transfer operands }
 {
@@ -186,7 +187,7 @@ fn transfer_of(transfer: Transfer, operands: Operands) -> StmtKind
     }
 }
 
-/// Returns, calls of registers, gates, hints and barriers.
+/// Builds a BX, BLX, SVC, UDF, hint or barrier.
 fn control_of(control: Control, operands: Operands) -> StmtKind
     ensures { result ≡ control_of control operands }
 {
@@ -202,7 +203,7 @@ fn control_of(control: Control, operands: Operands) -> StmtKind
     }
 }
 
-/// Directives without names, texts and expressions.
+/// Builds a directive that has no name, text or expression.
 fn directive_of(directive: Directive, operands: Operands) -> StmtKind
     ensures { result ≡ directive_of directive operands }
 {
@@ -228,9 +229,14 @@ fn directive_of(directive: Directive, operands: Operands) -> StmtKind
     }
 }
 
-/// Forms with names, texts and expressions.
-fn named_of(alloc: Global, line: &[u8], named: Named, o: Operands) -> Result<StmtKind, NameMemory>
-    ensures { IfOk result (λ k. k ≡ named_of line.now named o) }
+/// Builds a statement that has a name, a text or expressions. Err if memory runs out.
+fn stmt_of_named(
+    alloc: Global,
+    line: &[u8],
+    named: Named,
+    o: Operands,
+) -> Result<StmtKind, NameMemory>
+    ensures { IfOk result (λ k. k ≡ stmt_of_named line.now named o) }
 {
     let d = o.first;
     Ok(match named {
@@ -270,7 +276,7 @@ fn named_of(alloc: Global, line: &[u8], named: Named, o: Operands) -> Result<Stm
     })
 }
 
-/// The statement that a form makes.
+/// The statement of a form that fits. Err if memory runs out.
 #[tactic(auto, unfolding(crate::specs::Statements::kind_of))]
 pub fn kind_of(alloc: Global, line: &[u8], statement: Statement) -> Result<StmtKind, NameMemory>
     ensures { IfOk result (λ k. k ≡ kind_of line.now statement) }
@@ -301,6 +307,6 @@ pub fn kind_of(alloc: Global, line: &[u8], statement: Statement) -> Result<StmtK
         Makes::Transfers(transfer) => transfer_of(transfer, operands),
         Makes::Controls(control) => control_of(control, operands),
         Makes::Directs(directive) => directive_of(directive, operands),
-        Makes::Names(named) => named_of(alloc, line, named, operands)?,
+        Makes::Names(named) => stmt_of_named(alloc, line, named, operands)?,
     })
 }

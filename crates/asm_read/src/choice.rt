@@ -1,30 +1,31 @@
-//! The form that fits the tokens of a line (docs/source-language.md).
+//! Finds the form that fits the tokens of a line (docs/rules/sources.md).
 ghost use Rattle.std.specs.Prelude.{◌≡◌, ◌≤◌, ◌⊎◌, [], true, length, map, Option, None, IfErr, IfSome, MatchOption};
 ghost use Rattle.std.specs.List.{prefix_len};
-ghost use Rattle.asm_read.specs.Fits.{fresh, fits};
+ghost use Rattle.asm_read.specs.Fits.{no_operands, read_pieces};
 ghost use Rattle.asm_read.specs.Forms.{CodeRow, row_of, rows};
 ghost use Rattle.asm_read.specs.Operands.{same};
 ghost use Rattle.asm_read.specs.Patterns.{pieces_of};
-ghost use Rattle.asm_read.specs.Search.{farther, is_operand, is_before, rises, tried, first_fit};
+ghost use Rattle.asm_read.specs.Search.{farther_end, is_operand, is_before, rises, form_attempt, first_fit};
 
 use crate::fault::SourceWhat;
-use crate::form::{Operands, fits, fresh};
-use crate::line::Stop;
+use crate::form::{Operands, no_operands, read_pieces};
+use crate::line::LineEnd;
 use crate::makes::Makes;
 use crate::pattern::pieces_of;
 use crate::table::{Group, Row, forms_in};
 
-/// A statement: what its form makes, and its operands.
+/// A statement as it was read: which kind its form makes, and its operands.
 #[derive(Clone, Copy)]
 pub struct Statement {
+    /// Which kind of statement the form makes.
     pub makes: Makes,
+    /// The operands that were read.
     pub operands: Operands,
 }
 
-/// Where the form goes on that goes on longest; at one place a number that is too wide is more than a token that is
-/// none of the form.
-fn farther(best: Option<Stop>, stop: Stop) -> Stop
-    ensures farther { result ≡ farther best stop }
+/// The stop of the form that got farthest in the line. At equal offsets, a `BadOperand` gives way to the other stop.
+fn farther_end(best: Option<LineEnd>, stop: LineEnd) -> LineEnd
+    ensures farther_end { result ≡ farther_end best stop }
     ensures one { MatchOption best (result ≡ stop) (λ b. (result ≡ b) ⊎ (result ≡ stop)) }
 {
     match best {
@@ -39,6 +40,7 @@ fn farther(best: Option<Stop>, stop: Stop) -> Stop
     }
 }
 
+/// Whether a stop is a `BadOperand`.
 fn is_operand(what: SourceWhat) -> bool
     ensures { result ≡ is_operand what }
 {
@@ -48,29 +50,29 @@ fn is_operand(what: SourceWhat) -> bool
     }
 }
 
-/// One form of a line's word: it fits, or it stops.
+/// Tries one form: the statement if it fits, else the farthest stop so far.
 fn try_form(
     row: &Row,
     line: &[u8],
     from: usize,
-    best: Option<Stop>,
-) -> Result<Statement, Option<Stop>>
+    best: Option<LineEnd>,
+) -> Result<Statement, Option<LineEnd>>
     requires from { from ≤ length line.now }
     requires best { IfSome best (λ s. s.at ≤ length line.now) }
-    ensures fit { let form = (row_of row.now).form in result ≡ tried form.makes best (fits (pieces_of form.operands) line.now (fresh from)) }
+    ensures fit { let form = (row_of row.now).form in result ≡ form_attempt form.makes best (read_pieces (pieces_of form.operands) line.now (no_operands from)) }
     ensures stop { IfErr result (λ b. IfSome b (λ s. s.at ≤ length line.now)) }
 {
     let (_, form) = *row;
-    match fits(pieces_of(form.operands), line, fresh(from)) {
+    match read_pieces(pieces_of(form.operands), line, no_operands(from)) {
         Ok(operands) => Ok(Statement {
             makes: form.makes,
             operands,
         }),
-        Err(stop) => Err(Some(farther(best, stop))),
+        Err(stop) => Err(Some(farther_end(best, stop))),
     }
 }
 
-/// Whether a word stands before another, byte by byte.
+/// Whether a word sorts before another, byte by byte.
 #[tactic(auto, using(crate::proofs::Rising::before_more, crate::proofs::Rising::before_here, crate::proofs::Rising::before_end))]
 fn is_before(word: &[u8], other: &[u8]) -> bool
     ensures { result ≡ is_before word.now other.now }
@@ -84,7 +86,7 @@ fn is_before(word: &[u8], other: &[u8]) -> bool
     word.len() < other.len()
 }
 
-/// Whether two words are the same, byte by byte.
+/// Whether two words have the same bytes.
 #[tactic(auto, using(crate::proofs::Rising::same_more, crate::proofs::Rising::same_here, crate::proofs::Rising::same_end, crate::proofs::Rising::same_lengths))]
 fn is_same(word: &[u8], other: &[u8]) -> bool
     ensures { result ≡ same word.now other.now }
@@ -100,7 +102,7 @@ fn is_same(word: &[u8], other: &[u8]) -> bool
     true
 }
 
-/// How many of these forms have words before a word.
+/// The number of rows whose word sorts before a word.
 fn begin_of(rows: &[Row], word: &[u8]) -> usize
     requires { rises [] (map row_of rows.now) ≡ true }
     ensures count { result ≡ prefix_len (λ (r : CodeRow). is_before (row_of r).word word.now) rows.now }
@@ -109,10 +111,15 @@ fn begin_of(rows: &[Row], word: &[u8]) -> usize
     rows.partition_point(|row| is_before(row.0, word))
 }
 
-/// The first of these forms that begins with a word and fits; else the farthest stop, where one begins with it. None of
-/// them has a word before it, and their words rise.
+/// The first row of this word whose form fits. Err(Some) with the farthest stop if none of its forms fits, Err(None) if
+/// no row has this word. The rows are sorted and start at the word or after it.
 #[tactic(auto, using(crate::proofs::Rising::row_other, crate::proofs::Rising::row_hit, crate::proofs::Rising::row_miss, crate::proofs::Rising::row_rises, crate::proofs::Fitting::rows_end))]
-fn first_fit(rows: &[Row], word: &[u8], line: &[u8], from: usize) -> Result<Statement, Option<Stop>>
+fn first_fit(
+    rows: &[Row],
+    word: &[u8],
+    line: &[u8],
+    from: usize,
+) -> Result<Statement, Option<LineEnd>>
     requires from { from ≤ length line.now }
     requires rise { rises word.now (map row_of rows.now) ≡ true }
     ensures fit { result ≡ first_fit (map row_of rows.now) word.now line.now from None }
@@ -131,8 +138,9 @@ fn first_fit(rows: &[Row], word: &[u8], line: &[u8], from: usize) -> Result<Stat
     Err(so_far)
 }
 
-/// The first form of a word that fits, else where the form that goes on longest stops; None where the word has no form.
-pub fn form_at(word: &[u8], line: &[u8], from: usize) -> Result<Statement, Option<Stop>>
+/// The statement of the first form of a word that fits. Err(Some) with the stop of the form that got farthest if none
+/// fits; Err(None) if the word has no form.
+pub fn form_at(word: &[u8], line: &[u8], from: usize) -> Result<Statement, Option<LineEnd>>
     requires { from ≤ length line.now }
     ensures fit { result ≡ first_fit rows word.now line.now from None }
     ensures stop { IfErr result (λ b. IfSome b (λ s. s.at ≤ length line.now)) }

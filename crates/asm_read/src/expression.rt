@@ -1,31 +1,41 @@
-//! Expressions: numbers, names and what is added to them (docs/source-language.md, "Directives").
+//! Reads expressions: numbers, names, names with an addend, and differences of names
+//! (docs/rules/sources.md, "Directives").
 ghost use Rattle.std.specs.Prelude.{◌≡◌, ◌<◌, ◌≤◌, ◌-ℤ◌, pos, length, false, Option, IfOk, IfErr, IfSome};
-ghost use Rattle.asm_read.specs.Expressions.{relation_of, related, difference, after_name, expression_at, listed_at, list_item_at, expressions_at, end_of};
+ghost use Rattle.asm_read.specs.Expressions.{relation_of, read_relation, read_difference, after_name, expression_at, list_expr_at, list_item_at, expressions_at, end_of};
 
 use crate::fault::SourceWhat;
-use crate::line::{Span, Stop, mark_at, name_at, name_of, number_at, stopped};
-use crate::token::{Kind, is_mark_of, mark_after, token_at};
+use crate::line::{LineEnd, Span, end_at_token, mark_at, name_at, name_of, number_at};
+use crate::token::{TokenKind, is_mark_of, mark_after, token_at};
 
-/// An expression, with names as spans of the line.
+/// An expression whose names are spans of the line.
 #[derive(Clone, Copy)]
 pub enum Shape {
+    /// A number.
     Num(i64),
+    /// `name` or `name+n`.
     Of(Span, i64),
+    /// `a-b` or `a-b+n`.
     Diff(Span, Span, i64),
+    /// `name(prel31)`.
     Prel31(Span),
+    /// `name(prel31ref)`.
     Prel31Ref(Span),
+    /// `name(target2)`.
     Target2(Span),
+    /// `name(rel)`.
     Rel(Span),
 }
 
-/// An expression, and the offset after it.
+/// An expression that was read.
 #[derive(Clone, Copy)]
-pub struct Shaped {
+pub struct ParsedExpr {
+    /// The expression.
     pub shape: Shape,
+    /// The offset in the line, in bytes, after the expression.
     pub end: usize,
 }
 
-/// What a word in parentheses after a name means.
+/// The expression `name(word)`, or None if the word is no relocation operator.
 fn relation_of(name: Span, word: &[u8]) -> Option<Shape>
     ensures { result ≡ relation_of name word.now }
 {
@@ -42,49 +52,49 @@ fn relation_of(name: Span, word: &[u8]) -> Option<Shape>
     }
 }
 
-/// A name with a word in parentheses, from after the first of them on.
-#[tactic(auto, unfolding(crate::specs::Expressions::related))]
-fn related(line: &[u8], name: Span, from: usize) -> Result<Shaped, Stop>
+/// Reads the operator of `name(word)`, from the offset after the opening parenthesis.
+#[tactic(auto, unfolding(crate::specs::Expressions::read_relation))]
+fn related(line: &[u8], name: Span, from: usize) -> Result<ParsedExpr, LineEnd>
     requires { from ≤ length line.now }
-    ensures shaped { result ≡ related line.now name from }
+    ensures shaped { result ≡ read_relation line.now name from }
     ensures end { IfOk result (λ e. e.end ≤ length line.now) }
     ensures stop { IfErr result (λ s. s.at ≤ length line.now) }
 {
     let token = token_at(line, from);
     match relation_of(name, name_of(line, token)) {
-        None => Err(stopped(token)),
+        None => Err(end_at_token(token)),
         Some(shape) => {
             let end = mark_at(b')', line, token.end)?;
-            Ok(Shaped { shape, end })
+            Ok(ParsedExpr { shape, end })
         }
     }
 }
 
-/// A difference of names, from after its minus sign on.
-#[tactic(auto, unfolding(crate::specs::Expressions::difference))]
-fn difference(line: &[u8], name: Span, from: usize) -> Result<Shaped, Stop>
+/// Reads the rest of `a-b` or `a-b+n`, from the offset after the minus sign.
+#[tactic(auto, unfolding(crate::specs::Expressions::read_difference))]
+fn difference(line: &[u8], name: Span, from: usize) -> Result<ParsedExpr, LineEnd>
     requires { from ≤ length line.now }
-    ensures shaped { result ≡ difference line.now name from }
+    ensures shaped { result ≡ read_difference line.now name from }
     ensures end { IfOk result (λ e. e.end ≤ length line.now) }
     ensures stop { IfErr result (λ s. s.at ≤ length line.now) }
 {
     let other = name_at(line, from)?;
     let Some(plus) = mark_after(b'+', line, other.end) else {
-        return Ok(Shaped {
+        return Ok(ParsedExpr {
             shape: Shape::Diff(name, other, 0),
             end: other.end,
         });
     };
     let number = number_at(line, plus)?;
-    Ok(Shaped {
+    Ok(ParsedExpr {
         shape: Shape::Diff(name, other, number.value),
         end: number.end,
     })
 }
 
-/// An expression that begins with a name, from after it on.
+/// Reads the rest of an expression that begins with a name, from the offset after the name.
 #[tactic(auto, unfolding(crate::specs::Expressions::after_name))]
-fn after_name(word: bool, line: &[u8], name: Span) -> Result<Shaped, Stop>
+fn after_name(word: bool, line: &[u8], name: Span) -> Result<ParsedExpr, LineEnd>
     requires { name.end ≤ length line.now }
     ensures shaped { result ≡ after_name word line.now name }
     ensures end { IfOk result (λ e. e.end ≤ length line.now) }
@@ -93,7 +103,7 @@ fn after_name(word: bool, line: &[u8], name: Span) -> Result<Shaped, Stop>
     let token = token_at(line, name.end);
     if is_mark_of(b'+', token.kind) {
         let number = number_at(line, token.end)?;
-        return Ok(Shaped {
+        return Ok(ParsedExpr {
             shape: Shape::Of(name, number.value),
             end: number.end,
         });
@@ -104,15 +114,15 @@ fn after_name(word: bool, line: &[u8], name: Span) -> Result<Shaped, Stop>
     if word && is_mark_of(b'(', token.kind) {
         return related(line, name, token.end);
     }
-    Ok(Shaped {
+    Ok(ParsedExpr {
         shape: Shape::Of(name, 0),
         end: name.end,
     })
 }
 
-/// The expression at an offset; `word` says whether `name(prel31)` and the like may stand there.
+/// Reads the expression at an offset. `word` allows `name(prel31)` and the other operators of words.
 #[tactic(auto, unfolding(crate::specs::Expressions::expression_at))]
-pub fn expression_at(word: bool, line: &[u8], from: usize) -> Result<Shaped, Stop>
+pub fn expression_at(word: bool, line: &[u8], from: usize) -> Result<ParsedExpr, LineEnd>
     requires { from ≤ length line.now }
     ensures shaped { result ≡ expression_at word line.now from }
     ensures end { IfOk result (λ e. e.end ≤ length line.now) }
@@ -120,15 +130,15 @@ pub fn expression_at(word: bool, line: &[u8], from: usize) -> Result<Shaped, Sto
 {
     let token = token_at(line, from);
     match token.kind {
-        Kind::Number(value) => Ok(Shaped {
+        TokenKind::Number(value) => Ok(ParsedExpr {
             shape: Shape::Num(value),
             end: token.end,
         }),
-        Kind::Wide => Err(Stop {
+        TokenKind::Wide => Err(LineEnd {
             at: token.start,
             what: SourceWhat::NumberRange,
         }),
-        Kind::Word => after_name(
+        TokenKind::Word => after_name(
             word,
             line,
             Span {
@@ -136,15 +146,15 @@ pub fn expression_at(word: bool, line: &[u8], from: usize) -> Result<Shaped, Sto
                 end: token.end,
             },
         ),
-        _ => Err(stopped(token)),
+        _ => Err(end_at_token(token)),
     }
 }
 
-/// The expression at an offset in a directive's list, where a number may have a `#`.
-#[tactic(auto, unfolding(crate::specs::Expressions::listed_at))]
-fn listed_at(word: bool, line: &[u8], from: usize) -> Result<Shaped, Stop>
+/// Reads the expression at an offset of a directive's list, where a number may have a `#`.
+#[tactic(auto, unfolding(crate::specs::Expressions::list_expr_at))]
+fn listed_at(word: bool, line: &[u8], from: usize) -> Result<ParsedExpr, LineEnd>
     requires { from ≤ length line.now }
-    ensures shaped { result ≡ listed_at word line.now from }
+    ensures shaped { result ≡ list_expr_at word line.now from }
     ensures end { IfOk result (λ e. e.end ≤ length line.now) }
     ensures stop { IfErr result (λ s. s.at ≤ length line.now) }
 {
@@ -152,23 +162,26 @@ fn listed_at(word: bool, line: &[u8], from: usize) -> Result<Shaped, Stop>
         return expression_at(word, line, from);
     };
     let number = number_at(line, hash)?;
-    Ok(Shaped {
+    Ok(ParsedExpr {
         shape: Shape::Num(number.value),
         end: number.end,
     })
 }
 
-/// An expression of a list, the offset after it, and where the next one begins: after a comma.
+/// An expression of a comma-separated list.
 #[derive(Clone, Copy)]
 pub struct ListItem {
+    /// The expression.
     pub shape: Shape,
+    /// The offset in the line, in bytes, after the expression.
     pub end: usize,
+    /// The offset in the line, in bytes, of the next expression; None if no comma follows.
     pub next: Option<usize>,
 }
 
-/// The expression of a list at an offset.
+/// Reads one expression of a list at an offset, and the comma after it.
 #[tactic(auto, unfolding(crate::specs::Expressions::list_item_at))]
-pub fn list_item_at(word: bool, line: &[u8], from: usize) -> Result<ListItem, Stop>
+pub fn list_item_at(word: bool, line: &[u8], from: usize) -> Result<ListItem, LineEnd>
     requires { from ≤ length line.now }
     ensures item { result ≡ list_item_at word line.now from }
     ensures end { IfOk result (λ i. i.end ≤ length line.now) }
@@ -183,9 +196,9 @@ pub fn list_item_at(word: bool, line: &[u8], from: usize) -> Result<ListItem, St
     })
 }
 
-/// The offset after the expressions between commas that begin at an offset.
+/// The offset after the comma-separated expressions that begin at an offset. Err at the first that can't be read.
 #[tactic(auto, using(crate::proofs::Steps::end_stop, crate::proofs::Steps::end_last, crate::proofs::Steps::end_more, crate::proofs::Steps::end_none))]
-pub fn expressions_end(word: bool, line: &[u8], from: usize) -> Result<usize, Stop>
+pub fn expressions_end(word: bool, line: &[u8], from: usize) -> Result<usize, LineEnd>
     requires { from ≤ length line.now }
     ensures place { result ≡ end_of (expressions_at (length line.now) word line.now from) }
     ensures end { IfOk result (λ at. at ≤ length line.now) }
@@ -201,5 +214,5 @@ pub fn expressions_end(word: bool, line: &[u8], from: usize) -> Result<usize, St
         }
         left -= 1;
     }
-    Err(stopped(token_at(line, at)))
+    Err(end_at_token(token_at(line, at)))
 }

@@ -1,19 +1,22 @@
-//! Why a source is refused, and where (docs/source-language.md, "Refusals").
+//! Why a source is refused, and where (docs/rules/sources.md, "Refusals of text").
 ghost use Rattle.std.specs.Prelude.{◌≡◌, ◌≤◌, length};
 ghost use Rattle.asm_read.specs.Fault.{what_name};
 
 use eh_word::NameMemory;
 use std::alloc::AllocError;
 
-/// Where and why a source is refused. Lines and columns count from 1, columns in bytes; for want of memory both are 0.
+/// Where and why a source is refused. If memory ran out, line and column are 0.
 #[derive(Clone, Copy)]
 pub struct SourceFault {
+    /// The line, counted from 1.
     pub line: u32,
+    /// The column in bytes, counted from 1.
     pub column: u32,
+    /// Why the source is refused.
     pub what: SourceWhat,
 }
 
-/// What is refused. The first place of the text is answered, and at one place the first of this order.
+/// Why a source is refused. The earliest place of the text is reported; at one place, the first cause of this list.
 #[derive(Clone, Copy, Debug)]
 pub enum SourceWhat {
     /// A byte above 126, or below 32 other than tab, carriage return and line feed; at the byte.
@@ -28,16 +31,16 @@ pub enum SourceWhat {
     UnknownMnemonic,
     /// A word that begins with a dot and is no directive; at the word.
     UnknownDirective,
-    /// A token, or the line's end, with which no form of the word goes on; at the token, or after the line's last token.
+    /// A token that no form of the word takes there; at the token. If the line ends too early, after its last token.
     BadOperand,
     /// A number outside -2,147,483,648 to 4,294,967,295; at the number.
     NumberRange,
-    /// Want of memory.
+    /// Memory ran out.
     OutOfMemory,
 }
 
 impl SourceWhat {
-    /// The name of the refusal, as a report writes it.
+    /// The name of the refusal in reports, of at most 16 bytes.
     pub fn name(self) -> &'static [u8]
         ensures name { result.now ≡ what_name self }
         ensures short { length result.now ≤ 16 }

@@ -1,26 +1,28 @@
-//! Forms of operands, piece by piece (docs/source-language.md).
+//! Reads the operands of a form, piece by piece (docs/rules/sources.md).
 ghost use Rattle.std.specs.Prelude.{◌≡◌, ◌<◌, ◌≤◌, length, IfOk, IfErr, true, false, codes};
-ghost use Rattle.asm_read.specs.Fits.{fresh, with_first, with_second, with_third, with_word, with_mark, with_hash, with_number, with_limited, with_name, with_text, with_list, with_expression, with_expressions, piece_at, end_at, fits};
+ghost use Rattle.asm_read.specs.Fits.{no_operands, with_first, with_second, with_third, with_word, with_mark, with_hash, with_number, with_limited_number, with_name, with_text, with_list, with_expression, with_expressions, piece_at, end_at, read_pieces};
 ghost use Rattle.asm_read.specs.Operands.{bytes_of};
 
 use crate::expression::{expression_at, expressions_end};
 use crate::fault::SourceWhat;
 use crate::line::{
-    Span, Stop, bytes_of, has_register, limited_at, list_at, mark_at, mark_or_nothing, name_at,
-    number_at, register_at, stopped, text_at, word_at,
+    LineEnd, Span, bytes_of, end_at_token, has_register, limited_at, list_at, mark_at,
+    mark_or_nothing, name_at, number_at, register_at, text_at, word_at,
 };
-use crate::token::{Kind, token_at};
+use crate::token::{TokenKind, token_at};
 
-/// A piece of a form's operands.
+/// One piece of a form's operands: what has to come next in the line.
 #[derive(Clone, Copy)]
 pub enum Piece {
-    /// A register: the form's first, second or third.
+    /// The form's first register.
     First,
+    /// The form's second register.
     Second,
+    /// The form's third register.
     Third,
     /// The word `sp`.
     Sp,
-    /// This byte, a token alone.
+    /// This byte, as a token of its own.
     Mark(u8),
     /// A `#`, or nothing.
     MaybeHash,
@@ -32,46 +34,54 @@ pub enum Piece {
     UpToThree,
     /// A name.
     Name,
-    /// The same name again.
+    /// The name that was read before, once more.
     SameName,
     /// The name `.`.
     Dot,
-    /// The words `.rodata`, `function`, `object`.
+    /// The word `.rodata`.
     Rodata,
+    /// The word `function`.
     Function,
+    /// The word `object`.
     Object,
     /// A register list in braces.
     Registers,
-    /// A register list in braces that has the form's first register.
+    /// A register list in braces that contains the form's first register.
     RegistersWithFirst,
     /// A text in double quotes.
     Text,
     /// An expression.
     Expression,
-    /// Expressions between commas, each with or without a `#` before a number.
+    /// Comma-separated expressions; a number may have a `#` before it.
     Expressions,
-    /// The same, where `name(prel31)` and the like stand too.
+    /// Comma-separated expressions, `name(prel31)` and the other operators of words included.
     WordExpressions,
 }
 
-/// What a form's operands hold so far: the offset after the last of them, and their values.
+/// The operands that were read so far.
 #[derive(Clone, Copy)]
 pub struct Operands {
+    /// The offset in the line, in bytes, after the last operand.
     pub at: usize,
+    /// The number of the first register, 0 to 15.
     pub first: u8,
+    /// The number of the second register, 0 to 15.
     pub second: u8,
+    /// The number of the third register, 0 to 15.
     pub third: u8,
+    /// The register list: bit k is set if register k is in it.
     pub list: u16,
+    /// The number that was read last.
     pub number: i64,
-    /// The name or the text.
+    /// The span of the name, or of the text with its quotes.
     pub name: Span,
-    /// The offset of the expressions.
+    /// The offset in the line, in bytes, of the first expression.
     pub from: usize,
 }
 
-/// Operands before any is read.
-pub fn fresh(at: usize) -> Operands
-    ensures { result ≡ fresh at }
+/// No operands yet, with the offset where they begin.
+pub fn no_operands(at: usize) -> Operands
+    ensures { result ≡ no_operands at }
 {
     Operands {
         at,
@@ -85,7 +95,7 @@ pub fn fresh(at: usize) -> Operands
     }
 }
 
-fn with_first(line: &[u8], operands: Operands) -> Result<Operands, Stop>
+fn with_first(line: &[u8], operands: Operands) -> Result<Operands, LineEnd>
     requires { operands.at ≤ length line.now }
     ensures operands { result ≡ with_first line.now operands }
     ensures at { IfOk result (λ o. o.at ≤ length line.now) }
@@ -99,7 +109,7 @@ fn with_first(line: &[u8], operands: Operands) -> Result<Operands, Stop>
     })
 }
 
-fn with_second(line: &[u8], operands: Operands) -> Result<Operands, Stop>
+fn with_second(line: &[u8], operands: Operands) -> Result<Operands, LineEnd>
     requires { operands.at ≤ length line.now }
     ensures operands { result ≡ with_second line.now operands }
     ensures at { IfOk result (λ o. o.at ≤ length line.now) }
@@ -113,7 +123,7 @@ fn with_second(line: &[u8], operands: Operands) -> Result<Operands, Stop>
     })
 }
 
-fn with_third(line: &[u8], operands: Operands) -> Result<Operands, Stop>
+fn with_third(line: &[u8], operands: Operands) -> Result<Operands, LineEnd>
     requires { operands.at ≤ length line.now }
     ensures operands { result ≡ with_third line.now operands }
     ensures at { IfOk result (λ o. o.at ≤ length line.now) }
@@ -127,7 +137,7 @@ fn with_third(line: &[u8], operands: Operands) -> Result<Operands, Stop>
     })
 }
 
-fn with_word(word: &[u8], line: &[u8], operands: Operands) -> Result<Operands, Stop>
+fn with_word(word: &[u8], line: &[u8], operands: Operands) -> Result<Operands, LineEnd>
     requires { operands.at ≤ length line.now }
     ensures operands { result ≡ with_word word.now line.now operands }
     ensures at { IfOk result (λ o. o.at ≤ length line.now) }
@@ -137,7 +147,7 @@ fn with_word(word: &[u8], line: &[u8], operands: Operands) -> Result<Operands, S
     Ok(Operands { at, ..operands })
 }
 
-fn with_mark(mark: u8, line: &[u8], operands: Operands) -> Result<Operands, Stop>
+fn with_mark(mark: u8, line: &[u8], operands: Operands) -> Result<Operands, LineEnd>
     requires { operands.at ≤ length line.now }
     ensures operands { result ≡ with_mark mark line.now operands }
     ensures at { IfOk result (λ o. o.at ≤ length line.now) }
@@ -156,7 +166,7 @@ fn with_hash(line: &[u8], operands: Operands) -> Operands
     Operands { at, ..operands }
 }
 
-fn with_number(line: &[u8], operands: Operands) -> Result<Operands, Stop>
+fn with_number(line: &[u8], operands: Operands) -> Result<Operands, LineEnd>
     requires { operands.at ≤ length line.now }
     ensures operands { result ≡ with_number line.now operands }
     ensures at { IfOk result (λ o. o.at ≤ length line.now) }
@@ -170,9 +180,9 @@ fn with_number(line: &[u8], operands: Operands) -> Result<Operands, Stop>
     })
 }
 
-fn with_limited(high: i64, line: &[u8], operands: Operands) -> Result<Operands, Stop>
+fn with_limited_number(high: i64, line: &[u8], operands: Operands) -> Result<Operands, LineEnd>
     requires { operands.at ≤ length line.now }
-    ensures operands { result ≡ with_limited high line.now operands }
+    ensures operands { result ≡ with_limited_number high line.now operands }
     ensures at { IfOk result (λ o. o.at ≤ length line.now) }
     ensures stop { IfErr result (λ s. s.at ≤ length line.now) }
 {
@@ -184,7 +194,7 @@ fn with_limited(high: i64, line: &[u8], operands: Operands) -> Result<Operands, 
     })
 }
 
-fn with_name(line: &[u8], operands: Operands) -> Result<Operands, Stop>
+fn with_name(line: &[u8], operands: Operands) -> Result<Operands, LineEnd>
     requires { operands.at ≤ length line.now }
     ensures operands { result ≡ with_name line.now operands }
     ensures at { IfOk result (λ o. o.at ≤ length line.now) }
@@ -198,7 +208,7 @@ fn with_name(line: &[u8], operands: Operands) -> Result<Operands, Stop>
     })
 }
 
-fn with_text(line: &[u8], operands: Operands) -> Result<Operands, Stop>
+fn with_text(line: &[u8], operands: Operands) -> Result<Operands, LineEnd>
     requires { operands.at ≤ length line.now }
     ensures operands { result ≡ with_text line.now operands }
     ensures at { IfOk result (λ o. o.at ≤ length line.now) }
@@ -212,8 +222,8 @@ fn with_text(line: &[u8], operands: Operands) -> Result<Operands, Stop>
     })
 }
 
-/// A register list; `first` says whether it has to have the first register.
-fn with_list(first: bool, line: &[u8], operands: Operands) -> Result<Operands, Stop>
+/// Reads a register list. If `first`, it must contain the form's first register.
+fn with_list(first: bool, line: &[u8], operands: Operands) -> Result<Operands, LineEnd>
     requires { operands.at ≤ length line.now }
     ensures operands { result ≡ with_list first line.now operands }
     ensures at { IfOk result (λ o. o.at ≤ length line.now) }
@@ -221,7 +231,7 @@ fn with_list(first: bool, line: &[u8], operands: Operands) -> Result<Operands, S
 {
     let listed = list_at(line, operands.at)?;
     if first && !has_register(listed.list, operands.first) {
-        return Err(Stop {
+        return Err(LineEnd {
             at: listed.close,
             what: SourceWhat::BadOperand,
         });
@@ -233,7 +243,7 @@ fn with_list(first: bool, line: &[u8], operands: Operands) -> Result<Operands, S
     })
 }
 
-fn with_expression(line: &[u8], operands: Operands) -> Result<Operands, Stop>
+fn with_expression(line: &[u8], operands: Operands) -> Result<Operands, LineEnd>
     requires { operands.at ≤ length line.now }
     ensures operands { result ≡ with_expression line.now operands }
     ensures at { IfOk result (λ o. o.at ≤ length line.now) }
@@ -247,7 +257,7 @@ fn with_expression(line: &[u8], operands: Operands) -> Result<Operands, Stop>
     })
 }
 
-fn with_expressions(word: bool, line: &[u8], operands: Operands) -> Result<Operands, Stop>
+fn with_expressions(word: bool, line: &[u8], operands: Operands) -> Result<Operands, LineEnd>
     requires { operands.at ≤ length line.now }
     ensures operands { result ≡ with_expressions word line.now operands }
     ensures at { IfOk result (λ o. o.at ≤ length line.now) }
@@ -261,9 +271,9 @@ fn with_expressions(word: bool, line: &[u8], operands: Operands) -> Result<Opera
     })
 }
 
-/// The operands with one piece more.
+/// Reads one more piece.
 #[tactic(auto, unfolding(crate::specs::Fits::piece_at))]
-fn piece_at(piece: Piece, line: &[u8], operands: Operands) -> Result<Operands, Stop>
+fn piece_at(piece: Piece, line: &[u8], operands: Operands) -> Result<Operands, LineEnd>
     requires { operands.at ≤ length line.now }
     ensures operands { result ≡ piece_at piece line.now operands }
     ensures at { IfOk result (λ o. o.at ≤ length line.now) }
@@ -277,8 +287,8 @@ fn piece_at(piece: Piece, line: &[u8], operands: Operands) -> Result<Operands, S
         Piece::Mark(mark) => with_mark(mark, line, operands),
         Piece::MaybeHash => Ok(with_hash(line, operands)),
         Piece::Number => with_number(line, operands),
-        Piece::Zero => with_limited(0, line, operands),
-        Piece::UpToThree => with_limited(3, line, operands),
+        Piece::Zero => with_limited_number(0, line, operands),
+        Piece::UpToThree => with_limited_number(3, line, operands),
         Piece::Name => with_name(line, operands),
         Piece::SameName => with_word(bytes_of(line, operands.name), line, operands),
         Piece::Dot => with_word(b".", line, operands),
@@ -294,9 +304,9 @@ fn piece_at(piece: Piece, line: &[u8], operands: Operands) -> Result<Operands, S
     }
 }
 
-/// The operands where the line ends after them.
+/// Checks that nothing but blanks and a comment follow the operands.
 #[tactic(auto, using(crate::proofs::Marks::end_token), unfolding(crate::specs::Fits::end_at))]
-fn end_at(line: &[u8], operands: Operands) -> Result<Operands, Stop>
+fn end_at(line: &[u8], operands: Operands) -> Result<Operands, LineEnd>
     requires { operands.at ≤ length line.now }
     ensures operands { result ≡ end_at line.now operands }
     ensures at { IfOk result (λ o. o.at ≤ length line.now) }
@@ -307,16 +317,16 @@ fn end_at(line: &[u8], operands: Operands) -> Result<Operands, Stop>
     }
     let token = token_at(line, operands.at);
     match token.kind {
-        Kind::End => Ok(operands),
-        _ => Err(stopped(token)),
+        TokenKind::End => Ok(operands),
+        _ => Err(end_at_token(token)),
     }
 }
 
-/// The operands with these pieces up to the line's end, or where the form doesn't go on.
+/// Reads these pieces up to the end of the line. Err at the first token that doesn't fit.
 #[tactic(auto, using(crate::proofs::Fitting::fits_ok, crate::proofs::Fitting::fits_err, crate::proofs::Fitting::fits_end))]
-pub fn fits(pieces: &[Piece], line: &[u8], operands: Operands) -> Result<Operands, Stop>
+pub fn read_pieces(pieces: &[Piece], line: &[u8], operands: Operands) -> Result<Operands, LineEnd>
     requires { operands.at ≤ length line.now }
-    ensures operands { result ≡ fits pieces.now line.now operands }
+    ensures operands { result ≡ read_pieces pieces.now line.now operands }
     ensures stop { IfErr result (λ s. s.at ≤ length line.now) }
 {
     let mut so_far = operands;

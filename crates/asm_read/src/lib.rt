@@ -1,4 +1,4 @@
-//! Sources of the assembly language read into statements (docs/source-language.md).
+//! Reads sources of the assembly language into statements (docs/rules/sources.md).
 #![tactic(auto)]
 
 mod build;

@@ -1,43 +1,54 @@
-//! Operands at a place of a line (docs/source-language.md).
+//! Reads single operands: marks, words, names, registers, numbers and register lists (docs/rules/sources.md).
 ghost use Rattle.std.specs.Prelude.{◌≡◌, ◌+◌, ◌-◌, ◌*◌, ◌^◌, ◌<◌, ◌≤◌, ◌-ℤ◌, length, IfOk, IfErr, IfSome};
-ghost use Rattle.asm_read.specs.Operands.{is_mark_of, bytes_of, register_of, stopped, name_of, register_at, mark_at, mark_or_nothing, word_at, name_at, text_at, number_at, limited_at, register_mask, has_register, item_at, list_from, list_at};
+ghost use Rattle.asm_read.specs.Operands.{is_mark_of, bytes_of, register_of, end_at_token, name_of, register_at, mark_at, mark_or_nothing, word_at, name_at, text_at, number_at, limited_number_at, register_mask, has_register, item_at, list_from, list_at};
 
 use crate::fault::SourceWhat;
-use crate::token::{Kind, Token, is_mark_of, mark_after, token_at};
+use crate::token::{Token, TokenKind, is_mark_of, mark_after, token_at};
 
-/// The numbers of sp, lr and pc.
+/// The register number of sp.
 pub const SP: u8 = 13;
 
+/// The register number of lr.
 pub const LR: u8 = 14;
 
+/// The register number of pc.
 pub const PC: u8 = 15;
 
-/// Bytes of a line, from one offset to another.
+/// A range of bytes of a line.
 #[derive(Clone, Copy)]
 pub struct Span {
+    /// The offset in the line, in bytes, of the first byte.
     pub start: usize,
+    /// The offset in the line, in bytes, after the last byte.
     pub end: usize,
 }
 
-/// Where reading a line stops, as an offset, and why.
+/// Where and why reading a line stops.
 #[derive(Clone, Copy)]
-pub struct Stop {
+pub struct LineEnd {
+    /// The offset in the line, in bytes.
     pub at: usize,
+    /// Why reading stops there.
     pub what: SourceWhat,
 }
 
-/// A register with its token's offsets.
+/// A register, and where its token is.
 #[derive(Clone, Copy)]
 pub struct Register {
+    /// The register's number, 0 to 15.
     pub number: u8,
+    /// The offset in the line, in bytes, of the token.
     pub start: usize,
+    /// The offset in the line, in bytes, after the token.
     pub end: usize,
 }
 
-/// A number, and the offset after it.
+/// A number that was read.
 #[derive(Clone, Copy)]
 pub struct Numeral {
+    /// The number.
     pub value: i64,
+    /// The offset in the line, in bytes, after it.
     pub end: usize,
 }
 
@@ -52,25 +63,25 @@ pub fn bytes_of(line: &[u8], span: Span) -> &[u8]
     }
 }
 
-/// A token with which no form goes on.
-pub fn stopped(token: Token) -> Stop
-    ensures { result ≡ stopped token }
+/// The refusal at a token that no form takes.
+pub fn end_at_token(token: Token) -> LineEnd
+    ensures { result ≡ end_at_token token }
 {
-    Stop {
+    LineEnd {
         at: token.start,
         what: match token.kind {
-            Kind::Bad => SourceWhat::BadToken,
+            TokenKind::Bad => SourceWhat::BadToken,
             _ => SourceWhat::BadOperand,
         },
     }
 }
 
-/// The bytes of a name; none where the token is no name.
+/// The bytes of a name token; empty for any other token.
 pub fn name_of(line: &[u8], token: Token) -> &[u8]
     ensures { result.now ≡ name_of line.now token }
 {
     match token.kind {
-        Kind::Word => bytes_of(
+        TokenKind::Word => bytes_of(
             line,
             Span {
                 start: token.start,
@@ -81,7 +92,7 @@ pub fn name_of(line: &[u8], token: Token) -> &[u8]
     }
 }
 
-/// The register of a name.
+/// The number of the register with this name, or None.
 fn register_of(name: &[u8]) -> Option<u8>
     ensures number { result ≡ register_of name.now }
     ensures below { IfSome result (λ r. r < 16) }
@@ -102,9 +113,9 @@ fn register_of(name: &[u8]) -> Option<u8>
     }
 }
 
-/// The register at an offset.
+/// Reads a register at an offset.
 #[tactic(auto, unfolding(crate::specs::Operands::register_at))]
-pub fn register_at(line: &[u8], from: usize) -> Result<Register, Stop>
+pub fn register_at(line: &[u8], from: usize) -> Result<Register, LineEnd>
     requires { from ≤ length line.now }
     ensures register { result ≡ register_at line.now from }
     ensures below { IfOk result (λ r. r.number < 16) }
@@ -119,13 +130,13 @@ pub fn register_at(line: &[u8], from: usize) -> Result<Register, Stop>
             start: token.start,
             end: token.end,
         }),
-        None => Err(stopped(token)),
+        None => Err(end_at_token(token)),
     }
 }
 
-/// The offset after a mark.
+/// Reads a mark at an offset; gives the offset after it.
 #[tactic(auto, unfolding(crate::specs::Operands::mark_at))]
-pub fn mark_at(mark: u8, line: &[u8], from: usize) -> Result<usize, Stop>
+pub fn mark_at(mark: u8, line: &[u8], from: usize) -> Result<usize, LineEnd>
     requires { from ≤ length line.now }
     ensures place { result ≡ mark_at mark line.now from }
     ensures end { IfOk result (λ at. at ≤ length line.now) }
@@ -133,11 +144,11 @@ pub fn mark_at(mark: u8, line: &[u8], from: usize) -> Result<usize, Stop>
 {
     match mark_after(mark, line, from) {
         Some(end) => Ok(end),
-        None => Err(stopped(token_at(line, from))),
+        None => Err(end_at_token(token_at(line, from))),
     }
 }
 
-/// The offset after a mark, or the same offset where it isn't there.
+/// Reads an optional mark; gives the offset after it, or the same offset if another token is there.
 #[tactic(auto, unfolding(crate::specs::Operands::mark_or_nothing))]
 pub fn mark_or_nothing(mark: u8, line: &[u8], from: usize) -> usize
     requires { from ≤ length line.now }
@@ -147,9 +158,9 @@ pub fn mark_or_nothing(mark: u8, line: &[u8], from: usize) -> usize
     mark_after(mark, line, from).unwrap_or(from)
 }
 
-/// The offset after a word.
+/// Reads this word at an offset; gives the offset after it.
 #[tactic(auto, unfolding(crate::specs::Operands::word_at))]
-pub fn word_at(word: &[u8], line: &[u8], from: usize) -> Result<usize, Stop>
+pub fn word_at(word: &[u8], line: &[u8], from: usize) -> Result<usize, LineEnd>
     requires { from ≤ length line.now }
     ensures place { result ≡ word_at word.now line.now from }
     ensures end { IfOk result (λ at. at ≤ length line.now) }
@@ -159,13 +170,13 @@ pub fn word_at(word: &[u8], line: &[u8], from: usize) -> Result<usize, Stop>
     if name_of(line, token) == word {
         Ok(token.end)
     } else {
-        Err(stopped(token))
+        Err(end_at_token(token))
     }
 }
 
-/// The name at an offset.
+/// Reads a name at an offset; gives its span.
 #[tactic(auto, unfolding(crate::specs::Operands::name_at))]
-pub fn name_at(line: &[u8], from: usize) -> Result<Span, Stop>
+pub fn name_at(line: &[u8], from: usize) -> Result<Span, LineEnd>
     requires { from ≤ length line.now }
     ensures name { result ≡ name_at line.now from }
     ensures end { IfOk result (λ name. name.end ≤ length line.now) }
@@ -173,17 +184,17 @@ pub fn name_at(line: &[u8], from: usize) -> Result<Span, Stop>
 {
     let token = token_at(line, from);
     match token.kind {
-        Kind::Word => Ok(Span {
+        TokenKind::Word => Ok(Span {
             start: token.start,
             end: token.end,
         }),
-        _ => Err(stopped(token)),
+        _ => Err(end_at_token(token)),
     }
 }
 
-/// The text at an offset, with its quotes.
+/// Reads a quoted text at an offset; gives its span with the quotes.
 #[tactic(auto, unfolding(crate::specs::Operands::text_at))]
-pub fn text_at(line: &[u8], from: usize) -> Result<Span, Stop>
+pub fn text_at(line: &[u8], from: usize) -> Result<Span, LineEnd>
     requires { from ≤ length line.now }
     ensures name { result ≡ text_at line.now from }
     ensures end { IfOk result (λ text. text.end ≤ length line.now) }
@@ -191,17 +202,17 @@ pub fn text_at(line: &[u8], from: usize) -> Result<Span, Stop>
 {
     let token = token_at(line, from);
     match token.kind {
-        Kind::Quoted => Ok(Span {
+        TokenKind::Quoted => Ok(Span {
             start: token.start,
             end: token.end,
         }),
-        _ => Err(stopped(token)),
+        _ => Err(end_at_token(token)),
     }
 }
 
-/// The number at an offset.
+/// Reads a number at an offset.
 #[tactic(auto, unfolding(crate::specs::Operands::number_at))]
-pub fn number_at(line: &[u8], from: usize) -> Result<Numeral, Stop>
+pub fn number_at(line: &[u8], from: usize) -> Result<Numeral, LineEnd>
     requires { from ≤ length line.now }
     ensures number { result ≡ number_at line.now from }
     ensures end { IfOk result (λ n. n.end ≤ length line.now) }
@@ -209,53 +220,59 @@ pub fn number_at(line: &[u8], from: usize) -> Result<Numeral, Stop>
 {
     let token = token_at(line, from);
     match token.kind {
-        Kind::Number(value) => Ok(Numeral {
+        TokenKind::Number(value) => Ok(Numeral {
             value,
             end: token.end,
         }),
-        Kind::Wide => Err(Stop {
+        TokenKind::Wide => Err(LineEnd {
             at: token.start,
             what: SourceWhat::NumberRange,
         }),
-        _ => Err(stopped(token)),
+        _ => Err(end_at_token(token)),
     }
 }
 
-/// The number at an offset, which is one from 0 to `high`.
-#[tactic(auto, unfolding(crate::specs::Operands::limited_at))]
-pub fn limited_at(high: i64, line: &[u8], from: usize) -> Result<Numeral, Stop>
+/// Reads a number from 0 to `high` at an offset.
+#[tactic(auto, unfolding(crate::specs::Operands::limited_number_at))]
+pub fn limited_at(high: i64, line: &[u8], from: usize) -> Result<Numeral, LineEnd>
     requires { from ≤ length line.now }
-    ensures number { result ≡ limited_at high line.now from }
+    ensures number { result ≡ limited_number_at high line.now from }
     ensures end { IfOk result (λ n. n.end ≤ length line.now) }
     ensures stop { IfErr result (λ s. s.at ≤ length line.now) }
 {
     let token = token_at(line, from);
     match token.kind {
-        Kind::Number(value) if 0 <= value && value <= high => Ok(Numeral {
+        TokenKind::Number(value) if 0 <= value && value <= high => Ok(Numeral {
             value,
             end: token.end,
         }),
-        _ => Err(stopped(token)),
+        _ => Err(end_at_token(token)),
     }
 }
 
-/// Registers from one to another, and the offset after them.
+/// One item of a register list: a register, or a range of registers.
 #[derive(Clone, Copy)]
 pub struct Item {
+    /// The number of the first register.
     pub low: u8,
+    /// The number of the last register, at least `low`.
     pub high: u8,
+    /// The offset in the line, in bytes, after the item.
     pub end: usize,
 }
 
-/// The registers of a list, and the offsets before and after the brace that closes it.
+/// A register list that was read.
 #[derive(Clone, Copy)]
-pub struct Listed {
+pub struct ListRegisters {
+    /// The registers: bit k is set if register k is in the list.
     pub list: u16,
+    /// The offset in the line, in bytes, of the closing brace.
     pub close: usize,
+    /// The offset in the line, in bytes, after the closing brace.
     pub end: usize,
 }
 
-/// Registers from one to another as bits.
+/// The bits of the registers from `low` to `high`.
 fn register_mask(low: u8, high: u8) -> u16
     requires order { low ≤ high }
     requires below { high < 16 }
@@ -264,16 +281,16 @@ fn register_mask(low: u8, high: u8) -> u16
     (u16::MAX >> (15 - high)) >> low << low
 }
 
-/// Whether a list has a register.
+/// Whether a register list contains a register.
 pub fn has_register(list: u16, number: u8) -> bool
     ensures { result ≡ has_register list number }
 {
     number < 16 && (list >> number) % 2 == 1
 }
 
-/// One register, or a range of them that doesn't fall.
+/// Reads a register, or a range `a-b` with a at most b.
 #[tactic(auto, unfolding(crate::specs::Operands::item_at))]
-fn item_at(line: &[u8], from: usize) -> Result<Item, Stop>
+fn item_at(line: &[u8], from: usize) -> Result<Item, LineEnd>
     requires { from ≤ length line.now }
     ensures item { result ≡ item_at line.now from }
     ensures order { IfOk result (λ i. i.low ≤ i.high) }
@@ -291,7 +308,7 @@ fn item_at(line: &[u8], from: usize) -> Result<Item, Stop>
     };
     let high = register_at(line, minus)?;
     if high.number < low.number {
-        return Err(Stop {
+        return Err(LineEnd {
             at: high.start,
             what: SourceWhat::BadOperand,
         });
@@ -303,9 +320,9 @@ fn item_at(line: &[u8], from: usize) -> Result<Item, Stop>
     })
 }
 
-/// The rest of a register list, from an item on.
+/// Reads the rest of a register list, from one of its items on.
 #[tactic(auto, using(crate::proofs::Steps::list_step, crate::proofs::Steps::list_none))]
-fn list_from(line: &[u8], from: usize) -> Result<Listed, Stop>
+fn list_from(line: &[u8], from: usize) -> Result<ListRegisters, LineEnd>
     requires { from ≤ length line.now }
     ensures list { result ≡ list_from (length line.now) line.now 0 from }
     ensures close { IfOk result (λ l. l.close ≤ length line.now) }
@@ -320,24 +337,24 @@ fn list_from(line: &[u8], from: usize) -> Result<Listed, Stop>
         list |= register_mask(item.low, item.high);
         let token = token_at(line, item.end);
         if is_mark_of(b'}', token.kind) {
-            return Ok(Listed {
+            return Ok(ListRegisters {
                 list,
                 close: token.start,
                 end: token.end,
             });
         }
         if !is_mark_of(b',', token.kind) {
-            return Err(stopped(token));
+            return Err(end_at_token(token));
         }
         at = token.end;
         left -= 1;
     }
-    Err(stopped(token_at(line, at)))
+    Err(end_at_token(token_at(line, at)))
 }
 
-/// The register list in braces at an offset.
+/// Reads a register list in braces at an offset.
 #[tactic(auto, unfolding(crate::specs::Operands::list_at))]
-pub fn list_at(line: &[u8], from: usize) -> Result<Listed, Stop>
+pub fn list_at(line: &[u8], from: usize) -> Result<ListRegisters, LineEnd>
     requires { from ≤ length line.now }
     ensures list { result ≡ list_at line.now from }
     ensures close { IfOk result (λ l. l.close ≤ length line.now) }
@@ -347,7 +364,7 @@ pub fn list_at(line: &[u8], from: usize) -> Result<Listed, Stop>
     let open = mark_at(b'{', line, from)?;
     let token = token_at(line, open);
     if is_mark_of(b'}', token.kind) {
-        return Ok(Listed {
+        return Ok(ListRegisters {
             list: 0,
             close: token.start,
             end: token.end,

@@ -1,10 +1,10 @@
-//! The operands of the forms of statements, as patterns of pieces (docs/source-language.md, "Statements" and "Directives").
+//! The patterns of operands, each as a list of pieces (docs/rules/sources.md, "Statements" and "Directives").
 ghost use Rattle.std.specs.Prelude.{◌≡◌};
 ghost use Rattle.asm_read.specs.Patterns.{pieces_of};
 
 use crate::form::Piece;
 
-/// What stands after the word of a form. `rd`, `rn`, `rm`, `rt` and `r` stand for a register, `n` for a number.
+/// What follows the word of a form. `rd`, `rn`, `rm`, `rt` and `r` are registers, `n` is a number.
 #[derive(Clone, Copy)]
 pub enum Pattern {
     /// Nothing.
@@ -49,9 +49,9 @@ pub enum Pattern {
     OneText,
     /// `rt, =expr`
     RegisterValue,
-    /// Expressions between commas.
+    /// Comma-separated expressions.
     Values,
-    /// Expressions between commas, those of words with `name(prel31)` and the like among them.
+    /// Comma-separated expressions, `name(prel31)` and the other operators of words included.
     WordValues,
     /// `rt, [sp, #n]`
     SpOffset,

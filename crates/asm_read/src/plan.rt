@@ -1,24 +1,27 @@
-//! What a line holds: a label, a statement, or the first place at which it is refused (docs/source-language.md, "Tokens").
+//! Reads one line: its label and its statement, or the first place at which it is refused
+//! (docs/rules/sources.md, "Tokens").
 ghost use Rattle.std.specs.Prelude.{◌≡◌, ◌<◌, ◌≤◌, length, Option, None, IfOk, IfErr, IfSome, if◌then◌else◌};
 ghost use Rattle.asm_read.specs.Marks.{mark_after};
-ghost use Rattle.asm_read.specs.Plans.{is_passed, unknown, word_statement, begun_by, statement_at, is_word, plan_of, not_plain, not_plain_at, too_long, earlier, line_plan};
+ghost use Rattle.asm_read.specs.Plans.{is_passed, unknown, word_statement, statement_from_token, statement_at, is_word, plan_of, not_plain, not_plain_at, too_long, earlier_end, line_plan};
 
 use crate::choice::{Statement, form_at};
 use crate::fault::SourceWhat;
-use crate::line::{Span, Stop, name_of, stopped};
-use crate::token::{Kind, Token, mark_after, token_at};
+use crate::line::{LineEnd, Span, end_at_token, name_of};
+use crate::token::{Token, TokenKind, mark_after, token_at};
 
 /// The longest line, in bytes.
 pub const LONGEST: usize = 256;
 
-/// What a line holds: a label, a statement, both or none.
+/// The content of a line. Both parts may be missing.
 #[derive(Clone, Copy)]
-pub struct Plan {
+pub struct LineContent {
+    /// The span of the label's name, without the colon.
     pub label: Option<Span>,
+    /// The statement.
     pub statement: Option<Statement>,
 }
 
-/// Whether a directive is passed over, with the rest of its line.
+/// Whether a directive is ignored, together with the rest of its line.
 fn is_passed(word: &[u8]) -> bool
     ensures { result ≡ is_passed word.now }
 {
@@ -34,7 +37,7 @@ fn is_passed(word: &[u8]) -> bool
         || word == b".ident".as_slice()
 }
 
-/// Why a word that begins no form is refused.
+/// Why a word without forms is refused: as a directive if it begins with a dot, else as a mnemonic.
 fn unknown(word: &[u8]) -> SourceWhat
     ensures { result ≡ unknown word.now }
 {
@@ -44,9 +47,9 @@ fn unknown(word: &[u8]) -> SourceWhat
     }
 }
 
-/// The statement that a word begins. No word of a form is passed over, so few are looked for among those that are.
+/// The statement that a word begins. Forms are searched first; no ignored directive has one.
 #[tactic(auto, using(crate::proofs::Passing::with_form, crate::proofs::Passing::with_stop, crate::proofs::Passing::without_form))]
-fn word_statement(line: &[u8], token: Token) -> Result<Option<Statement>, Stop>
+fn word_statement(line: &[u8], token: Token) -> Result<Option<Statement>, LineEnd>
     requires start { token.start ≤ length line.now }
     requires end { token.end ≤ length line.now }
     ensures statement { result ≡ word_statement line.now token }
@@ -57,52 +60,52 @@ fn word_statement(line: &[u8], token: Token) -> Result<Option<Statement>, Stop>
         Ok(statement) => Ok(Some(statement)),
         Err(Some(stop)) => Err(stop),
         Err(None) if is_passed(word) => Ok(None),
-        Err(None) => Err(Stop {
+        Err(None) => Err(LineEnd {
             at: token.start,
             what: unknown(word),
         }),
     }
 }
 
-/// The statement that a token begins, if there is one.
-fn begun_by(line: &[u8], token: Token) -> Result<Option<Statement>, Stop>
+/// The statement that a token begins; None at the line's end.
+fn statement_from_token(line: &[u8], token: Token) -> Result<Option<Statement>, LineEnd>
     requires start { token.start ≤ length line.now }
     requires end { token.end ≤ length line.now }
-    ensures statement { result ≡ begun_by line.now token token.kind }
+    ensures statement { result ≡ statement_from_token line.now token token.kind }
     ensures stop { IfErr result (λ s. s.at ≤ length line.now) }
 {
     match token.kind {
-        Kind::Word => word_statement(line, token),
-        Kind::End => Ok(None),
-        _ => Err(stopped(token)),
+        TokenKind::Word => word_statement(line, token),
+        TokenKind::End => Ok(None),
+        _ => Err(end_at_token(token)),
     }
 }
 
-/// The statement at an offset, if the line goes on there.
+/// The statement at an offset; None at the line's end.
 #[tactic(auto, unfolding(crate::specs::Plans::statement_at))]
-fn statement_at(line: &[u8], from: usize) -> Result<Option<Statement>, Stop>
+fn statement_at(line: &[u8], from: usize) -> Result<Option<Statement>, LineEnd>
     requires { from ≤ length line.now }
     ensures statement { result ≡ statement_at line.now from }
     ensures stop { IfErr result (λ s. s.at ≤ length line.now) }
 {
-    begun_by(line, token_at(line, from))
+    statement_from_token(line, token_at(line, from))
 }
 
-/// The offset after the colon of a label, where a line's first token is one.
+/// The offset after a label's colon; None if the line doesn't begin with a label.
 fn label_end(line: &[u8], token: Token) -> Option<usize>
     requires { token.end ≤ length line.now }
     ensures place { result ≡ (if is_word token.kind then mark_after 58 line.now token.end else None) }
     ensures end { IfSome result (λ at. at ≤ length line.now) }
 {
     match token.kind {
-        Kind::Word => mark_after(b':', line, token.end),
+        TokenKind::Word => mark_after(b':', line, token.end),
         _ => None,
     }
 }
 
-/// What a line holds, by its tokens.
+/// Reads the label and the statement of a line.
 #[tactic(auto, unfolding(crate::specs::Plans::plan_of, crate::specs::Plans::statement_at))]
-fn plan_of(line: &[u8]) -> Result<Plan, Stop>
+fn plan_of(line: &[u8]) -> Result<LineContent, LineEnd>
     ensures plan { result ≡ plan_of line.now }
     ensures stop { IfErr result (λ s. s.at ≤ length line.now) }
 {
@@ -113,31 +116,31 @@ fn plan_of(line: &[u8]) -> Result<Plan, Stop>
             start: token.start,
             end: token.end,
         });
-        return Ok(Plan { label, statement });
+        return Ok(LineContent { label, statement });
     }
-    // the token that was read begins the statement
-    let statement = begun_by(line, token)?;
-    Ok(Plan {
+    // no label: the token that was read begins the statement
+    let statement = statement_from_token(line, token)?;
+    Ok(LineContent {
         label: None,
         statement,
     })
 }
 
-/// Whether a byte may stand in no source. Most bytes pass the first test.
+/// Whether a byte is not allowed in a source. Most bytes pass the first test.
 pub fn not_plain(b: u8) -> bool
     ensures { result ≡ not_plain b }
 {
     (b < b' ' || b > b'~') && b != b'\t' && b != b'\r'
 }
 
-/// The first byte that may stand in no source.
-fn not_plain_at(line: &[u8]) -> Option<Stop>
+/// The refusal at the first byte that is not allowed in a source; None if there is none.
+fn not_plain_at(line: &[u8]) -> Option<LineEnd>
     ensures first { result ≡ not_plain_at 0 line.now }
     ensures within { IfSome result (λ s. s.at < length line.now) }
 {
     for (at, b) in line.iter().enumerate() {
         if not_plain(*b) {
-            return Some(Stop {
+            return Some(LineEnd {
                 at,
                 what: SourceWhat::NotAscii,
             });
@@ -146,12 +149,12 @@ fn not_plain_at(line: &[u8]) -> Option<Stop>
     None
 }
 
-/// Where a line is too long.
-fn too_long(line: &[u8]) -> Option<Stop>
+/// The refusal of a line that is too long; None if it isn't.
+fn too_long(line: &[u8]) -> Option<LineEnd>
     ensures { result ≡ too_long line.now }
 {
     if line.len() > LONGEST {
-        Some(Stop {
+        Some(LineEnd {
             at: LONGEST,
             what: SourceWhat::LineTooLong,
         })
@@ -160,9 +163,9 @@ fn too_long(line: &[u8]) -> Option<Stop>
     }
 }
 
-/// The one of two stops that is earlier in the line; the first where they stand at one place.
-fn earlier(first: Option<Stop>, second: Option<Stop>) -> Option<Stop>
-    ensures { result ≡ earlier first second }
+/// The earlier of two stops; the first of them if both are at one offset.
+fn earlier_end(first: Option<LineEnd>, second: Option<LineEnd>) -> Option<LineEnd>
+    ensures { result ≡ earlier_end first second }
 {
     match (first, second) {
         (Some(a), Some(b)) if b.at < a.at => Some(b),
@@ -171,15 +174,15 @@ fn earlier(first: Option<Stop>, second: Option<Stop>) -> Option<Stop>
     }
 }
 
-/// What a line holds, or the first place at which it is refused.
+/// Reads a line. Err with the earliest refusal; at one offset, forbidden bytes come first, then the line's length.
 #[tactic(auto, unfolding(crate::specs::Plans::line_plan))]
-pub fn line_plan(line: &[u8]) -> Result<Plan, Stop>
+pub fn line_plan(line: &[u8]) -> Result<LineContent, LineEnd>
     ensures plan { result ≡ line_plan line.now }
     ensures stop { IfErr result (λ s. s.at ≤ LONGEST) }
 {
     let plan = plan_of(line);
-    let stop = earlier(not_plain_at(line), too_long(line));
-    match earlier(stop, plan.err()) {
+    let stop = earlier_end(not_plain_at(line), too_long(line));
+    match earlier_end(stop, plan.err()) {
         Some(stop) => Err(stop),
         None => plan,
     }

@@ -1,4 +1,4 @@
-//! The forms of statements as tables (docs/source-language.md, "Statements" and "Directives").
+//! The forms of all statements, as tables (docs/rules/sources.md, "Statements" and "Directives").
 ghost use Rattle.std.specs.Prelude.{◌≡◌, map};
 ghost use Rattle.asm_read.specs.Forms.{row_of, group_of, forms_in};
 
@@ -111,18 +111,20 @@ use asm_statements::computation::OfTwoRegisters::Rev;
 use asm_statements::computation::OfTwoRegistersNumber::AddSubThree;
 use asm_statements::computation::OfTwoRegistersNumber::ShiftImm;
 
-/// A form: what stands after its word, and the statement that it makes.
+/// A form of a word: its operands, and the statement that it makes.
 #[derive(Clone, Copy)]
 pub struct Form {
+    /// What follows the word.
     pub operands: Pattern,
+    /// Which kind of statement it makes.
     pub makes: Makes,
 }
 
-/// A row of a table: the word that a form begins with, and the form. The definitions name the tables below, which a
-/// struct with a reference would keep them from.
+/// A row of a table: the word that a form begins with, and the form. It is a tuple because the definitions name the
+/// tables; a struct with a reference would rule that out.
 pub type Row = (&'static [u8], Form);
 
-/// A row of a word, its operands, and what it makes.
+/// Makes a row from a word, its operands, and the statement.
 macro_rules! row {
     ($word:expr, $operands:expr, $makes:expr) => {
         (
@@ -135,7 +137,7 @@ macro_rules! row {
     };
 }
 
-/// The forms by the first byte of their word.
+/// The tables, by the first byte of the word.
 #[derive(Clone, Copy)]
 pub enum Group {
     /// Directives.
@@ -149,7 +151,7 @@ pub enum Group {
 }
 
 impl Group {
-    /// The group that has the forms of a word, if it has any.
+    /// The table to search for a word.
     pub fn of(word: &[u8]) -> Group
         ensures { result ≡ group_of word.now }
     {
@@ -162,7 +164,7 @@ impl Group {
     }
 }
 
-/// Directives.
+/// The forms of directives.
 pub static DIRECTIVES: [Row; 32] = [
     row!(b".2byte", Values, Names(Halves)),
     row!(b".4byte", WordValues, Names(Words)),
@@ -198,7 +200,7 @@ pub static DIRECTIVES: [Row; 32] = [
     row!(b".zero", Count, Directs(Space)),
 ];
 
-/// Mnemonics that begin with a or b.
+/// The forms of mnemonics that begin with a or b.
 pub static A_TO_B: [Row; 33] = [
     row!(b"adcs", TwoRegisters, OfTwoRegisters(Alu(5))),
     row!(b"add", RegisterSpNumber, Computes(AddRdSp)),
@@ -243,7 +245,7 @@ pub static A_TO_B: [Row; 33] = [
     row!(b"bx", OneRegister, Controls(Bx)),
 ];
 
-/// Mnemonics that begin with c to l.
+/// The forms of mnemonics that begin with c to l.
 pub static C_TO_L: [Row; 30] = [
     row!(b"cbnz", RegisterName, Names(Cbz(true))),
     row!(b"cbz", RegisterName, Names(Cbz(false))),
@@ -285,7 +287,7 @@ pub static C_TO_L: [Row; 30] = [
     row!(b"lsrs", TwoRegisters, OfTwoRegisters(Alu(3))),
 ];
 
-/// Mnemonics that begin with m to z.
+/// The forms of mnemonics that begin with m to z.
 pub static M_TO_Z: [Row; 46] = [
     row!(b"mov", TwoRegisters, OfTwoRegisters(Mov)),
     row!(b"movs", RegisterNumber, OfRegisterNumber(MovsImm)),
@@ -339,8 +341,7 @@ pub static M_TO_Z: [Row; 46] = [
     row!(b"yield", Nothing, Controls(Hint(1))),
 ];
 
-/// The forms of a group. Their words rise, byte by byte, so that those of one word stand together; these are tried in
-/// this order.
+/// The forms of a group, sorted by their words, byte by byte. Forms of one word are adjacent and tried in this order.
 #[tactic(auto, unfolding(crate::specs::Forms::directives, crate::specs::Forms::a_to_b, crate::specs::Forms::c_to_l, crate::specs::Forms::m_to_z))]
 pub fn forms_in(group: Group) -> &'static [Row]
     ensures { map row_of result.now ≡ forms_in group }

@@ -1,73 +1,79 @@
-//! The tokens of a line (docs/source-language.md, "Tokens").
+//! Splits a line into tokens (docs/rules/sources.md, "Tokens").
 ghost use Rattle.std.specs.Prelude.{◌≡◌, ◌+◌, ◌-◌, ◌<◌, ◌≤◌, length, take, drop, IfSome, option_and_then, false};
 ghost use Rattle.std.specs.List.{prefix_len};
 ghost use Rattle.asm_read.specs.Tokens.{is_blank, is_digit, is_name_byte, is_mark, escape_of, hex_digit, decimal_digit, kind_of_number, number_of, character_front, run_front, minus_front, quoted_front, closing, front_of, token_at};
 ghost use Rattle.asm_read.specs.Operands.{is_mark_of};
 ghost use Rattle.asm_read.specs.Marks.{is_lone_mark, begins_with, mark_after};
-ghost use Rattle.asm_read.specs.Capped.{capped_from, capped_number};
+ghost use Rattle.asm_read.specs.Capped.{capped_number_from, capped_number};
 ghost use Rattle.asm_read.specs.declared.token.TheConstants.{NAME_BYTES};
 
-/// What stands at a place of a line.
+/// The kind of a token.
 #[derive(Clone, Copy)]
-pub enum Kind {
-    /// A name: letters, digits, `_`, `.` and `$`, without a digit at its front.
+pub enum TokenKind {
+    /// A name: letters, digits, `_`, `.` and `$`, not beginning with a digit.
     Word,
-    /// A number within 32 bits, signed or unsigned, or a character.
+    /// A number that fits 32 bits, signed or unsigned, or a character.
     Number(i64),
-    /// A number outside them.
+    /// A number that doesn't fit 32 bits.
     Wide,
     /// A text in double quotes.
     Quoted,
     /// One of `# , [ ] { } ! : = + - ( ) %`.
     Mark(u8),
-    /// The line's end.
+    /// The end of the line.
     End,
     /// Bytes that are no token.
     Bad,
 }
 
-/// What stands at the front of bytes, and how many bytes it has.
+/// The token that some bytes begin with.
 #[derive(Clone, Copy)]
 pub struct Front {
-    pub kind: Kind,
+    /// The kind of the token.
+    pub kind: TokenKind,
+    /// Its length in bytes.
     pub len: usize,
 }
 
-/// A token of a line, from one offset to another.
+/// A token of a line.
 #[derive(Clone, Copy)]
 pub struct Token {
+    /// The offset in the line, in bytes, of its first byte.
     pub start: usize,
+    /// The offset in the line, in bytes, after its last byte.
     pub end: usize,
-    pub kind: Kind,
+    /// Its kind.
+    pub kind: TokenKind,
 }
 
 const NO_TOKEN: Front = Front {
-    kind: Kind::Bad,
+    kind: TokenKind::Bad,
     len: 0,
 };
 
-/// A minus sign before what is no number.
+/// A minus sign that doesn't begin a number.
 const MINUS_ALONE: Front = Front {
-    kind: Kind::Mark(b'-'),
+    kind: TokenKind::Mark(b'-'),
     len: 1,
 };
 
-/// The greatest number that digits are counted to: any from here on is as far outside 32 bits.
+/// Where counting of digits stops: any number from here on is outside 32 bits, with or without a sign.
 pub const MANY: u64 = 0x2_0000_0000;
 
-/// The greatest number of a source.
+/// The greatest number that a source may have.
 pub const GREATEST: u64 = 0xffff_ffff;
 
-/// How far below 0 the numbers of a source go.
+/// The absolute value of the least number that a source may have.
 pub const FARTHEST_BELOW: u64 = 0x8000_0000;
 
+/// Whether a byte is a decimal digit.
 fn is_digit(b: u8) -> bool
     ensures { result ≡ is_digit b }
 {
     b >= b'0' && b <= b'9'
 }
 
-/// Whether a name may have a byte, byte by byte.
+/// For each byte, whether a name may contain it.
 static NAME_BYTES: [bool; 256] = [
     false, false, false, false, false, false, false, false, false, false, false, false, false,
     false, false, false, false, false, false, false, false, false, false, false, false, false,
@@ -90,7 +96,7 @@ static NAME_BYTES: [bool; 256] = [
     false, false, false, false, false, false, false, false, false, false,
 ];
 
-/// What the table says of all bytes.
+/// The table as a slice.
 fn name_bytes() -> &'static [bool]
     ensures bytes { result.now ≡ NAME_BYTES }
     ensures len { length result.now ≡ 256 }
@@ -98,7 +104,7 @@ fn name_bytes() -> &'static [bool]
     &NAME_BYTES
 }
 
-/// Whether a name may have a byte.
+/// Whether a name may contain a byte.
 #[tactic(auto, using(crate::proofs::Bytes::name_byte))]
 fn is_name_byte(b: u8) -> bool
     ensures { result ≡ is_name_byte b }
@@ -106,6 +112,7 @@ fn is_name_byte(b: u8) -> bool
     name_bytes()[usize::from(b)]
 }
 
+/// Whether a byte is a mark.
 fn is_mark(b: u8) -> bool
     ensures { result ≡ is_mark b }
 {
@@ -127,14 +134,14 @@ fn is_mark(b: u8) -> bool
     )
 }
 
-/// Whether a byte is a mark wherever a token begins with it: a minus sign may begin a number.
+/// Whether a token that begins with this byte is always a mark. A minus sign isn't: it may begin a number.
 fn is_lone_mark(b: u8) -> bool
     ensures { result ≡ is_lone_mark b }
 {
     b != b'-' && is_mark(b)
 }
 
-/// What stands after a backslash in a text or a character.
+/// The byte that an escape stands for, given the byte after the backslash. None if there is no such escape.
 pub fn escape(b: u8) -> Option<u8>
     ensures { result ≡ escape_of b }
 {
@@ -148,6 +155,7 @@ pub fn escape(b: u8) -> Option<u8>
     }
 }
 
+/// The value of a hexadecimal digit, or None.
 fn hex_digit(b: u8) -> Option<u8>
     ensures value { result ≡ hex_digit b }
     ensures small { IfSome result (λ d. d < 16) }
@@ -160,6 +168,7 @@ fn hex_digit(b: u8) -> Option<u8>
     }
 }
 
+/// The value of a decimal digit, or None.
 fn decimal_digit(b: u8) -> Option<u8>
     ensures value { result ≡ decimal_digit b }
     ensures small { IfSome result (λ d. d < 10) }
@@ -170,9 +179,9 @@ fn decimal_digit(b: u8) -> Option<u8>
     }
 }
 
-/// The number of decimal digits, counted to `MANY`.
+/// The number of decimal digits, capped at `MANY`. None if a byte is no digit.
 fn decimal(digits: &[u8]) -> Option<u64>
-    ensures { result ≡ capped_from decimal_digit 10 0 digits.now }
+    ensures { result ≡ capped_number_from decimal_digit 10 0 digits.now }
 {
     let mut n: u64 = 0;
     for b in digits {
@@ -182,9 +191,9 @@ fn decimal(digits: &[u8]) -> Option<u64>
     Some(n)
 }
 
-/// The number of hexadecimal digits, counted to `MANY`.
+/// The number of hexadecimal digits, capped at `MANY`. None if a byte is no digit.
 fn hexadecimal(digits: &[u8]) -> Option<u64>
-    ensures { result ≡ capped_from hex_digit 16 0 digits.now }
+    ensures { result ≡ capped_number_from hex_digit 16 0 digits.now }
 {
     let mut n: u64 = 0;
     for b in digits {
@@ -194,7 +203,7 @@ fn hexadecimal(digits: &[u8]) -> Option<u64>
     Some(n)
 }
 
-/// The number that a run of name bytes is, counted to `MANY`.
+/// The number that a run of name bytes spells, capped at `MANY`. None if it spells none.
 fn number(run: &[u8]) -> Option<u64>
     ensures { result ≡ capped_number run.now }
 {
@@ -205,29 +214,30 @@ fn number(run: &[u8]) -> Option<u64>
     }
 }
 
-fn kind_of(negative: bool, number: Option<u64>) -> Kind
+/// The token kind of a number: `Number` if it fits, `Wide` if it doesn't, `Bad` if there is none.
+fn kind_of(negative: bool, number: Option<u64>) -> TokenKind
     ensures { result ≡ kind_of_number negative number }
 {
     match number {
-        None => Kind::Bad,
+        None => TokenKind::Bad,
         Some(n) if negative => {
             if n <= FARTHEST_BELOW {
-                Kind::Number(0 - n as i64)
+                TokenKind::Number(0 - n as i64)
             } else {
-                Kind::Wide
+                TokenKind::Wide
             }
         }
         Some(n) => {
             if n <= GREATEST {
-                Kind::Number(n as i64)
+                TokenKind::Number(n as i64)
             } else {
-                Kind::Wide
+                TokenKind::Wide
             }
         }
     }
 }
 
-/// How many of the bytes at the front a name may have.
+/// How many of the first bytes may be in a name.
 fn name_len(bytes: &[u8]) -> usize
     ensures len { result ≡ prefix_len is_name_byte bytes.now }
     ensures within { result ≤ length bytes.now }
@@ -240,7 +250,7 @@ fn name_len(bytes: &[u8]) -> usize
     bytes.len()
 }
 
-/// How many of the bytes at the front are blanks.
+/// How many of the first bytes are blanks.
 fn blank_len(bytes: &[u8]) -> usize
     ensures len { result ≡ prefix_len is_blank bytes.now }
     ensures within { result ≤ length bytes.now }
@@ -253,7 +263,7 @@ fn blank_len(bytes: &[u8]) -> usize
     bytes.len()
 }
 
-/// How many bytes a text has up to and with the quote that closes it.
+/// The length in bytes of a text up to its closing quote, that quote included. None if it isn't closed.
 fn text_len(bytes: &[u8]) -> Option<usize>
     ensures len { result ≡ closing false bytes.now }
     ensures within { IfSome result (λ n. n ≤ length bytes.now) }
@@ -274,7 +284,7 @@ fn text_len(bytes: &[u8]) -> Option<usize>
     None
 }
 
-/// The character at the front of bytes that begin with a single quote.
+/// The character token of bytes that begin with a single quote.
 fn character(bytes: &[u8], negative: bool) -> Front
     ensures front { result ≡ character_front negative bytes.now }
     ensures within { result.len ≤ length bytes.now }
@@ -293,7 +303,7 @@ fn character(bytes: &[u8], negative: bool) -> Front
     }
 }
 
-/// The text whose first quote stands before these bytes.
+/// The text token, given the bytes after its opening quote.
 fn text(bytes: &[u8]) -> Front
     ensures front { result ≡ quoted_front (closing false bytes.now) }
     ensures within { result.len ≤ length bytes.now + 1 }
@@ -301,13 +311,13 @@ fn text(bytes: &[u8]) -> Front
     match text_len(bytes) {
         None => NO_TOKEN,
         Some(n) => Front {
-            kind: Kind::Quoted,
+            kind: TokenKind::Quoted,
             len: n + 1,
         },
     }
 }
 
-/// The run of name bytes at the front of bytes that begin with a digit.
+/// The number token of bytes that begin with a digit.
 #[tactic(auto, using(crate::proofs::Capping::same_kind))]
 fn run(bytes: &[u8], negative: bool) -> Front
     ensures front { result ≡ run_front negative bytes.now }
@@ -320,7 +330,7 @@ fn run(bytes: &[u8], negative: bool) -> Front
     }
 }
 
-/// The token of a minus sign and the bytes after it: a number with that sign, or the sign alone.
+/// The token of a minus sign, given the bytes after it: a negative number, or the mark alone.
 fn minus(bytes: &[u8]) -> Front
     ensures front { result ≡ minus_front bytes.now }
     ensures within { result.len ≤ length bytes.now + 1 }
@@ -331,7 +341,7 @@ fn minus(bytes: &[u8]) -> Front
         _ => NO_TOKEN,
     };
     match number.kind {
-        Kind::Bad => MINUS_ALONE,
+        TokenKind::Bad => MINUS_ALONE,
         kind => Front {
             kind,
             len: number.len + 1,
@@ -339,7 +349,7 @@ fn minus(bytes: &[u8]) -> Front
     }
 }
 
-/// The token at the front of bytes that begin with no blank.
+/// The first token of bytes that don't begin with a blank.
 #[tactic(auto, unfolding(crate::specs::Tokens::front_of))]
 pub fn front_at(bytes: &[u8]) -> Front
     ensures front { result ≡ front_of bytes.now }
@@ -347,13 +357,13 @@ pub fn front_at(bytes: &[u8]) -> Front
 {
     let [first, rest @ ..] = bytes else {
         return Front {
-            kind: Kind::End,
+            kind: TokenKind::End,
             len: 0,
         };
     };
     match *first {
         b'@' => Front {
-            kind: Kind::End,
+            kind: TokenKind::End,
             len: 0,
         },
         b'"' => text(rest),
@@ -361,18 +371,18 @@ pub fn front_at(bytes: &[u8]) -> Front
         b'-' => minus(rest),
         b'0'..=b'9' => run(bytes, false),
         b if is_name_byte(b) => Front {
-            kind: Kind::Word,
+            kind: TokenKind::Word,
             len: name_len(bytes),
         },
         b if is_mark(b) => Front {
-            kind: Kind::Mark(b),
+            kind: TokenKind::Mark(b),
             len: 1,
         },
         _ => NO_TOKEN,
     }
 }
 
-/// The token at an offset of a line, which blanks may lead to. The line's end stands after the last token.
+/// The token at an offset of a line, blanks skipped. The end of the line is placed right after the last token.
 #[tactic(auto, unfolding(crate::specs::Tokens::token_at))]
 pub fn token_at(line: &[u8], from: usize) -> Token
     requires { from ≤ length line.now }
@@ -383,10 +393,10 @@ pub fn token_at(line: &[u8], from: usize) -> Token
     let start = from + blank_len(&line[from..]);
     let found = front_at(&line[start..]);
     match found.kind {
-        Kind::End => Token {
+        TokenKind::End => Token {
             start: from,
             end: from,
-            kind: Kind::End,
+            kind: TokenKind::End,
         },
         kind => Token {
             start,
@@ -397,11 +407,11 @@ pub fn token_at(line: &[u8], from: usize) -> Token
 }
 
 /// Whether a token is this mark.
-pub fn is_mark_of(mark: u8, kind: Kind) -> bool
+pub fn is_mark_of(mark: u8, kind: TokenKind) -> bool
     ensures { result ≡ is_mark_of mark kind }
 {
     match kind {
-        Kind::Mark(b) => mark == b,
+        TokenKind::Mark(b) => mark == b,
         _ => false,
     }
 }
@@ -413,7 +423,7 @@ fn begins_with(byte: u8, bytes: &[u8]) -> bool
     !bytes.is_empty() && bytes[0] == byte
 }
 
-/// The offset after a mark, where it stands at an offset. It is told by its first byte, but for a minus sign.
+/// The offset after a mark, or None if another token is there. The first byte decides, except for a minus sign.
 pub fn mark_after(mark: u8, line: &[u8], from: usize) -> Option<usize>
     requires { from ≤ length line.now }
     ensures place { result ≡ mark_after mark line.now from }

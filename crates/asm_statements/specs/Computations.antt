@@ -1,4 +1,4 @@
--- The computations of a source: of each its instruction with how many bytes that has, and its word (docs/source-language.md; Armv6-M
+-- The computations of a source: the instruction of each, with its size and its word (docs/rules/sources.md; Armv6-M
 -- Architecture Reference Manual, DDI 0419, and Armv8-M, DDI 0553).
 use Rattle.std.specs.Prelude.{ℕ, ◌^◌, ◌==◌, ◌&&◌, ℤ, pos, negsuc, Bool, false, nat_lt, if◌then◌else◌, List, [], ◌∷◌, slice_index_or, codes}
 use Rattle.asm_statements.specs.declared.computation.OfTwoRegisters.{OfTwoRegisters}
@@ -13,31 +13,32 @@ use Rattle.thumb_isa.specs.declared.instr.Instr.{Instr}
 use Rattle.thumb_isa.specs.declared.instr.Instr.TheVariants.{ShiftImm, AddSubReg, AddSubImm3, Imm8, Alu, AddHigh, CmpHigh, MovHigh, Extend, Rev, MovW, MovT, Div}
 use Rattle.asm_statements.specs.declared.computation.SizedInstr.{SizedInstr}
 
--- a number as a field without sign takes it; one too large for every field where it isn't one of 32 bits
-abbrev pub unsigned : ℤ → ℕ
-unsigned (pos n) = if nat_lt n (2 ^ 32) then n else 0xffffffff
-unsigned (negsuc n) = 0xffffffff
+-- a number as an unsigned field; one that doesn't fit 32 bits becomes one too large for every field
+abbrev pub unsigned_field : ℤ → ℕ
+unsigned_field (pos n) = if nat_lt n (2 ^ 32) then n else 0xffffffff
+unsigned_field (negsuc n) = 0xffffffff
 
--- a number as an offset's field takes it; one too large for every field where it isn't one of 32 bits
+-- a number as an offset field; one that doesn't fit 32 bits becomes one too large for every field
 abbrev pub offset : ℤ → ℤ
 offset (pos n) = if nat_lt n (2 ^ 31) then pos n else pos 0x7fffffff
 offset (negsuc n) = if nat_lt n (2 ^ 31) then negsuc n else pos 0x7fffffff
 
--- `cmp` of two registers: the form of low registers where both are
+-- `cmp` of two registers: the form for low registers if both are low
 abbrev pub compare : ℕ → ℕ → Instr
 compare n m = if nat_lt n 8 && nat_lt m 8 then Alu 10 n m else CmpHigh n m
 
 -- `adds` and `subs` with eight bits
 abbrev pub add_eight : Bool → ℕ → ℤ → Instr
-add_eight sub d imm = Imm8 (if sub then 3 else 2) d (unsigned imm)
+add_eight sub d imm = Imm8 (if sub then 3 else 2) d (unsigned_field imm)
 
 abbrev pub is_above_seven : ℤ → Bool
 is_above_seven (pos n) = nat_lt 7 n
 is_above_seven (negsuc n) = false
 
--- `adds` and `subs` of three operands: with three bits up to 7, and above with eight where both registers are one
+-- `adds` and `subs` of three operands: with a 3-bit immediate up to 7; above, with 8 bits if both registers are the
+-- same
 abbrev pub add_three : Bool → ℕ → ℕ → ℤ → Instr
-add_three sub d n imm = if is_above_seven imm && (d == n) then add_eight sub d imm else AddSubImm3 sub d n (unsigned imm)
+add_three sub d n imm = if is_above_seven imm && (d == n) then add_eight sub d imm else AddSubImm3 sub d n (unsigned_field imm)
 
 -- an instruction of one halfword
 abbrev pub half : Instr → SizedInstr
@@ -64,16 +65,16 @@ of_three_registers (three.Div signed) d n m = wide (Div signed d n m)
 
 -- rd, #imm
 abbrev pub of_register_number : OfRegisterNumber → ℕ → ℤ → SizedInstr
-of_register_number number.MovsImm d imm = half (Imm8 0 d (unsigned imm))
-of_register_number number.CmpImm n imm = half (Imm8 1 n (unsigned imm))
+of_register_number number.MovsImm d imm = half (Imm8 0 d (unsigned_field imm))
+of_register_number number.CmpImm n imm = half (Imm8 1 n (unsigned_field imm))
 of_register_number (number.AddSubTwo sub) d imm = half (add_eight sub d imm)
-of_register_number number.MovW d imm = wide (MovW d (unsigned imm))
-of_register_number number.MovT d imm = wide (MovT d (unsigned imm))
+of_register_number number.MovW d imm = wide (MovW d (unsigned_field imm))
+of_register_number number.MovT d imm = wide (MovT d (unsigned_field imm))
 
 -- rd, rn, #imm
 abbrev pub of_two_registers_number : OfTwoRegistersNumber → ℕ → ℕ → ℤ → SizedInstr
 of_two_registers_number (two_number.AddSubThree sub) d n imm = half (add_three sub d n imm)
-of_two_registers_number (two_number.ShiftImm op) d m imm = half (ShiftImm op d m (unsigned imm))
+of_two_registers_number (two_number.ShiftImm op) d m imm = half (ShiftImm op d m (unsigned_field imm))
 
 -- ---- their words
 
@@ -81,7 +82,7 @@ of_two_registers_number (two_number.ShiftImm op) d m imm = half (ShiftImm op d m
 abbrev pub word_of : List (List ℕ) → ℕ → List ℕ
 word_of words n = slice_index_or words n []
 
--- by the two-operand field of data processing; those of no mnemonic have none here
+-- by the opcode field of data processing; operations without a mnemonic in sources have none here
 abbrev pub alu_words : List (List ℕ)
 alu_words = codes "ands" ∷ codes "eors" ∷ codes "lsls" ∷ codes "lsrs" ∷ codes "asrs" ∷ codes "adcs" ∷ codes "sbcs" ∷ codes "rors" ∷ codes "tst" ∷ [] ∷ [] ∷ codes "cmn" ∷ codes "orrs" ∷ codes "muls" ∷ codes "bics" ∷ codes "mvns" ∷ []
 
@@ -97,7 +98,7 @@ shift_words = codes "lsls" ∷ codes "lsrs" ∷ codes "asrs" ∷ []
 abbrev pub sum_word : Bool → List ℕ
 sum_word sub = if sub then codes "subs" else codes "adds"
 
--- the word of what is computed of rd, rm; none where a field has no mnemonic
+-- the word of a computation of rd, rm; None if a field has no mnemonic
 abbrev pub two_word : OfTwoRegisters → List ℕ
 two_word two.MovsReg = codes "movs"
 two_word two.Mov = codes "mov"

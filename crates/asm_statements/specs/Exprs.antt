@@ -1,20 +1,20 @@
--- The expressions of a list, however they are kept.
+-- The expressions of a list, however they are stored.
 use Rattle.std.specs.Prelude.{ℤ, List, map}
 use Rattle.asm_statements.specs.declared.statement.Expr.{Expr}
 use Rattle.asm_statements.specs.declared.statement.Expr.TheVariants.{Num}
-use Rattle.asm_statements.specs.declared.exprs.Held.{Held}
-use Rattle.asm_statements.specs.declared.exprs.Held.TheVariants as held
-use Rattle.asm_statements.specs.declared.exprs.Lent.{Lent}
-use Rattle.asm_statements.specs.declared.exprs.Lent.TheVariants as lent
+use Rattle.asm_statements.specs.declared.exprs.ExprStorage.{ExprStorage}
+use Rattle.asm_statements.specs.declared.exprs.ExprStorage.TheVariants as held
+use Rattle.asm_statements.specs.declared.exprs.ExprsRef.{ExprsRef}
+use Rattle.asm_statements.specs.declared.exprs.ExprsRef.TheVariants as lent
 
 -- numbers as expressions
-abbrev pub plain : List ℤ → List Expr
-plain numbers = map (λ n. Num n) numbers
+abbrev pub number_exprs : List ℤ → List Expr
+number_exprs numbers = map (λ n. Num n) numbers
 
-abbrev pub held_list : Held → List Expr
-held_list (held.Numbers numbers) = plain numbers.items
-held_list (held.Mixed exprs) = exprs.items
+abbrev pub storage_exprs : ExprStorage → List Expr
+storage_exprs (held.Numbers numbers) = number_exprs numbers.items
+storage_exprs (held.Mixed exprs) = exprs.items
 
-abbrev pub lent_list : Lent → List Expr
-lent_list (lent.Numbers numbers) = plain numbers.now
-lent_list (lent.Mixed exprs) = exprs.now
+abbrev pub lent_exprs : ExprsRef → List Expr
+lent_exprs (lent.Numbers numbers) = number_exprs numbers.now
+lent_exprs (lent.Mixed exprs) = exprs.now

@@ -1,11 +1,11 @@
-//! What instructions compute, by the operands that stand in their text: an enum and a table for each kind of operands
-//! (docs/source-language.md; Armv6-M Architecture Reference Manual, DDI 0419, and Armv8-M, DDI 0553).
+//! The computations of instructions, by the operands in their text: an enum and a table for each kind of operands
+//! (docs/rules/sources.md; Armv6-M Architecture Reference Manual, DDI 0419, and Armv8-M, DDI 0553).
 ghost use Rattle.std.specs.Prelude.{◌≡◌};
-ghost use Rattle.asm_statements.specs.Computations.{unsigned, offset, half, wide, compare, add_eight, add_three, of_two_registers, of_three_registers, of_register_number, of_two_registers_number};
+ghost use Rattle.asm_statements.specs.Computations.{unsigned_field, offset, half, wide, compare, add_eight, add_three, of_two_registers, of_three_registers, of_register_number, of_two_registers_number};
 
 use thumb_isa::instr::Instr;
 
-/// What is computed of `rd, rm`.
+/// Computations of `rd, rm`.
 #[derive(Clone, Copy)]
 pub enum OfTwoRegisters {
     /// `movs`
@@ -25,23 +25,23 @@ pub enum OfTwoRegisters {
     Rev(u8),
 }
 
-/// What is computed of `rd, rn, rm`.
+/// Computations of `rd, rn, rm`.
 #[derive(Clone, Copy)]
 pub enum OfThreeRegisters {
-    /// `adds`, and `subs` where true
+    /// `adds`, or `subs` if true
     AddSubReg(bool),
-    /// `sdiv` where true, else `udiv`
+    /// `sdiv` if true, else `udiv`
     Div(bool),
 }
 
-/// What is computed of `rd, #imm`.
+/// Computations of `rd, #imm`.
 #[derive(Clone, Copy)]
 pub enum OfRegisterNumber {
     /// `movs`
     MovsImm,
     /// `cmp`; the register is rn
     CmpImm,
-    /// `adds`, and `subs` where true
+    /// `adds`, or `subs` if true
     AddSubTwo(bool),
     /// `movw`
     MovW,
@@ -49,51 +49,53 @@ pub enum OfRegisterNumber {
     MovT,
 }
 
-/// What is computed of `rd, rn, #imm`.
+/// Computations of `rd, rn, #imm`.
 #[derive(Clone, Copy)]
 pub enum OfTwoRegistersNumber {
-    /// `adds`, and `subs` where true
+    /// `adds`, or `subs` if true
     AddSubThree(bool),
-    /// `lsls` (0), `lsrs` (1), `asrs` (2); the second register is rm, the number the amount
+    /// `lsls` (0), `lsrs` (1), `asrs` (2); the second register is rm, the number is the shift
     ShiftImm(u8),
 }
 
-/// An instruction, and how many bytes its code has.
+/// An instruction with its size.
 #[derive(Clone, Copy)]
 pub struct SizedInstr {
+    /// The size of its code in bytes, 2 or 4.
     pub bytes: u64,
+    /// The instruction.
     pub instr: Instr,
 }
 
-/// An instruction of one halfword.
+/// A 16-bit instruction.
 fn half(instr: Instr) -> SizedInstr
     ensures { result ≡ half instr }
 {
     SizedInstr { bytes: 2, instr }
 }
 
-/// An instruction of two halfwords.
+/// A 32-bit instruction.
 fn wide(instr: Instr) -> SizedInstr
     ensures { result ≡ wide instr }
 {
     SizedInstr { bytes: 4, instr }
 }
 
-/// A number as a field without sign takes it; one too large for every field where it is none of 32 bits.
-pub fn unsigned(n: i64) -> u32
-    ensures { result ≡ unsigned n }
+/// A number as an unsigned field. A number that doesn't fit 32 bits becomes one too large for every field.
+pub fn unsigned_field(n: i64) -> u32
+    ensures { result ≡ unsigned_field n }
 {
     u32::try_from(n).unwrap_or(u32::MAX)
 }
 
-/// A number as an offset's field takes it; one too large for every field where it is none of 32 bits.
+/// A number as an offset field. A number that doesn't fit 32 bits becomes one too large for every field.
 pub fn offset(n: i64) -> i32
     ensures { result ≡ offset n }
 {
     i32::try_from(n).unwrap_or(i32::MAX)
 }
 
-/// `cmp` of two registers: the form of low registers where both are.
+/// The `cmp` of two registers: the form for low registers if both are low.
 fn compare(n: u8, m: u8) -> Instr
     ensures { result ≡ compare n m }
 {
@@ -104,18 +106,19 @@ fn compare(n: u8, m: u8) -> Instr
     }
 }
 
-/// `adds` and `subs` with eight bits.
+/// `adds` or `subs` with an 8-bit immediate.
 fn add_eight(sub: bool, d: u8, imm: i64) -> Instr
     ensures { result ≡ add_eight sub d imm }
 {
     Instr::Imm8 {
         op: if sub { 3 } else { 2 },
         d,
-        imm: unsigned(imm),
+        imm: unsigned_field(imm),
     }
 }
 
-/// `adds` and `subs` of three operands: with three bits up to 7, and with eight where both registers are one.
+/// `adds` or `subs` of three operands: with a 3-bit immediate up to 7; above, with 8 bits if both registers are the
+/// same.
 fn add_three(sub: bool, d: u8, n: u8, imm: i64) -> Instr
     ensures { result ≡ add_three sub d n imm }
 {
@@ -126,12 +129,12 @@ fn add_three(sub: bool, d: u8, n: u8, imm: i64) -> Instr
             sub,
             d,
             n,
-            imm: unsigned(imm),
+            imm: unsigned_field(imm),
         }
     }
 }
 
-/// The instruction of what is computed of `rd, rm`.
+/// The instruction of a computation of `rd, rm`.
 pub fn of_two_registers(what: OfTwoRegisters, d: u8, m: u8) -> SizedInstr
     ensures { result ≡ of_two_registers what d m }
 {
@@ -146,7 +149,7 @@ pub fn of_two_registers(what: OfTwoRegisters, d: u8, m: u8) -> SizedInstr
     }
 }
 
-/// .. of `rd, rn, rm`.
+/// The instruction of a computation of `rd, rn, rm`.
 pub fn of_three_registers(what: OfThreeRegisters, d: u8, n: u8, m: u8) -> SizedInstr
     ensures { result ≡ of_three_registers what d n m }
 {
@@ -156,11 +159,11 @@ pub fn of_three_registers(what: OfThreeRegisters, d: u8, n: u8, m: u8) -> SizedI
     }
 }
 
-/// .. of `rd, #imm`.
+/// The instruction of a computation of `rd, #imm`.
 pub fn of_register_number(what: OfRegisterNumber, d: u8, n: i64) -> SizedInstr
     ensures { result ≡ of_register_number what d n }
 {
-    let imm = unsigned(n);
+    let imm = unsigned_field(n);
     match what {
         OfRegisterNumber::MovsImm => half(Instr::Imm8 { op: 0, d, imm }),
         OfRegisterNumber::CmpImm => half(Instr::Imm8 { op: 1, d, imm }),
@@ -170,7 +173,7 @@ pub fn of_register_number(what: OfRegisterNumber, d: u8, n: i64) -> SizedInstr
     }
 }
 
-/// .. of `rd, rn, #imm`.
+/// The instruction of a computation of `rd, rn, #imm`.
 pub fn of_two_registers_number(what: OfTwoRegistersNumber, d: u8, n: u8, imm: i64) -> SizedInstr
     ensures { result ≡ of_two_registers_number what d n imm }
 {
@@ -180,7 +183,7 @@ pub fn of_two_registers_number(what: OfTwoRegistersNumber, d: u8, n: u8, imm: i6
             op,
             d,
             m: n,
-            n: unsigned(imm),
+            n: unsigned_field(imm),
         }),
     }
 }

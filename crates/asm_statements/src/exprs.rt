@@ -1,24 +1,25 @@
-//! The expressions of a list. Most long lists are numbers alone, and these take eight bytes each.
+//! Lists of expressions. Most long lists hold only numbers; these take eight bytes each.
 ghost use Rattle.std.specs.Prelude.{◌≡◌, ◌==◌, ◌++◌, ◌∷◌, [], length, IfOk, OnOk};
 ghost use Rattle.asm_statements.specs.declared.statement.Expr.TheVariants.{Num};
-ghost use Rattle.asm_statements.specs.Exprs.{plain, lent_list};
+ghost use Rattle.asm_statements.specs.Exprs.{number_exprs, lent_exprs};
 
 use crate::statement::Expr;
 use std::alloc::{AllocError, Global};
 use std::marker::Model;
 
-/// How a list is kept.
+/// How a list is stored.
 #[derive(Drop)]
-enum Held {
-    /// Numbers alone, or nothing.
+enum ExprStorage {
+    /// Only numbers, or nothing.
     Numbers(Vec<i64>),
+    /// Any expressions.
     Mixed(Vec<Expr>),
 }
 
-/// Expressions, which contracts see as their list.
+/// A list of expressions. Contracts see a list.
 #[derive(Drop)]
 pub struct Exprs {
-    held: Held,
+    held: ExprStorage,
 }
 
 impl Model for Exprs {
@@ -27,20 +28,21 @@ impl Model for Exprs {
 
     ghost Value = { List Expr };
 
-    ghost use Rattle.asm_statements.specs.Exprs.{held_list};
+    ghost use Rattle.asm_statements.specs.Exprs.{storage_exprs};
 
-    ghost view = { λ e. held_list e.held };
+    ghost view = { λ e. storage_exprs e.held };
 }
 
-/// Expressions as they are lent.
+/// A borrowed list of expressions.
 #[derive(Clone, Copy)]
-pub enum Lent<'a> {
-    /// Numbers alone, or nothing.
+pub enum ExprsRef<'a> {
+    /// Only numbers, or nothing.
     Numbers(&'a [i64]),
+    /// Any expressions.
     Mixed(&'a [Expr]),
 }
 
-/// Adds a number. The first takes room for as many as may come.
+/// Appends a number. The first one reserves room for `most`.
 fn add_number(numbers: &mut Vec<i64>, most: usize, n: i64) -> Result<(), AllocError>
     ensures { OnOk result (numbers.new.items ≡ numbers.old.items ++ n ∷ []) }
 {
@@ -51,7 +53,7 @@ fn add_number(numbers: &mut Vec<i64>, most: usize, n: i64) -> Result<(), AllocEr
     Ok(())
 }
 
-/// Adds an expression.
+/// Appends an expression.
 fn add(exprs: &mut Vec<Expr>, expr: Expr) -> Result<(), AllocError>
     ensures { OnOk result (exprs.new.items ≡ exprs.old.items ++ expr ∷ []) }
 {
@@ -59,9 +61,9 @@ fn add(exprs: &mut Vec<Expr>, expr: Expr) -> Result<(), AllocError>
     Ok(())
 }
 
-/// Numbers as expressions, with room for as many as may come.
-fn mixed(alloc: Global, most: usize, numbers: &[i64]) -> Result<Vec<Expr>, AllocError>
-    ensures { IfOk result (λ exprs. exprs.items ≡ plain numbers.now) }
+/// Numbers as expressions, with room for `most`.
+fn exprs_of_numbers(alloc: Global, most: usize, numbers: &[i64]) -> Result<Vec<Expr>, AllocError>
+    ensures { IfOk result (λ exprs. exprs.items ≡ number_exprs numbers.now) }
 {
     let mut exprs = Vec::with_capacity(alloc, most)?;
     for n in numbers {
@@ -71,75 +73,75 @@ fn mixed(alloc: Global, most: usize, numbers: &[i64]) -> Result<Vec<Expr>, Alloc
 }
 
 impl Exprs {
-    /// No expressions. This takes no memory.
+    /// An empty list, without allocation.
     pub fn new(alloc: Global) -> Exprs
         ensures { result ≡ [] }
     {
         Exprs {
-            held: Held::Numbers(Vec::new(alloc)),
+            held: ExprStorage::Numbers(Vec::new(alloc)),
         }
     }
 
-    /// The expressions in order.
-    pub fn lent(&self) -> Lent<'_>
-        ensures { lent_list result ≡ self.now }
+    /// Borrows the expressions, in order.
+    pub fn as_exprs_ref(&self) -> ExprsRef<'_>
+        ensures { lent_exprs result ≡ self.now }
     {
         match &self.held {
-            Held::Numbers(numbers) => Lent::Numbers(numbers.as_slice()),
-            Held::Mixed(exprs) => Lent::Mixed(exprs.as_slice()),
+            ExprStorage::Numbers(numbers) => ExprsRef::Numbers(numbers.as_slice()),
+            ExprStorage::Mixed(exprs) => ExprsRef::Mixed(exprs.as_slice()),
         }
     }
 
-    /// How many expressions there are.
+    /// The number of expressions.
     pub fn len(&self) -> usize
         ensures { result ≡ length self.now }
     {
         match &self.held {
-            Held::Numbers(numbers) => numbers.len(),
-            Held::Mixed(exprs) => exprs.len(),
+            ExprStorage::Numbers(numbers) => numbers.len(),
+            ExprStorage::Mixed(exprs) => exprs.len(),
         }
     }
 
-    /// Whether there is no expression.
+    /// Whether the list is empty.
     pub fn is_empty(&self) -> bool
         ensures { result ≡ (length self.now == 0) }
     {
         self.len() == 0
     }
 
-    /// Adds a number at the end. The first expression takes room for as many as may come.
+    /// Appends a number. The first expression reserves room for `most`. Err if memory runs out.
     #[tactic(auto, using(crate::proofs::Lists::number_after_numbers))]
     pub fn push_number(&mut self, most: usize, n: i64) -> Result<(), AllocError>
         ensures { OnOk result (self.new ≡ self.old ++ Num n ∷ []) }
     {
         match &mut self.held {
-            Held::Numbers(numbers) => add_number(numbers, most, n),
-            Held::Mixed(exprs) => add(exprs, Expr::Num(n)),
+            ExprStorage::Numbers(numbers) => add_number(numbers, most, n),
+            ExprStorage::Mixed(exprs) => add(exprs, Expr::Num(n)),
         }
     }
 
-    /// Adds an expression at the end. The first that is no number takes room for as many as may come.
+    /// Appends an expression. The first one that is no number reserves room for `most`. Err if memory runs out.
     pub fn push(&mut self, alloc: Global, most: usize, expr: Expr) -> Result<(), AllocError>
         ensures { OnOk result (self.new ≡ self.old ++ expr ∷ []) }
     {
         match &mut self.held {
-            Held::Numbers(numbers) => {
-                let mut exprs = mixed(alloc, most, numbers.as_slice())?;
+            ExprStorage::Numbers(numbers) => {
+                let mut exprs = exprs_of_numbers(alloc, most, numbers.as_slice())?;
                 add(&mut exprs, expr)?;
-                self.held = Held::Mixed(exprs);
+                self.held = ExprStorage::Mixed(exprs);
                 Ok(())
             }
-            Held::Mixed(exprs) => add(exprs, expr),
+            ExprStorage::Mixed(exprs) => add(exprs, expr),
         }
     }
 
-    /// Gives back the room that no expression takes.
+    /// Frees unused room.
     pub fn shrink_to_fit(&mut self)
         ensures { self.new ≡ self.old }
     {
         match &mut self.held {
-            Held::Numbers(numbers) => numbers.shrink_to_fit(),
-            Held::Mixed(exprs) => exprs.shrink_to_fit(),
+            ExprStorage::Numbers(numbers) => numbers.shrink_to_fit(),
+            ExprStorage::Mixed(exprs) => exprs.shrink_to_fit(),
         }
     }
 }

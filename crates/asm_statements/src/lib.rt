@@ -1,4 +1,4 @@
-//! The statements of a source, as types: the reader makes them, the assembler takes them (docs/source-language.md).
+//! The statements of a source, as types: the reader makes them, the assembler takes them (docs/rules/sources.md).
 #![tactic(auto)]
 
 pub mod computation;
@@ -6,5 +6,5 @@ pub mod exprs;
 pub mod statement;
 
 pub use computation::{OfRegisterNumber, OfThreeRegisters, OfTwoRegisters, OfTwoRegistersNumber};
-pub use exprs::{Exprs, Lent};
+pub use exprs::{Exprs, ExprsRef};
 pub use statement::{Expr, PoolValue, Stmt, StmtKind};

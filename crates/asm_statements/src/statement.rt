@@ -1,4 +1,4 @@
-//! Statements, as docs/source-language.md has them.
+//! The statements of docs/rules/sources.md.
 ghost use Rattle.std.specs.Prelude.{◌≡◌, IfOk};
 
 use crate::computation::{
@@ -9,14 +9,16 @@ use eh_word::Name;
 use std::alloc::{AllocError, Global};
 use std::marker::Model;
 
-/// A statement of a source, with its line, which counts from 1.
+/// A statement of a source.
 #[derive(Drop)]
 pub struct Stmt {
+    /// The line of the source, counted from 1.
     pub line: u32,
+    /// The statement itself.
     pub kind: StmtKind,
 }
 
-/// An expression. Names stand for addresses that the assembler or the linker knows.
+/// An expression. Names are addresses that the assembler or the linker knows.
 #[derive(Drop)]
 pub enum Expr {
     /// A number.
@@ -35,8 +37,8 @@ pub enum Expr {
     Rel(Name),
 }
 
-/// The value of a word of the pool, in a box: an expression is the longest of what a statement has, and few have one.
-/// Contracts see the expression.
+/// The value of a `ldr rt, =value`. It is boxed, because an expression is larger than all other parts of a statement
+/// and few statements have one. Contracts see the expression.
 #[derive(Drop)]
 pub struct PoolValue {
     expr: Box<Expr>,
@@ -51,7 +53,7 @@ impl Model for PoolValue {
 }
 
 impl PoolValue {
-    /// An expression, boxed.
+    /// Boxes an expression. Err if memory runs out.
     pub fn of(alloc: Global, expr: Expr) -> Result<PoolValue, AllocError>
         ensures { IfOk result (λ v. v ≡ expr) }
     {
@@ -68,35 +70,36 @@ impl PoolValue {
     }
 }
 
-/// A statement's form, with its fields in the order of the text.
+/// A statement. The fields are in the order of the text.
 ///
-/// Registers are 0 to 15 (13 is sp, 14 lr, 15 pc); whether an instruction takes them is not looked at here. A `list` has
-/// bit k set where register k is in it. Numbers are within -2,147,483,648 to 4,294,967,295. `op` and `cond` are the
-/// fields of the instruction's encoding (Armv6-M Architecture Reference Manual, DDI 0419; Armv8-M Baseline, DDI 0553).
+/// Registers are numbered 0 to 15 (13 is sp, 14 lr, 15 pc); whether an instruction accepts them isn't checked here. In
+/// a `list`, bit k is set if register k is listed. Numbers are from -2,147,483,648 to 4,294,967,295. `op` and `cond`
+/// are fields of the instruction's encoding (Armv6-M Architecture Reference Manual, DDI 0419; Armv8-M Baseline, DDI
+/// 0553).
 #[derive(Drop)]
 pub enum StmtKind {
     /// `name:`
     Label(Name),
-    /// `rd, rm` after the word of what is computed
+    /// `rd, rm` after the word of the computation `what`
     TwoRegisters {
         what: OfTwoRegisters,
         d: u8,
         m: u8,
     },
-    /// `rd, rn, rm` after the word
+    /// `rd, rn, rm` after the word of the computation `what`
     ThreeRegisters {
         what: OfThreeRegisters,
         d: u8,
         n: u8,
         m: u8,
     },
-    /// `rd, #imm` after the word
+    /// `rd, #imm` after the word of the computation `what`
     RegisterNumber {
         what: OfRegisterNumber,
         d: u8,
         imm: i64,
     },
-    /// `rd, rn, #imm` after the word
+    /// `rd, rn, #imm` after the word of the computation `what`
     TwoRegistersNumber {
         what: OfTwoRegistersNumber,
         d: u8,
@@ -136,22 +139,23 @@ pub enum StmtKind {
         t: u8,
         value: PoolValue,
     },
-    /// `str` (0), `ldr` (1), `strb` (2), `ldrb` (3), `strh` (4), `ldrh` (5) `rt, [rn, #off]`; without `#off` it is 0.
-    /// For `str` and `ldr` the base is not sp.
+    /// `rt, [rn, #off]` after `str` (0), `ldr` (1), `strb` (2), `ldrb` (3), `strh` (4) or `ldrh` (5); without `#off` it
+    /// is 0. For `str` and `ldr` the base is not sp.
     MemImm {
         op: u8,
         t: u8,
         n: u8,
         off: i64,
     },
-    /// `str` (0), `strh` (1), `strb` (2), `ldrsb` (3), `ldr` (4), `ldrh` (5), `ldrb` (6), `ldrsh` (7) `rt, [rn, rm]`
+    /// `rt, [rn, rm]` after `str` (0), `strh` (1), `strb` (2), `ldrsb` (3), `ldr` (4), `ldrh` (5), `ldrb` (6) or
+    /// `ldrsh` (7)
     MemReg {
         op: u8,
         t: u8,
         n: u8,
         m: u8,
     },
-    /// `str rt, [sp, #off]`, `ldr rt, [sp, #off]`; without `#off` it is 0
+    /// `ldr rt, [sp, #off]` if `load`, else `str rt, [sp, #off]`; without `#off` it is 0
     MemSp {
         load: bool,
         t: u8,
@@ -182,14 +186,14 @@ pub enum StmtKind {
     },
     /// `b name`
     B(Name),
-    /// `beq name` and the other conditions, 0 to 13
+    /// `beq name` and the other conditions; `cond` is 0 to 13
     BCond {
         cond: u8,
         name: Name,
     },
     /// `bl name`
     Bl(Name),
-    /// `cbz rn, name`, and `cbnz rn, name` where `nonzero`
+    /// `cbnz rn, name` if `nonzero`, else `cbz rn, name`
     Cbz {
         nonzero: bool,
         n: u8,
@@ -237,19 +241,19 @@ pub enum StmtKind {
     TypeObject(Name),
     /// `.size name, .-name`
     Size(Name),
-    /// `.word`, `.long`, `.4byte` and a list
+    /// `.word`, `.long` or `.4byte` with a list
     Words(Exprs),
-    /// `.half`, `.short`, `.2byte` and a list
+    /// `.half`, `.short` or `.2byte` with a list
     Halves(Exprs),
-    /// `.byte` and a list
+    /// `.byte` with a list
     Bytes(Exprs),
-    /// `.ascii "text"`, the bytes that its escapes stand for
+    /// `.ascii "text"`; holds the bytes, escapes decoded
     Ascii(Name),
-    /// `.asciz "text"`, without the zero byte that closes it
+    /// `.asciz "text"`; holds the bytes, escapes decoded, without the closing zero byte
     Asciz(Name),
-    /// `.space n`, `.zero n`
+    /// `.space n`, `.zero n`; n in bytes
     Space(i64),
-    /// `.align n`, `.p2align n`, 0 to 3
+    /// `.align n`, `.p2align n`: to a multiple of 2^n bytes, n from 0 to 3
     Align(i64),
     /// `.pool`, `.ltorg`
     Pool,

@@ -7,11 +7,11 @@ use Rattle.std.proofs.lemmas.Bool.{ltb-true, ltb-false, eqb-false}
 use Rattle.std.proofs.lemmas.List.{reverse-append}
 use Rattle.std.proofs.lemmas.List.Elements.{All-nil, All-cons, All-head, All-tail, All-append, All-replicate, All-take, All-drop, All-filter}
 use Rattle.std.proofs.lemmas.List.Quantifiers.{position-Some}
-use Rattle.unwind_codes.specs.declared.code.Code.{Code}
-use Rattle.unwind_codes.specs.declared.code.Code.TheVariants.{Raise, Lower, Refuse, PopMask, Restore, PopRange, PopRangeAndLr, Finish, PopLow, RaiseLong}
-use Rattle.unwind_codes.specs.declared.code.TheConstants.{RAISE, LOWER, POP_MASK, RESTORE, POP_RANGE, POP_RANGE_AND_LR, FINISH, POP_LOW, RAISE_LONG, LONG_LEAST}
-use Rattle.unwind_codes.specs.declared.words.TheConstants.{MOST_PERSONALITY}
-use Rattle.unwind_codes.specs.Bytes.{code_bytes, shortest_uleb128, HasBytes, IsCode}
+use Rattle.eh_codes.specs.declared.code.UnwindCode.{UnwindCode}
+use Rattle.eh_codes.specs.declared.code.UnwindCode.TheVariants.{Raise, Lower, Refuse, PopMask, Restore, PopRange, PopRangeAndLr, Finish, PopLow, RaiseLong}
+use Rattle.eh_codes.specs.declared.code.TheConstants.{RAISE, LOWER, POP_MASK, RESTORE, POP_RANGE, POP_RANGE_AND_LR, FINISH, POP_LOW, RAISE_LONG, LONG_LEAST}
+use Rattle.eh_codes.specs.declared.words.TheConstants.{MOST_PERSONALITY}
+use Rattle.eh_codes.specs.Bytes.{code_bytes, shortest_uleb128, HasBytes, IsCode}
 use Rattle.asm_unwind.specs.declared.code.TheConstants.{MOST_STEP, WORDS_OF_MOST_STEP}
 use Rattle.asm_unwind.specs.declared.directive.TheConstants.{MOST_PAD}
 use Rattle.asm_unwind.specs.declared.directive.UnwindDirective.{UnwindDirective}
@@ -20,8 +20,8 @@ use Rattle.asm_unwind.specs.declared.directive.UnwindFault.{UnwindFault}
 use Rattle.asm_unwind.specs.declared.directive.UnwindFault.TheVariants.{OutsideFunction, TooLong}
 use Rattle.asm_unwind.specs.declared.entry.EntryWords.{EntryWords}
 use Rattle.asm_unwind.specs.declared.entry.EntryWords.TheVariants.{CantUnwind as Unwindless}
-use Rattle.asm_unwind.specs.Refusals.{is_frame_pointer, seen_in}
-use Rattle.asm_unwind.specs.Codes.{IsWritable, ranges, range_of, mask_code, high_code, lower_codes, directive_codes, is_no_pad, before_frame_pointer, from_frame_pointer, written, kept, codes_of, bytecode_of}
+use Rattle.asm_unwind.specs.Refusals.{is_frame_pointer, directive_state_of}
+use Rattle.asm_unwind.specs.Codes.{IsWritable, ranges, range_of, mask_code, high_code, lower_codes, directive_codes, is_no_pad, before_frame_pointer, from_frame_pointer, coded_directives, with_pads_if, codes_of, bytecode_of}
 use Rattle.asm_unwind.specs.Entries.{room, index_of, entry_of, entry_of_code, entry_words_of}
 use Rattle.asm_unwind.specs.EntryLaw.{FunctionsHoldTheirCode}
 use Rattle.asm_unwind.proofs.EntryLaws.{law_of_entries}
@@ -39,7 +39,7 @@ uleb128_small : (number : ℕ) (short : Bool) → nat_lt number 128 ≡ short �
 uleb128_small number true s h = one_byte number (let low : number < 128 = ltb-true number 128 s in omega arith)
 uleb128_small number false s h = two_bytes (128 + number % 128) (number / 128) (omega arith) (omega arith)
 
-code_small : (code : Code) → HasBytes code → All IsByte (code_bytes code)
+code_small : (code : UnwindCode) → HasBytes code → All IsByte (code_bytes code)
 code_small (Raise words) h = one_byte (RAISE + words) (omega arith)
 code_small (Lower words) h = one_byte (LOWER + words) (omega arith)
 code_small Refuse h = two_bytes POP_MASK 0 (omega arith) (omega arith)
@@ -61,10 +61,10 @@ All-reverse P (x ∷ xs) h =
     rw (reverse-append (x ∷ []) xs) (All-append P (reverse xs) (x ∷ []) (All-reverse P xs (All-tail P x xs h)) (All-cons P x [] (All-head P x xs h) (All-nil P)))
 
 -- a code of the standard, whose fields fit its bits
-abbrev Fits : Code → Type 0
+abbrev Fits : UnwindCode → Type 0
 Fits code = IsCode code × HasBytes code
 
-one_code : (code : Code) → Fits code → All Fits (code ∷ [])
+one_code : (code : UnwindCode) → Fits code → All Fits (code ∷ [])
 one_code code h = All-cons Fits code [] h (All-nil Fits)
 
 mask_fits : (h : ℕ) (a b : Option ℕ) → h < 2 ^ 12 → h ≢ 0 → h / 2 ^ 9 % 2 ≡ 0 → ((n : ℕ) → a ≡ Some n → n < 8) → ((n : ℕ) → b ≡ Some n → n < 8) → Fits (mask_code h a b)
@@ -83,7 +83,7 @@ high_fits : (h : ℕ) → h < 2 ^ 12 → h ≢ 0 → h / 2 ^ 9 % 2 ≡ 0 → Fit
 unfolding high_code
 high_fits h small some no_sp = mask_fits h (range_of h) (cond (nat_lt h 0x400) None (range_of (h - 0x400))) small some no_sp (λ n. range_small h n) (λ n. lr_small h n (nat_lt h 0x400))
 
-code_or_none_fits : (n : ℕ) (none : Bool) (code : Code) → (n == 0) ≡ none → (n ≢ 0 → Fits code) → All Fits (cond none [] (code ∷ []))
+code_or_none_fits : (n : ℕ) (none : Bool) (code : UnwindCode) → (n == 0) ≡ none → (n ≢ 0 → Fits code) → All Fits (cond none [] (code ∷ []))
 code_or_none_fits n true code s h = All-nil Fits
 code_or_none_fits n false code s h = one_code code (h (eqb-false n 0 s))
 
@@ -107,7 +107,7 @@ pad_fits size false false s m h = one_code (RaiseLong ((size - LONG_LEAST) / 4))
 lower_fits : (size : ℕ) (none : Bool) → All Fits (cond none [] (replicate ((size - 4) / MOST_STEP) (Lower WORDS_OF_MOST_STEP) ++ Lower ((size - 4) % MOST_STEP / 4) ∷ []))
 lower_fits size true = All-nil Fits
 lower_fits size false =
-    let last : Code = Lower ((size - 4) % MOST_STEP / 4) in
+    let last : UnwindCode = Lower ((size - 4) % MOST_STEP / 4) in
     All-append Fits (replicate ((size - 4) / MOST_STEP) (Lower WORDS_OF_MOST_STEP)) (last ∷ [])
     (All-replicate Fits ((size - 4) / MOST_STEP) (Lower WORDS_OF_MOST_STEP) (lower_step_fits WORDS_OF_MOST_STEP (omega arith)))
     (one_code last (lower_step_fits ((size - 4) % MOST_STEP / 4) (omega arith)))
@@ -137,9 +137,9 @@ all_fit : (directives : List UnwindDirective) → All IsWritable directives → 
 unfolding codes_of
 all_fit directives h =
     let before : All IsWritable (before_frame_pointer directives) = All-take IsWritable (prefix_len (λ d. not (is_frame_pointer d)) directives) directives h in
-    let after : All IsWritable (kept false (from_frame_pointer directives)) = All-filter is_no_pad IsWritable (from_frame_pointer directives) (All-drop IsWritable (length (before_frame_pointer directives)) directives h) in
-    All-flat_map IsWritable Fits directive_codes directive_fits (reverse (written directives))
-    (All-reverse IsWritable (written directives) (All-append IsWritable (before_frame_pointer directives) (kept false (from_frame_pointer directives)) before after))
+    let after : All IsWritable (with_pads_if false (from_frame_pointer directives)) = All-filter is_no_pad IsWritable (from_frame_pointer directives) (All-drop IsWritable (length (before_frame_pointer directives)) directives h) in
+    All-flat_map IsWritable Fits directive_codes directive_fits (reverse (coded_directives directives))
+    (All-reverse IsWritable (coded_directives directives) (All-append IsWritable (before_frame_pointer directives) (with_pads_if false (from_frame_pointer directives)) before after))
 
 pub codes_are : (directives : List UnwindDirective) → All IsWritable directives → All IsCode (codes_of directives)
 codes_are directives h k or l = (all_fit directives h k or l).0
@@ -172,8 +172,8 @@ pub law_of_function_entries : FunctionsHoldTheirCode
 unfolding entry_words_of
 law_of_function_entries directives entry writable low unwinds is =
     let bytes : List ℕ = bytecode_of directives in
-    let index : ℕ = index_of (seen_in directives).personality bytes in
-    let handler_data : Bool = (seen_in directives).handler_data in
-    let coded = has_entry (seen_in directives).ended (seen_in directives).cant_unwind entry (entry_of_code (seen_in directives).personality handler_data bytes) unwinds is in
+    let index : ℕ = index_of (directive_state_of directives).personality bytes in
+    let handler_data : Bool = (directive_state_of directives).handler_data in
+    let coded = has_entry (directive_state_of directives).ended (directive_state_of directives).cant_unwind entry (entry_of_code (directive_state_of directives).personality handler_data bytes) unwinds is in
     let fits = has_room index bytes entry (entry_of index handler_data bytes) (nat_lt (room index) (length bytes)) refl coded in
-    rw (← fits.1) (law_of_entries index handler_data bytes (index_low (seen_in directives).personality bytes low) fits.0 (bytecode_small directives writable))
+    rw (← fits.1) (law_of_entries index handler_data bytes (index_low (directive_state_of directives).personality bytes low) fits.0 (bytecode_small directives writable))

@@ -8,11 +8,11 @@ use Rattle.std.proofs.lemmas.List.{length-replicate, get_or_past, take_at, drop_
 use Rattle.std.proofs.lemmas.List.FromFn.{map-range_with_len_more, fill_by_all, length-map-range_with_len}
 use Rattle.asm_unwind.specs.declared.entry.EntryWords.TheVariants.{Table}
 use Rattle.asm_unwind.specs.declared.entry.TheConstants.{SHORT_ROOM, LONG_ROOM}
-use Rattle.asm_unwind.specs.Entries.{code_byte, word, word_at, further, short_entry, long_entry, entry_of}
+use Rattle.asm_unwind.specs.Entries.{code_byte, word, word_at, further_words, short_entry, long_entry, entry_of}
 use Rattle.asm_unwind.specs.EntryLaw.{HoldsCode, EntriesHoldTheirCode}
-use Rattle.unwind_codes.specs.declared.words.TheConstants.{COMPACT_TOP, MOST_PERSONALITY}
-use Rattle.unwind_codes.specs.declared.code.TheConstants.{FINISH}
-use Rattle.unwind_codes.specs.Words.{bytes_of_word, personality_of_word, code_words_after, code_in_first, code_of_words, words_after_code}
+use Rattle.eh_codes.specs.declared.words.TheConstants.{COMPACT_TOP, MOST_PERSONALITY}
+use Rattle.eh_codes.specs.declared.code.TheConstants.{FINISH}
+use Rattle.eh_codes.specs.Words.{bytes_of_word, personality_of_word, code_words_after, code_in_first, code_of_words, words_after_code}
 
 -- a word of bytes has these bytes
 bytes_of_word-word : (a b c d : ℕ) → b < 2 ^ 8 → c < 2 ^ 8 → d < 2 ^ 8 → bytes_of_word (word a b c d) ≡ a ∷ b ∷ c ∷ d ∷ []
@@ -158,18 +158,18 @@ counted_words first index a b words closing is other = omega (arith, words_count
 
 -- the words of code of personality 1 and 2, as long_entry has them after the first one
 words_of : List ℕ → List ℕ
-words_of bytes = map (λ k. word_at bytes (2 + 4 * k)) (range_with_len 0 (further bytes))
+words_of bytes = map (λ k. word_at bytes (2 + 4 * k)) (range_with_len 0 (further_words bytes))
 
 long_first : ℕ → List ℕ → ℕ
-long_first index bytes = word (COMPACT_TOP + index) (further bytes) (code_byte bytes 0) (code_byte bytes 1)
+long_first index bytes = word (COMPACT_TOP + index) (further_words bytes) (code_byte bytes 0) (code_byte bytes 1)
 
 long_bytes : (index : ℕ) (bytes : List ℕ) → length bytes ≤ LONG_ROOM → All (λ b. b < 2 ^ 8) bytes →
     bytes_of_word (long_first index bytes) ≡ (COMPACT_TOP + index) ∷ length (words_of bytes) ∷ code_byte bytes 0 ∷ code_byte bytes 1 ∷ []
 unfolding words_of long_first
 long_bytes index bytes short small =
-    let count : length (words_of bytes) ≡ further bytes = length-map-range_with_len (λ k. word_at bytes (2 + 4 * k)) 0 (further bytes) in
-    let few : further bytes < 2 ^ 8 = omega arith in
-    bytes_of_word-word (COMPACT_TOP + index) (further bytes) (code_byte bytes 0) (code_byte bytes 1) few (code_byte_small bytes 0 small) (code_byte_small bytes 1 small)
+    let count : length (words_of bytes) ≡ further_words bytes = length-map-range_with_len (λ k. word_at bytes (2 + 4 * k)) 0 (further_words bytes) in
+    let few : further_words bytes < 2 ^ 8 = omega arith in
+    bytes_of_word-word (COMPACT_TOP + index) (further_words bytes) (code_byte bytes 0) (code_byte bytes 1) few (code_byte_small bytes 0 small) (code_byte_small bytes 1 small)
     ∙ ap (λ (n : ℕ). (COMPACT_TOP + index) ∷ n ∷ code_byte bytes 0 ∷ code_byte bytes 1 ∷ []) (sym count)
 
 closed : (handler_data none : Bool) → none ≡ false → cond {A = List ℕ} handler_data [] (0 ∷ []) ≡ cond {A = List ℕ} (handler_data || none) [] (0 ∷ [])
@@ -193,9 +193,9 @@ long_holds index handler_data bytes closing other low short small ends =
     record {
       top = top;
       whole = counted_words (long_first index bytes) index (code_byte bytes 0) (code_byte bytes 1) (words_of bytes) closing is number;
-      fill = 2 + 4 * further bytes - length bytes;
+      fill = 2 + 4 * further_words bytes - length bytes;
       fill_is_short = omega arith;
-      code = table_code (long_first index bytes) index (code_byte bytes 0) (code_byte bytes 1) (words_of bytes) closing is number ∙ further_bytes bytes (further bytes) small ∙ filled bytes (2 + 4 * further bytes) (omega arith);
+      code = table_code (long_first index bytes) index (code_byte bytes 0) (code_byte bytes 1) (words_of bytes) closing is number ∙ further_bytes bytes (further_words bytes) small ∙ filled bytes (2 + 4 * further_words bytes) (omega arith);
       after = table_after (long_first index bytes) index (code_byte bytes 0) (code_byte bytes 1) (words_of bytes) closing is number ∙ ends ∙ closed handler_data (index == 0) other;
       place = no_place handler_data (index == 0) other;
     }

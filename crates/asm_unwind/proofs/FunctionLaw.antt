@@ -11,7 +11,7 @@ use Rattle.asm_unwind.specs.declared.directive.UnwindDirective.{UnwindDirective}
 use Rattle.asm_unwind.specs.declared.directive.UnwindDirective.TheVariants.{FnStart, FnEnd, Save, Pad, SetFp, CantUnwind, PersonalityIndex, HandlerData}
 use Rattle.asm_unwind.specs.declared.directive.TheConstants.{MOST_PAD}
 use Rattle.asm_unwind.specs.Refusals.{is_frame_pointer, is_bad_pad}
-use Rattle.asm_unwind.specs.Codes.{pad_codes, kept, directive_codes, before_frame_pointer, from_frame_pointer, written, reversed_codes, codes_of}
+use Rattle.asm_unwind.specs.Codes.{pad_codes, with_pads_if, directive_codes, before_frame_pointer, from_frame_pointer, coded_directives, reversed_codes, codes_of}
 use Rattle.asm_unwind.specs.Meaning.{InAll, FunctionsUndo, pad_size, saved_registers}
 use Rattle.asm_unwind.proofs.InAllLemmas.{in_all_none, in_all-append}
 use Rattle.asm_unwind.proofs.Reversed.{reversed_codes-cons}
@@ -34,10 +34,10 @@ all_before (d ∷ xs) none =
     let none_after : list_any is_frame_pointer xs ≡ false = (or_no (is_frame_pointer d) (list_any is_frame_pointer xs) none).1 in
     rw (take_while-cons, none_here, all_before xs none_after) refl
 
-all_written : (xs : List UnwindDirective) → list_any is_frame_pointer xs ≡ false → written xs ≡ xs
+all_written : (xs : List UnwindDirective) → list_any is_frame_pointer xs ≡ false → coded_directives xs ≡ xs
 all_written xs none =
     let after : from_frame_pointer xs ≡ [] = ap (λ (l : List UnwindDirective). drop (length l) xs) (all_before xs none) ∙ drop_all (length xs) xs (omega arith) in
-    ap (λ l. l ++ kept false (from_frame_pointer xs)) (all_before xs none) ∙ ap (λ l. xs ++ kept false l) after ∙ append-nil xs
+    ap (λ l. l ++ with_pads_if false (from_frame_pointer xs)) (all_before xs none) ∙ ap (λ l. xs ++ with_pads_if false l) after ∙ append-nil xs
 
 -- the codes of a pad that isn't refused
 pub pad_in_all : (size : ℕ) → is_bad_pad (Pad size) ≡ false → InAll (pad_codes size) size 0 []

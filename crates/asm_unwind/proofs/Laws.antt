@@ -5,12 +5,12 @@ use Rattle.std.specs.List.{range_with_len}
 use Rattle.std.proofs.lemmas.Bool.Decides.{nat_tests}
 use Rattle.std.proofs.lemmas.Bool.{ltb-false, eqb-true, eqb-false}
 use Rattle.std.proofs.lemmas.List.Quantifiers.{position-Some}
-use Rattle.unwind_codes.specs.declared.code.Code.{Code}
-use Rattle.unwind_codes.specs.declared.code.Code.TheVariants.{Raise, Lower, PopLow, RaiseLong}
-use Rattle.unwind_codes.specs.declared.code.TheConstants.{LONG_LEAST}
+use Rattle.eh_codes.specs.declared.code.UnwindCode.{UnwindCode}
+use Rattle.eh_codes.specs.declared.code.UnwindCode.TheVariants.{Raise, Lower, PopLow, RaiseLong}
+use Rattle.eh_codes.specs.declared.code.TheConstants.{LONG_LEAST}
 use Rattle.asm_unwind.specs.declared.code.TheConstants.{MOST_STEP, WORDS_OF_MOST_STEP}
 use Rattle.asm_unwind.specs.Codes.{high_code, mask_code, range_of, ranges}
-use Rattle.asm_unwind.specs.Meaning.{raised, lowered, popped, does_other, registers_in, InAll, PadsRaise, FramePointersLower, SavesPop}
+use Rattle.asm_unwind.specs.Meaning.{code_rise, code_fall, code_pops, is_other_code, registers_in, InAll, PadsRaise, FramePointersLower, SavesPop}
 use Rattle.asm_unwind.proofs.InAllLemmas.{in_all_none, in_all_one, in_all-append, in_all_as}
 use Rattle.asm_unwind.proofs.RegisterLists.{registers_in-split, high_masked, low_masked}
 
@@ -36,7 +36,7 @@ lower_cases : (size : ℕ) (none : Bool) → (size == 0) ≡ none → size % 4 �
 lower_cases size true s whole = in_all_as [] 0 0 0 size [] refl (sym (eqb-true size 0 s)) in_all_none
 lower_cases size false s whole =
     let some : size ≢ 0 = eqb-false size 0 s in
-    let last : Code = Lower ((size - 4) % MOST_STEP / 4) in
+    let last : UnwindCode = Lower ((size - 4) % MOST_STEP / 4) in
     in_all_as (replicate ((size - 4) / MOST_STEP) (Lower WORDS_OF_MOST_STEP) ++ last ∷ []) 0 ((size - 4) / MOST_STEP * MOST_STEP + ((size - 4) % MOST_STEP / 4 * 4 + 4)) 0 size [] refl (omega arith)
     (in_all-append (replicate ((size - 4) / MOST_STEP) (Lower WORDS_OF_MOST_STEP)) (last ∷ []) 0 ((size - 4) / MOST_STEP * MOST_STEP) 0 ((size - 4) % MOST_STEP / 4 * 4 + 4) [] []
     (lower_steps ((size - 4) / MOST_STEP)) (in_all_one last refl))
@@ -80,19 +80,19 @@ lr_is h n false s e =
     lr_at h n (ltb-false h 0x400 s) found.0 found.1
 
 mask_popped : (h : ℕ) (a b : Option ℕ) → ((n : ℕ) → a ≡ Some n → range_with_len 4 (n + 1) ≡ registers_in (16 * h)) → ((n : ℕ) → b ≡ Some n → range_with_len 4 (n + 1) ++ 14 ∷ [] ≡ registers_in (16 * h)) →
-    popped (mask_code h a b) ≡ registers_in (16 * h)
+    code_pops (mask_code h a b) ≡ registers_in (16 * h)
 mask_popped h (Some n) b f g = f n refl
 mask_popped h None (Some n) f g = g n refl
 mask_popped h None None f g = high_masked h
 
 -- the code for a mask of r4 to lr pops just these registers
-popped-high_code : (h : ℕ) → popped (high_code h) ≡ registers_in (16 * h)
+popped-high_code : (h : ℕ) → code_pops (high_code h) ≡ registers_in (16 * h)
 unfolding high_code
 popped-high_code h = mask_popped h (range_of h) (cond (nat_lt h 0x400) None (range_of (h - 0x400))) (λ n. range_is h n) (λ n. lr_is h n (nat_lt h 0x400) refl)
 
 -- it does no more than pop
-abbrev OnlyPops : Code → Type 0
-OnlyPops code = (raised code ≡ 0) × (lowered code ≡ 0) × (does_other code ≡ false)
+abbrev OnlyPops : UnwindCode → Type 0
+OnlyPops code = (code_rise code ≡ 0) × (code_fall code ≡ 0) × (is_other_code code ≡ false)
 
 mask_only_pops : (h : ℕ) (a b : Option ℕ) → OnlyPops (mask_code h a b)
 mask_only_pops h (Some n) b = (refl, refl, refl)
@@ -104,16 +104,16 @@ unfolding high_code
 high_only_pops h = mask_only_pops h (range_of h) (cond (nat_lt h 0x400) None (range_of (h - 0x400)))
 
 -- where there is a code, it pops this list, and where there is none, the list is empty
-code_or_none : (n registers : ℕ) (none : Bool) (code : Code) → (n == 0) ≡ none → (n ≡ 0 → registers ≡ 0) → popped code ≡ registers_in registers → OnlyPops code →
+code_or_none : (n registers : ℕ) (none : Bool) (code : UnwindCode) → (n == 0) ≡ none → (n ≡ 0 → registers ≡ 0) → code_pops code ≡ registers_in registers → OnlyPops code →
     InAll (cond none [] (code ∷ [])) 0 0 (registers_in registers)
 code_or_none n registers true code s zeros e m = rw (zeros (eqb-true n 0 s)) in_all_none
-code_or_none n registers false code s zeros e m = rw (← e) (in_all_as (code ∷ []) (raised code) (lowered code) 0 0 (popped code) m.0 m.1 (in_all_one code m.2))
+code_or_none n registers false code s zeros e m = rw (← e) (in_all_as (code ∷ []) (code_rise code) (code_fall code) 0 0 (code_pops code) m.0 m.1 (in_all_one code m.2))
 
 -- the codes of a register list pop its registers, the lowest first
 pub law_of_saves : SavesPop
 law_of_saves registers =
-    let low : List Code = cond (registers % 16 == 0) [] (PopLow (registers % 16) ∷ []) in
-    let high : List Code = cond (registers / 16 == 0) [] (high_code (registers / 16) ∷ []) in
+    let low : List UnwindCode = cond (registers % 16 == 0) [] (PopLow (registers % 16) ∷ []) in
+    let high : List UnwindCode = cond (registers / 16 == 0) [] (high_code (registers / 16) ∷ []) in
     let lows : InAll low 0 0 (registers_in (registers % 16)) = code_or_none (registers % 16) (registers % 16) (registers % 16 == 0) (PopLow (registers % 16)) refl (λ z. z) (low_masked registers) (refl, refl, refl) in
     let highs : InAll high 0 0 (registers_in (16 * (registers / 16))) = code_or_none (registers / 16) (16 * (registers / 16)) (registers / 16 == 0) (high_code (registers / 16)) refl (λ z. ap (λ x. 16 * x) z) (popped-high_code (registers / 16)) (high_only_pops (registers / 16)) in
     rw (registers_in-split registers) (in_all-append low high 0 0 0 0 (registers_in (registers % 16)) (registers_in (16 * (registers / 16))) lows highs)

@@ -4,7 +4,7 @@ use Rattle.std.specs.Prelude.{◌==◌, filter}
 use Rattle.std.specs.List.{range_with_len, AllByRecursion}
 use Rattle.std.proofs.lemmas.List.Elements.{filter-append}
 use Rattle.asm_unwind.specs.Refusals.{has_register}
-use Rattle.unwind_codes.specs.Meaning.{masked}
+use Rattle.eh_codes.specs.Meaning.{registers_of_mask}
 use Rattle.asm_unwind.specs.Meaning.{registers_in}
 
 -- two tests that agree on each number of a list keep the same ones, and one that refuses each keeps none
@@ -52,7 +52,7 @@ registers_in-split r =
     in_parts r ∙ ap (λ l. l ++ filter (has_register r) (range_with_len 4 12)) (sym low) ∙ ap (λ l. registers_in (r % 16) ++ l) (sym high)
 
 -- a mask of r4 to r15 and one of r0 to r3 as register lists
-pub high_masked : (h : ℕ) → masked 4 12 h ≡ registers_in (16 * h)
+pub high_masked : (h : ℕ) → registers_of_mask 4 12 h ≡ registers_in (16 * h)
 high_masked h =
     let test : ℕ → Bool = λ register. h / 2 ^ (register - 4) % 2 == 1 in
     let same : filter test (range_with_len 4 12) ≡ filter (has_register (16 * h)) (range_with_len 4 12) =
@@ -66,6 +66,6 @@ high_masked h =
     bit : (h k n : ℕ) → h / 2 ^ k % 2 ≡ 16 * h / 2 ^ n % 2 → (h / 2 ^ k % 2 == 1) ≡ has_register (16 * h) n
     bit h k n e = ap (λ (bit : ℕ). bit == 1) e
 
-pub low_masked : (r : ℕ) → masked 0 4 (r % 16) ≡ registers_in (r % 16)
+pub low_masked : (r : ℕ) → registers_of_mask 0 4 (r % 16) ≡ registers_in (r % 16)
 low_masked r =
     sym (in_parts (r % 16) ∙ ap (λ l. filter (has_register (r % 16)) (range_with_len 0 4) ++ l) (low_only r) ∙ append-nil (filter (has_register (r % 16)) (range_with_len 0 4)))

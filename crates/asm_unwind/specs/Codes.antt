@@ -1,13 +1,13 @@
--- The unwinding bytecode that directives stand for (IHI 0038, "Frame unwinding instructions").
+-- The unwinding bytecode of directives (IHI 0038, "Frame unwinding instructions").
 use Rattle.std.specs.Prelude.{◌≡◌, ℕ, ◌*◌, ◌<◌, ◌≤◌, ◌+◌, ◌-◌, ◌/◌, ◌%◌, ◌^◌, ◌==◌, not, Bool, true, false, nat_lt, nat_le, if◌then◌else◌, List, [], ◌∷◌, ◌++◌, replicate, reverse, filter, take_while, drop, length, position, flat_map, Option, Some, None}
 use Rattle.asm_unwind.specs.declared.directive.UnwindDirective.{UnwindDirective}
 use Rattle.asm_unwind.specs.declared.directive.UnwindDirective.TheVariants.{Save, Pad, SetFp}
 use Rattle.asm_unwind.specs.declared.directive.TheConstants.{MOST_PAD}
 use Rattle.asm_unwind.specs.declared.code.TheConstants.{MOST_STEP, WORDS_OF_MOST_STEP}
-use Rattle.unwind_codes.specs.declared.code.Code.{Code}
-use Rattle.unwind_codes.specs.declared.code.Code.TheVariants.{Raise, Lower, PopMask, Restore, PopRange, PopRangeAndLr, PopLow, RaiseLong}
-use Rattle.unwind_codes.specs.declared.code.TheConstants.{LONG_LEAST}
-use Rattle.unwind_codes.specs.Bytes.{code_bytes}
+use Rattle.eh_codes.specs.declared.code.UnwindCode.{UnwindCode}
+use Rattle.eh_codes.specs.declared.code.UnwindCode.TheVariants.{Raise, Lower, PopMask, Restore, PopRange, PopRangeAndLr, PopLow, RaiseLong}
+use Rattle.eh_codes.specs.declared.code.TheConstants.{LONG_LEAST}
+use Rattle.eh_codes.specs.Bytes.{code_bytes}
 use Rattle.std.specs.Int.{bit_at}
 use Rattle.asm_unwind.specs.Refusals.{is_frame_pointer}
 
@@ -19,37 +19,37 @@ ranges = 0x01 ∷ 0x03 ∷ 0x07 ∷ 0x0F ∷ 0x1F ∷ 0x3F ∷ 0x7F ∷ 0xFF ∷
 abbrev pub range_of : ℕ → Option ℕ
 range_of mask = position (λ range. range == mask) ranges
 
-abbrev pub mask_code : ℕ → Option ℕ → Option ℕ → Code
+abbrev pub mask_code : ℕ → Option ℕ → Option ℕ → UnwindCode
 mask_code mask (Some last) _ = PopRange last
 mask_code mask None (Some last) = PopRangeAndLr last
 mask_code mask None None = PopMask mask
 
 -- the code for a mask of r4 to lr: a range from r4 on, such a range with lr (bit 10), or any other list
-unfoldable pub high_code : ℕ → Code
+unfoldable pub high_code : ℕ → UnwindCode
 high_code mask =
     mask_code mask (range_of mask) (if nat_lt mask 0x400 then None else range_of (mask - 0x400))
 
 -- the codes of a register list: r0 to r3, then r4 to lr
-abbrev pub save_codes : ℕ → List Code
+abbrev pub save_codes : ℕ → List UnwindCode
 save_codes registers =
     (if registers % 16 == 0 then [] else PopLow (registers % 16) ∷ [])
     ++ (if registers / 16 == 0 then [] else high_code (registers / 16) ∷ [])
 
--- the codes that take a number of bytes off the stack: one step, two, or a long one
-abbrev pub pad_codes : ℕ → List Code
+-- the instructions that add a number of bytes to the stack pointer: one step, two steps, or a long one
+abbrev pub pad_codes : ℕ → List UnwindCode
 pad_codes size =
     if nat_le size MOST_STEP then Raise ((size - 4) / 4) ∷ []
     else (if nat_le size (2 * MOST_STEP) then Raise WORDS_OF_MOST_STEP ∷ Raise ((size - (MOST_STEP + 4)) / 4) ∷ []
     else RaiseLong ((size - LONG_LEAST) / 4) ∷ [])
 
--- the codes that put a number of bytes back: steps of the most that a code moves, and a last one
-abbrev pub lower_codes : ℕ → List Code
+-- the instructions that subtract a number of bytes: as many of the greatest step as fit, then the rest
+abbrev pub lower_codes : ℕ → List UnwindCode
 lower_codes size =
     if size == 0 then []
     else replicate ((size - 4) / MOST_STEP) (Lower WORDS_OF_MOST_STEP) ++ Lower ((size - 4) % MOST_STEP / 4) ∷ []
 
 -- the codes that undo a directive
-abbrev pub directive_codes : UnwindDirective → List Code
+abbrev pub directive_codes : UnwindDirective → List UnwindCode
 directive_codes (Save registers) = save_codes registers
 directive_codes (Pad size) = pad_codes size
 directive_codes (SetFp register offset) = Restore register ∷ lower_codes offset
@@ -75,15 +75,15 @@ abbrev pub from_frame_pointer : List UnwindDirective → List UnwindDirective
 from_frame_pointer directives = drop (length (before_frame_pointer directives)) directives
 
 -- directives with their pads, or without
-abbrev pub kept : Bool → List UnwindDirective → List UnwindDirective
-kept pads directives = if pads then directives else filter is_no_pad directives
+abbrev pub with_pads_if : Bool → List UnwindDirective → List UnwindDirective
+with_pads_if pads directives = if pads then directives else filter is_no_pad directives
 
--- the directives that codes are written for: a frame pointer makes the pads after it needless
-abbrev pub written : List UnwindDirective → List UnwindDirective
-written directives = before_frame_pointer directives ++ kept false (from_frame_pointer directives)
+-- the directives that have bytecode: pads after a frame pointer need none
+abbrev pub coded_directives : List UnwindDirective → List UnwindDirective
+coded_directives directives = before_frame_pointer directives ++ with_pads_if false (from_frame_pointer directives)
 
 -- the codes of directives, in reverse order of the text
-abbrev pub reversed_codes : List UnwindDirective → List Code
+abbrev pub reversed_codes : List UnwindDirective → List UnwindCode
 reversed_codes directives = flat_map directive_codes (reverse directives)
 
 -- the bytes of directives, in reverse order of the text
@@ -91,8 +91,8 @@ unfoldable pub reversed_bytes : List UnwindDirective → List ℕ
 reversed_bytes directives = flat_map code_bytes (reversed_codes directives)
 
 -- the codes of a function
-unfoldable pub codes_of : List UnwindDirective → List Code
-codes_of directives = reversed_codes (written directives)
+unfoldable pub codes_of : List UnwindDirective → List UnwindCode
+codes_of directives = reversed_codes (coded_directives directives)
 
 -- the bytecode of a function
 unfoldable pub bytecode_of : List UnwindDirective → List ℕ

@@ -1,16 +1,16 @@
--- An entry holds its code: the bytes that are read out of it, by the compact model of IHI 0038, are the bytecode, filled up with
--- "finish", and cut by the table of codes they are the codes of the directives.
+-- An entry contains its bytecode: the bytes read out of it, by the compact model of IHI 0038, are the bytecode padded
+-- by "finish". Decoded, they give the instructions of the directives.
 use Rattle.std.specs.Prelude.{◌≡◌, ℕ, ◌+◌, ◌/◌, ◌^◌, ◌<◌, ◌≤◌, ◌==◌, ◌||◌, ◌&&◌, not, Bool, true, false, if◌then◌else◌, List, [], ◌∷◌, ◌++◌, map, length, replicate, All, MatchOption, ⊤, Ok}
-use Rattle.unwind_codes.specs.declared.code.Code.{Code}
-use Rattle.unwind_codes.specs.declared.code.Code.TheVariants.{Finish}
-use Rattle.unwind_codes.specs.declared.code.TheConstants.{FINISH}
-use Rattle.unwind_codes.specs.declared.words.TheConstants.{COMPACT_TOP, MOST_PERSONALITY}
-use Rattle.unwind_codes.specs.Cut.{Is, cut}
-use Rattle.unwind_codes.specs.Words.{code_words_after, code_of_words, words_after_code}
+use Rattle.eh_codes.specs.declared.code.UnwindCode.{UnwindCode}
+use Rattle.eh_codes.specs.declared.code.UnwindCode.TheVariants.{Finish}
+use Rattle.eh_codes.specs.declared.code.TheConstants.{FINISH}
+use Rattle.eh_codes.specs.declared.words.TheConstants.{COMPACT_TOP, MOST_PERSONALITY}
+use Rattle.eh_codes.specs.Cut.{Is, split_codes}
+use Rattle.eh_codes.specs.Words.{code_words_after, code_of_words, words_after_code}
 use Rattle.asm_unwind.specs.declared.directive.UnwindDirective.{UnwindDirective}
 use Rattle.asm_unwind.specs.declared.entry.EntryWords.{EntryWords}
 use Rattle.asm_unwind.specs.declared.entry.EntryWords.TheVariants.{CantUnwind, Inline, Table}
-use Rattle.asm_unwind.specs.Refusals.{seen_in}
+use Rattle.asm_unwind.specs.Refusals.{directive_state_of}
 use Rattle.asm_unwind.specs.Codes.{IsWritable, codes_of, bytecode_of}
 use Rattle.asm_unwind.specs.Entries.{room, index_of, entry_of, entry_words_of}
 
@@ -38,9 +38,10 @@ abbrev pub is_inline : EntryWords → Bool
 is_inline (Inline _) = true
 is_inline _ = false
 
--- what an entry says of bytecode: its top byte has the highest bit and the personality's number; the words that it counts are
--- there; its code is the bytecode and at most three "finish" after it; a zero word stands after the code in a table of personality 1 or 2 where the source
--- gives no words of its own, and else nothing does; and only with personality 0 and no such words there is no table
+-- An entry of bytecode has its top bit set and the personality's number in its top byte, and has all words that it
+-- counts. Its bytes are the bytecode and at most three "finish". In a table of personality 1 or 2, a zero word follows
+-- the bytecode if the source gives no words of its own; else nothing does. Only with personality 0 and no such words
+-- there is no table.
 pub record HoldsCode (entry : EntryWords) (index : ℕ) (handler_data : Bool) (bytes : List ℕ) : Type 0 where
   pub top : top_byte (words_in_entry entry) ≡ COMPACT_TOP + index
   pub whole : HasItsWords (words_in_entry entry)
@@ -50,7 +51,7 @@ pub record HoldsCode (entry : EntryWords) (index : ℕ) (handler_data : Bool) (b
   pub after : words_after_code (words_in_entry entry) ≡ (if handler_data || index == 0 then [] else 0 ∷ [])
   pub place : is_inline entry ≡ (not handler_data && index == 0)
 
--- the entry of bytecode that has room in it holds that bytecode
+-- the entry of bytecode that fits contains that bytecode
 abbrev pub EntriesHoldTheirCode : Type 0
 EntriesHoldTheirCode =
     (index : ℕ) (handler_data : Bool) (bytes : List ℕ)
@@ -62,20 +63,20 @@ EntriesHoldTheirCode =
 abbrev pub FunctionsHoldTheirCode : Type 0
 FunctionsHoldTheirCode =
     (directives : List UnwindDirective) (entry : EntryWords)
-    → All IsWritable directives → MatchOption (seen_in directives).personality ⊤ (λ index. index ≤ MOST_PERSONALITY)
-    → (seen_in directives).cant_unwind ≡ false → entry_words_of directives ≡ Ok entry
-    → HoldsCode entry (index_of (seen_in directives).personality (bytecode_of directives)) (seen_in directives).handler_data (bytecode_of directives)
+    → All IsWritable directives → MatchOption (directive_state_of directives).personality ⊤ (λ index. index ≤ MOST_PERSONALITY)
+    → (directive_state_of directives).cant_unwind ≡ false → entry_words_of directives ≡ Ok entry
+    → HoldsCode entry (index_of (directive_state_of directives).personality (bytecode_of directives)) (directive_state_of directives).handler_data (bytecode_of directives)
 
--- the code bytes of an entry are cut into these codes and at most three "finish" after them
-pub record ReadsAs (entry : EntryWords) (codes : List Code) : Type 0 where
+-- the bytes of an entry decode to these instructions and at most three "finish"
+pub record ReadsAs (entry : EntryWords) (codes : List UnwindCode) : Type 0 where
   pub fill : ℕ
   pub fill_is_short : fill ≤ 3
-  pub items : cut (code_of entry) ≡ map Is codes ++ replicate fill (Is Finish)
+  pub items : split_codes (code_of entry) ≡ map Is codes ++ replicate fill (Is Finish)
 
 -- and what is read there are the codes of the directives
 abbrev pub FunctionsAreRead : Type 0
 FunctionsAreRead =
     (directives : List UnwindDirective) (entry : EntryWords)
-    → All IsWritable directives → MatchOption (seen_in directives).personality ⊤ (λ index. index ≤ MOST_PERSONALITY)
-    → (seen_in directives).cant_unwind ≡ false → entry_words_of directives ≡ Ok entry
+    → All IsWritable directives → MatchOption (directive_state_of directives).personality ⊤ (λ index. index ≤ MOST_PERSONALITY)
+    → (directive_state_of directives).cant_unwind ≡ false → entry_words_of directives ≡ Ok entry
     → ReadsAs entry (codes_of directives)

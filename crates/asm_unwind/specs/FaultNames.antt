@@ -1,4 +1,4 @@
--- The names of refusals of unwind directives in a report (docs/unwind-directives.md, "The directives").
+-- The names of refusals of unwind directives in a report (docs/rules/sources.md, "Unwind directives").
 use Rattle.std.specs.Prelude.{ℕ, List, codes}
 use Rattle.asm_unwind.specs.declared.directive.UnwindFault.{UnwindFault}
 use Rattle.asm_unwind.specs.declared.directive.UnwindFault.TheVariants.{OutsideFunction, NestedFunction, SaveRange, PadRange, TwoPersonalities, AfterCantunwind, TooLong, OutOfMemory}

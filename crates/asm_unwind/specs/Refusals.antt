@@ -4,10 +4,10 @@ use Rattle.std.specs.List.{list_any}
 use Rattle.asm_unwind.specs.declared.directive.UnwindDirective.{UnwindDirective}
 use Rattle.asm_unwind.specs.declared.directive.UnwindDirective.TheVariants.{FnStart, FnEnd, Save, Pad, SetFp, CantUnwind, PersonalityIndex, HandlerData}
 use Rattle.asm_unwind.specs.declared.directive.TheConstants.{MOST_PAD, MOST_FRAME_OFFSET}
-use Rattle.unwind_codes.specs.declared.words.TheConstants.{MOST_PERSONALITY}
+use Rattle.eh_codes.specs.declared.words.TheConstants.{MOST_PERSONALITY}
 use Rattle.asm_unwind.specs.declared.directive.UnwindFault.{UnwindFault}
 use Rattle.asm_unwind.specs.declared.directive.UnwindFault.TheVariants.{OutsideFunction, NestedFunction, SaveRange, PadRange, TwoPersonalities, AfterCantunwind}
-use Rattle.asm_unwind.specs.declared.seen.Seen.{Seen}
+use Rattle.asm_unwind.specs.declared.seen.DirectiveState.{DirectiveState}
 
 abbrev pub is_start : UnwindDirective → Bool
 is_start FnStart = true
@@ -35,9 +35,9 @@ personality_in [] = None
 personality_in (PersonalityIndex index ∷ _) = Some index
 personality_in (_ ∷ more) = personality_in more
 
--- what a list of directives says that later ones depend on
-unfoldable pub seen_in : List UnwindDirective → Seen
-seen_in directives = record {
+-- the state of a list of directives, on which later ones depend
+unfoldable pub directive_state_of : List UnwindDirective → DirectiveState
+directive_state_of directives = record {
   started = list_any is_start directives;
   ended = list_any is_end directives;
   frame_pointer = list_any is_frame_pointer directives;
@@ -50,16 +50,16 @@ seen_in directives = record {
 abbrev pub has_register : ℕ → ℕ → Bool
 has_register registers register = registers / 2 ^ register % 2 == 1
 
--- it stands before `.fnstart` or after `.fnend`
-abbrev pub is_outside : Seen → UnwindDirective → Bool
+-- the directive is before `.fnstart` or after `.fnend`
+abbrev pub is_outside : DirectiveState → UnwindDirective → Bool
 is_outside seen next = seen.ended || (not seen.started && not (is_start next))
 
 -- a second `.fnstart`
-abbrev pub is_nested : Seen → UnwindDirective → Bool
+abbrev pub is_nested : DirectiveState → UnwindDirective → Bool
 is_nested seen next = seen.started && is_start next
 
 -- an empty list, one with r13 or r15, or a list after `.setfp`
-abbrev pub is_bad_save : Seen → UnwindDirective → Bool
+abbrev pub is_bad_save : DirectiveState → UnwindDirective → Bool
 is_bad_save seen (Save registers) =
     registers == 0 || has_register registers 13 || has_register registers 15 || seen.frame_pointer
 is_bad_save _ _ = false
@@ -78,22 +78,22 @@ is_bad_pad (SetFp register offset) =
 is_bad_pad _ = false
 
 -- a second personality index, or one above the highest
-abbrev pub is_bad_personality : Seen → UnwindDirective → Bool
+abbrev pub is_bad_personality : DirectiveState → UnwindDirective → Bool
 is_bad_personality seen (PersonalityIndex index) = is_some seen.personality || nat_lt MOST_PERSONALITY index
 is_bad_personality _ _ = false
 
 -- anything but `.fnend` after `.cantunwind`
-abbrev pub is_after_cant_unwind : Seen → UnwindDirective → Bool
+abbrev pub is_after_cant_unwind : DirectiveState → UnwindDirective → Bool
 is_after_cant_unwind seen next = seen.cant_unwind && not (is_end next)
 
 -- the first refusal of a list whose condition holds
-abbrev pub first_shown : List (Bool × UnwindFault) → Option UnwindFault
-first_shown [] = None
-first_shown (refusal ∷ more) = if refusal.0 then Some refusal.1 else first_shown more
+abbrev pub first_that_holds : List (Bool × UnwindFault) → Option UnwindFault
+first_that_holds [] = None
+first_that_holds (refusal ∷ more) = if refusal.0 then Some refusal.1 else first_that_holds more
 
--- why the next directive is refused after those that were seen, or None
-unfoldable pub refusal_of : Seen → UnwindDirective → Option UnwindFault
-refusal_of seen next = first_shown (
+-- why the next directive is refused after this state, or None
+unfoldable pub refusal_of : DirectiveState → UnwindDirective → Option UnwindFault
+refusal_of seen next = first_that_holds (
     (is_outside seen next, OutsideFunction)
     ∷ (is_nested seen next, NestedFunction)
     ∷ (is_bad_save seen next, SaveRange)
@@ -102,8 +102,8 @@ refusal_of seen next = first_shown (
     ∷ (is_after_cant_unwind seen next, AfterCantunwind)
     ∷ [])
 
--- what the directives say with one more after them that isn't refused
-abbrev pub with_next : Seen → UnwindDirective → Seen
+-- the state after one more directive, which isn't refused
+abbrev pub with_next : DirectiveState → UnwindDirective → DirectiveState
 with_next seen FnStart = record seen { started = true }
 with_next seen FnEnd = record seen { ended = true }
 with_next seen (SetFp _ _) = record seen { frame_pointer = true }

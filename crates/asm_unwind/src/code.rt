@@ -1,20 +1,20 @@
-//! The bytecode of a directive (IHI 0038, "Frame unwinding instructions"; docs/unwind-directives.md).
+//! The bytecode of unwind directives (IHI 0038, "Frame unwinding instructions"; docs/rules/sources.md).
 ghost use Rattle.std.specs.Prelude.{◌≡◌, ℕ, ◌+◌, ◌*◌, ◌/◌, ◌%◌, ◌^◌, ◌<◌, ◌≤◌, ◌==◌, ◌++◌, OnOk, IfSome, flat_map, IsTrue, not, position};
-ghost use Rattle.unwind_codes.specs.Bytes.{code_bytes, HasBytes};
+ghost use Rattle.eh_codes.specs.Bytes.{code_bytes, HasBytes};
 ghost use Rattle.asm_unwind.specs.declared.directive.TheConstants.{MOST_PAD};
 ghost use Rattle.asm_unwind.specs.Codes.{ranges, range_of, high_code, save_codes, pad_codes, lower_codes, directive_codes, IsWritable};
 
 use crate::directive::UnwindDirective;
+use eh_codes::code::LONG_LEAST;
+use eh_codes::{UnwindCode, push_code};
 use std::alloc::AllocError;
-use unwind_codes::code::LONG_LEAST;
-use unwind_codes::{Code, push_code};
 
-/// The most bytes that one code of one byte moves the virtual stack pointer by.
+/// The most bytes by which a one-byte instruction moves the virtual stack pointer.
 pub const MOST_STEP: u32 = 0x100;
-/// What such a code says of that step: its words, less the one that the code adds by itself.
+/// The operand of that instruction: the words it moves by, less one.
 pub const WORDS_OF_MOST_STEP: u8 = 0x3F;
 
-/// The n for which a mask is r4 to r4+n; bit 0 is r4.
+/// The n such that a mask means r4 to r4+n; bit 0 is r4. None if there is no such n.
 fn range_of(mask: u16) -> Option<u8>
     ensures value { result ≡ range_of mask }
     ensures small { IfSome result (λ last. last < 8) }
@@ -32,32 +32,32 @@ fn range_of(mask: u16) -> Option<u8>
     }
 }
 
-/// The code for a mask of r4 to lr.
+/// The instruction that pops a mask of r4 to lr.
 #[tactic(auto, unfolding(crate::specs::Codes::high_code))]
-fn high_code(mask: u16) -> Code
+fn high_code(mask: u16) -> UnwindCode
     requires { mask < 0x1000 }
     ensures code { result ≡ high_code mask }
     ensures fits { HasBytes result }
 {
     if let Some(last) = range_of(mask) {
-        Code::PopRange(last)
+        UnwindCode::PopRange(last)
     } else if mask < 0x400 {
-        Code::PopMask(mask)
+        UnwindCode::PopMask(mask)
     } else if let Some(last) = range_of(mask - 0x400) {
-        Code::PopRangeAndLr(last)
+        UnwindCode::PopRangeAndLr(last)
     } else {
-        Code::PopMask(mask)
+        UnwindCode::PopMask(mask)
     }
 }
 
-/// Appends the code for the registers r0 to r3 of a list, where there are some, and that for r4 to lr.
+/// Appends the instructions that pop a register list: first those for r0 to r3, then those for r4 to lr.
 fn push_save(bytes: &mut Vec<u8>, registers: u16) -> Result<(), AllocError>
     requires { registers < 2 ^ 15 }
     ensures { OnOk result (bytes.new.items ≡ bytes.old.items ++ flat_map code_bytes (save_codes registers)) }
 {
     let low = registers % 16;
     if low != 0 {
-        push_code(bytes, Code::PopLow(low as u8))?;
+        push_code(bytes, UnwindCode::PopLow(low as u8))?;
     }
     let high = registers / 16;
     if high != 0 {
@@ -66,25 +66,28 @@ fn push_save(bytes: &mut Vec<u8>, registers: u16) -> Result<(), AllocError>
     Ok(())
 }
 
-/// Appends the codes that take so many bytes off the stack.
+/// Appends the instructions that add a number of bytes to the stack pointer.
 fn push_pad(bytes: &mut Vec<u8>, size: u32) -> Result<(), AllocError>
     requires { size ≤ MOST_PAD }
     ensures { OnOk result (bytes.new.items ≡ bytes.old.items ++ flat_map code_bytes (pad_codes size)) }
 {
     if size <= MOST_STEP {
-        push_code(bytes, Code::Raise((size.saturating_sub(4) / 4) as u8))
+        push_code(bytes, UnwindCode::Raise((size.saturating_sub(4) / 4) as u8))
     } else if size <= 2 * MOST_STEP {
-        push_code(bytes, Code::Raise(WORDS_OF_MOST_STEP))?;
+        push_code(bytes, UnwindCode::Raise(WORDS_OF_MOST_STEP))?;
         push_code(
             bytes,
-            Code::Raise((size.saturating_sub(MOST_STEP + 4) / 4) as u8),
+            UnwindCode::Raise((size.saturating_sub(MOST_STEP + 4) / 4) as u8),
         )
     } else {
-        push_code(bytes, Code::RaiseLong(size.saturating_sub(LONG_LEAST) / 4))
+        push_code(
+            bytes,
+            UnwindCode::RaiseLong(size.saturating_sub(LONG_LEAST) / 4),
+        )
     }
 }
 
-/// Appends the codes that put so many bytes back, in steps of the most that a code moves and a last one.
+/// Appends the instructions that subtract a number of bytes: as many of the greatest step as fit, then the rest.
 fn push_lower(bytes: &mut Vec<u8>, size: u32) -> Result<(), AllocError>
     ensures { OnOk result (bytes.new.items ≡ bytes.old.items ++ flat_map code_bytes (lower_codes size)) }
 {
@@ -93,12 +96,12 @@ fn push_lower(bytes: &mut Vec<u8>, size: u32) -> Result<(), AllocError>
     }
     let past = size.saturating_sub(4);
     for _step in 0..past / MOST_STEP {
-        push_code(bytes, Code::Lower(WORDS_OF_MOST_STEP))?;
+        push_code(bytes, UnwindCode::Lower(WORDS_OF_MOST_STEP))?;
     }
-    push_code(bytes, Code::Lower((past % MOST_STEP / 4) as u8))
+    push_code(bytes, UnwindCode::Lower((past % MOST_STEP / 4) as u8))
 }
 
-/// Appends the codes that undo a directive.
+/// Appends the instructions that undo a directive.
 pub fn push_directive(bytes: &mut Vec<u8>, directive: UnwindDirective) -> Result<(), AllocError>
     requires { IsWritable directive }
     ensures { OnOk result (bytes.new.items ≡ bytes.old.items ++ flat_map code_bytes (directive_codes directive)) }
@@ -107,7 +110,7 @@ pub fn push_directive(bytes: &mut Vec<u8>, directive: UnwindDirective) -> Result
         UnwindDirective::Save(registers) => push_save(bytes, registers),
         UnwindDirective::Pad(size) => push_pad(bytes, size),
         UnwindDirective::SetFp(register, offset) => {
-            push_code(bytes, Code::Restore(register))?;
+            push_code(bytes, UnwindCode::Restore(register))?;
             push_lower(bytes, offset)
         }
         _ => Ok(()),

@@ -1,61 +1,60 @@
-//! Unwind directives, and why one is refused (docs/unwind-directives.md).
+//! Unwind directives and their refusals (docs/rules/sources.md).
 ghost use Rattle.std.specs.Prelude.{◌≡◌, ◌≤◌, length};
 ghost use Rattle.asm_unwind.specs.FaultNames.{fault_name};
 
 use std::alloc::{AllocError, AllocFailed};
 
-/// The largest pad, in bytes.
+/// The greatest `.pad`, in bytes.
 pub const MOST_PAD: u32 = 65_536;
-/// The largest offset of a frame pointer from the stack pointer, in bytes.
+/// The greatest offset of a frame pointer from sp, in bytes.
 pub const MOST_FRAME_OFFSET: u32 = 1020;
 
-/// A directive on the frame of the function that it stands in. Register lists have bit n set for register n.
+/// An unwind directive of a function. Register lists have bit n set for register n.
 #[derive(Clone, Copy, Debug)]
 pub enum UnwindDirective {
     /// `.fnstart`: the function begins.
     FnStart,
     /// `.fnend`: the function ends.
     FnEnd,
-    /// `.save`: these registers stand on the stack, the lowest at the lowest address.
+    /// `.save`: these registers were pushed, the lowest at the lowest address.
     Save(u16),
-    /// `.pad`: the stack pointer went down by so many bytes.
+    /// `.pad`: sp was lowered by this number of bytes.
     Pad(u32),
-    /// `.setfp`: the register holds the stack pointer plus so many bytes.
+    /// `.setfp`: the register was set to sp plus this number of bytes.
     SetFp(u8, u32),
-    /// `.cantunwind`: nothing unwinds through the function.
+    /// `.cantunwind`: no unwinding through the function.
     CantUnwind,
-    /// `.personalityindex`: the number of the personality routine.
+    /// `.personalityindex`: the number of the personality routine, 0 to 2.
     PersonalityIndex(u8),
-    /// `.handlerdata`: the source gives the words after the codes itself.
+    /// `.handlerdata`: the source itself gives the words after the bytecode.
     HandlerData,
 }
 
-/// Why a directive or the end of a function is refused, in the order of the numbers of the refusals; the lowest that
-/// holds is answered.
+/// Why a directive or the end of a function is refused. If several hold, the first of this list is reported.
 #[derive(Clone, Copy, Debug)]
 pub enum UnwindFault {
-    /// Before `.fnstart`, after `.fnend`, or a function that isn't ended.
+    /// A directive before `.fnstart` or after `.fnend`, or a function that isn't ended.
     OutsideFunction,
     /// A second `.fnstart` before `.fnend`.
     NestedFunction,
-    /// An empty register list, one with r13 or r15, or a list after `.setfp`.
+    /// A register list that is empty, has r13 or r15, or comes after `.setfp`.
     SaveRange,
-    /// A pad of 0, above `MOST_PAD` or no multiple of 4; for a frame pointer an offset above `MOST_FRAME_OFFSET` or no
-    /// multiple of 4, or a register other than r4 to r11.
+    /// A pad that is 0, above `MOST_PAD` or no multiple of 4; or a `.setfp` whose offset is above `MOST_FRAME_OFFSET`
+    /// or no multiple of 4, or whose register isn't one of r4 to r11.
     PadRange,
     /// A second personality index, or one above 2.
     TwoPersonalities,
-    /// Anything but `.fnend` after `.cantunwind`.
+    /// Any directive except `.fnend` after `.cantunwind`.
     AfterCantunwind,
-    /// More bytecode than the entry has room for: above `SHORT_ROOM` bytes with personality 0, above `LONG_ROOM` with 1
+    /// The bytecode doesn't fit the entry: more than `SHORT_ROOM` bytes for personality 0, more than `LONG_ROOM` for 1
     /// and 2.
     TooLong,
-    /// Want of memory.
+    /// Memory ran out.
     OutOfMemory,
 }
 
 impl UnwindFault {
-    /// The name of the refusal, as a report writes it.
+    /// The name of the refusal in reports.
     pub fn name(self) -> &'static [u8]
         ensures name { result.now ≡ fault_name self }
         ensures short { length result.now ≤ 16 }

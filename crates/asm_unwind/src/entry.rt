@@ -1,50 +1,50 @@
-//! The words of a function's entry, by its bytecode (IHI 0038, "The compact model"; docs/unwind-directives.md).
+//! Builds a function's unwind entry from its bytecode (IHI 0038, "The compact model"; docs/rules/sources.md).
 ghost use Rattle.std.specs.Prelude.{◌≡◌, ℕ, ◌+◌, ◌*◌, ◌/◌, ◌%◌, ◌^◌, ◌<◌, ◌≤◌, ◌==◌, ◌++◌, ◌≢◌, IfOk, IfErr, MatchOption, ⊤, length};
-ghost use Rattle.unwind_codes.specs.declared.words.TheConstants.{MOST_PERSONALITY};
+ghost use Rattle.eh_codes.specs.declared.words.TheConstants.{MOST_PERSONALITY};
 ghost use Rattle.asm_unwind.specs.declared.entry.TheConstants.{LONG_ROOM};
-ghost use Rattle.asm_unwind.specs.Entries.{code_byte, word_at, word, index_of, room, further, short_entry, long_entry, entry_of, entry_of_code};
+ghost use Rattle.asm_unwind.specs.Entries.{code_byte, word_at, word, index_of, room, further_words, short_entry, long_entry, entry_of, entry_of_code};
 ghost use Rattle.asm_unwind.specs.declared.directive.UnwindFault.{UnwindFault};
 
 use crate::directive::UnwindFault;
-use eh_list::Seq;
+use eh_codes::code::FINISH;
+use eh_codes::words::COMPACT_TOP;
+use eh_word::Seq;
 use std::alloc::{AllocError, Global};
-use unwind_codes::code::FINISH;
-use unwind_codes::words::COMPACT_TOP;
 
-/// The bytes of bytecode that an entry of personality 0 has room for.
+/// The most bytes of bytecode in an entry of personality 0.
 pub const SHORT_ROOM: usize = 3;
-/// The bytes of bytecode that an entry of personality 1 or 2 has room for: two, and four in each of 255 words.
+/// The most bytes of bytecode in an entry of personality 1 or 2: two in its first word, and four in each of 255 more.
 pub const LONG_ROOM: usize = 1022;
 
-/// The words of a table.
+/// The words of an unwind table.
 pub type TableWords = Seq<u32>;
 
-/// What the index says of a function (IHI 0038).
+/// The unwind entry of a function (IHI 0038).
 #[derive(Drop)]
 pub enum EntryWords {
-    /// Nothing unwinds through it.
+    /// No unwinding through the function.
     CantUnwind,
     /// The entry itself, in the second word of the index row.
     Inline(u32),
-    /// The words of its table, without those that the source gives after `.handlerdata`.
+    /// The words of the function's table, without those that the source gives after `.handlerdata`.
     Table(TableWords),
 }
 
-/// The byte of bytecode at a place; after its end stands "finish".
+/// The byte of bytecode at an index; "finish" past the end.
 fn code_byte(bytes: &[u8], at: usize) -> u8
     ensures { result ≡ code_byte bytes.now at }
 {
     bytes.get(at).copied().unwrap_or(FINISH)
 }
 
-/// A word by its bytes, the top byte first.
+/// A word from its bytes, top byte first.
 fn word(a: u8, b: u8, c: u8, d: u8) -> u32
     ensures { result ≡ word a b c d }
 {
     u32::from_be_bytes([a, b, c, d])
 }
 
-/// The word of the four bytes of bytecode from a place on.
+/// The word of four bytes of bytecode from an index on.
 #[tactic(auto, unfolding(crate::specs::Entries::word_at))]
 fn word_at(bytes: &[u8], at: usize) -> u32
     requires { at < 2 ^ 32 }
@@ -58,7 +58,7 @@ fn word_at(bytes: &[u8], at: usize) -> u32
     )
 }
 
-/// The entry of personality 0.
+/// The entry word of personality 0.
 #[tactic(auto, unfolding(crate::specs::Entries::short_entry))]
 fn short_entry(bytes: &[u8]) -> u32
     ensures { result ≡ short_entry bytes.now }
@@ -71,7 +71,7 @@ fn short_entry(bytes: &[u8]) -> u32
     )
 }
 
-/// The entry of personality 1 or 2.
+/// The words of an entry of personality 1 or 2.
 #[tactic(auto, unfolding(crate::specs::Entries::long_entry))]
 fn long_entry(alloc: Global, index: u8, bytes: &[u8]) -> Result<Vec<u32>, AllocError>
     requires index { index ≤ MOST_PERSONALITY }
@@ -93,21 +93,22 @@ fn long_entry(alloc: Global, index: u8, bytes: &[u8]) -> Result<Vec<u32>, AllocE
     Ok(words)
 }
 
-/// How many bytes of bytecode the entry of a personality has room for.
+/// The most bytes of bytecode in an entry of a personality.
 fn room(index: u8) -> usize
     ensures { result ≡ room index }
 {
     if index == 0 { SHORT_ROOM } else { LONG_ROOM }
 }
 
-/// The number of the personality routine: the given one, else 0 where the bytes have room in a short entry, else 1.
+/// The number of the personality routine: the given one; else 0 if the bytecode fits a short entry, and 1 if it
+/// doesn't.
 fn index_of(given: Option<u8>, bytes: &[u8]) -> u8
     ensures { result ≡ index_of given bytes.now }
 {
     given.unwrap_or(if bytes.len() <= SHORT_ROOM { 0 } else { 1 })
 }
 
-/// The entry of bytecode that has room in it.
+/// The entry of bytecode that fits.
 #[tactic(auto, unfolding(crate::specs::Entries::entry_of))]
 fn entry_of(
     alloc: Global,
@@ -135,7 +136,7 @@ fn entry_of(
     Ok(EntryWords::Table(TableWords::of_vec(words)))
 }
 
-/// The entry of a function's bytecode; TooLong exactly where it has no room.
+/// The entry of a function's bytecode. TooLong exactly if the bytecode doesn't fit.
 pub fn entry_of_code(
     alloc: Global,
     personality: Option<u8>,

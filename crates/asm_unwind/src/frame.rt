@@ -1,25 +1,27 @@
-//! The text of a frame: the directives of one function, and the entry that they make (docs/unwind-directives.md).
+//! Collects the unwind directives of a function and makes its entry (docs/rules/sources.md).
 ghost use Rattle.std.specs.Prelude.{◌≡◌, ℕ, ◌+◌, ◌≤◌, ◌++◌, ◌≢◌, Option, Some, None, IfOk, IfErr, OnOk, OnErr, All, List, [], ◌∷◌, Ok, Err, take_while, not, length};
-ghost use Rattle.asm_unwind.specs.Refusals.{is_frame_pointer, seen_in, refusal_of};
-ghost use Rattle.asm_unwind.specs.Codes.{is_no_pad, kept, reversed_bytes, bytecode_of, IsWritable, directive_codes};
-ghost use Rattle.unwind_codes.specs.Bytes.{code_bytes};
+ghost use Rattle.asm_unwind.specs.Refusals.{is_frame_pointer, directive_state_of, refusal_of};
+ghost use Rattle.asm_unwind.specs.Codes.{is_no_pad, with_pads_if, reversed_bytes, bytecode_of, IsWritable, directive_codes};
+ghost use Rattle.eh_codes.specs.Bytes.{code_bytes};
 ghost use Rattle.asm_unwind.specs.Entries.{entry_words_of};
 ghost use Rattle.asm_unwind.specs.declared.directive.UnwindFault.{UnwindFault};
 
 use crate::code::push_directive;
 use crate::directive::{UnwindDirective, UnwindFault};
 use crate::entry::{EntryWords, entry_of_code};
-use crate::seen::Seen;
+use crate::seen::DirectiveState;
 use std::alloc::{AllocError, Global};
 use std::marker::Model;
 
 impl UnwindDirective {
+    /// Whether the directive is `.setfp`.
     fn is_frame_pointer(self) -> bool
         ensures { result ≡ is_frame_pointer self }
     {
         matches!(self, UnwindDirective::SetFp(_, _))
     }
 
+    /// Whether the directive is anything but `.pad`.
     fn is_no_pad(self) -> bool
         ensures { result ≡ is_no_pad self }
     {
@@ -27,11 +29,11 @@ impl UnwindDirective {
     }
 }
 
-/// Appends the bytes of a directive, but of a pad only where pads count.
+/// Appends the bytecode of a directive; that of a `.pad` only if `pads`.
 #[tactic(auto, using(crate::proofs::Reversed::bytes_of_one), unfolding(crate::specs::Codes::reversed_bytes))]
 fn push_kept(bytes: &mut Vec<u8>, directive: UnwindDirective, pads: bool) -> Result<(), AllocError>
     requires { IsWritable directive }
-    ensures { OnOk result (bytes.new.items ≡ bytes.old.items ++ reversed_bytes (kept pads (directive ∷ []))) }
+    ensures { OnOk result (bytes.new.items ≡ bytes.old.items ++ reversed_bytes (with_pads_if pads (directive ∷ []))) }
 {
     if pads || directive.is_no_pad() {
         push_directive(bytes, directive)?;
@@ -39,14 +41,14 @@ fn push_kept(bytes: &mut Vec<u8>, directive: UnwindDirective, pads: bool) -> Res
     Ok(())
 }
 
-/// Appends the bytes of the directives in reverse order, with those of their pads or without.
+/// Appends the bytecode of the directives in reverse order; that of `.pad` only if `pads`.
 fn push_reversed(
     bytes: &mut Vec<u8>,
     directives: &[UnwindDirective],
     pads: bool,
 ) -> Result<(), AllocError>
     requires { All IsWritable directives.now }
-    ensures { OnOk result (bytes.new.items ≡ bytes.old.items ++ reversed_bytes (kept pads directives.now)) }
+    ensures { OnOk result (bytes.new.items ≡ bytes.old.items ++ reversed_bytes (with_pads_if pads directives.now)) }
 {
     let mut rest = directives;
     while let [front @ .., last] = rest {
@@ -56,7 +58,7 @@ fn push_reversed(
     Ok(())
 }
 
-/// How many directives stand in front of the first `.setfp`.
+/// How many directives precede the first `.setfp`.
 fn before_frame_pointer(directives: &[UnwindDirective]) -> usize
     ensures { result ≡ length (take_while (λ d. not (is_frame_pointer d)) directives.now) }
 {
@@ -66,7 +68,7 @@ fn before_frame_pointer(directives: &[UnwindDirective]) -> usize
         .count()
 }
 
-/// The bytecode of the directives of a function.
+/// The bytecode of a function's directives.
 #[tactic(auto, using(crate::proofs::Reversed::split_at_frame_pointer))]
 fn bytecode(alloc: Global, directives: &[UnwindDirective]) -> Result<Vec<u8>, AllocError>
     requires { All IsWritable directives.now }
@@ -79,11 +81,11 @@ fn bytecode(alloc: Global, directives: &[UnwindDirective]) -> Result<Vec<u8>, Al
     Ok(bytes)
 }
 
-/// The unwind directives of one function, in order of the text; contracts see their list.
+/// The unwind directives of one function, in the order of the text. Contracts see a list.
 #[derive(Drop)]
 pub struct FrameText {
     directives: Vec<UnwindDirective>,
-    seen: Seen,
+    seen: DirectiveState,
     alloc: Global,
 }
 
@@ -99,24 +101,23 @@ impl Model for FrameText {
     ghost invariant = { λ f. IsKept f.directives.items f.seen };
 }
 
-/// A frame without directives. It keeps the allocator, and takes no memory yet.
+/// A frame without directives. It keeps the allocator and allocates nothing yet.
 #[tactic(auto, using(crate::proofs::KeptLemmas::kept_none))]
 pub fn new_frame(alloc: Global) -> FrameText
     ensures { result ≡ [] }
 {
     FrameText {
         directives: Vec::new(alloc),
-        seen: Seen::nothing(),
+        seen: DirectiveState::nothing(),
         alloc,
     }
 }
 
 impl FrameText {
-    /// Takes the next directive of the text. A refusal leaves the frame as it was; the lowest refusal that holds is
-    /// answered.
+    /// Adds the next directive. A refusal leaves the frame unchanged; if several hold, the lowest is reported.
     pub fn directive(&mut self, d: UnwindDirective) -> Result<(), UnwindFault>
-        ensures ok { IfOk result (λ _. refusal_of (seen_in self.old) d ≡ None) }
-        ensures err { IfErr result (λ e. e ≢ UnwindFault.OutOfMemory → refusal_of (seen_in self.old) d ≡ Some e) }
+        ensures ok { IfOk result (λ _. refusal_of (directive_state_of self.old) d ≡ None) }
+        ensures err { IfErr result (λ e. e ≢ UnwindFault.OutOfMemory → refusal_of (directive_state_of self.old) d ≡ Some e) }
         ensures taken { OnOk result (self.new ≡ self.old ++ d ∷ []) }
         ensures unchanged { OnErr result (self.new ≡ self.old) }
     {
@@ -128,7 +129,7 @@ impl FrameText {
         Ok(())
     }
 
-    /// The entry by the directives so far.
+    /// The entry of the directives so far.
     #[tactic(auto, unfolding(crate::specs::Entries::entry_words_of))]
     fn entry(&self) -> Result<EntryWords, UnwindFault>
         ensures ok { IfOk result (λ entry. entry_words_of self.now ≡ Ok entry) }
@@ -149,9 +150,8 @@ impl FrameText {
         )
     }
 
-    /// The words of the index entry or table that the directives stand for. Refused before `.fnend`
-    /// (OutsideFunction), and where the bytecode has no room in the entry (TooLong); the frame is handed back then, as
-    /// it was.
+    /// The function's index entry or unwind table. Err, with the unchanged frame, before `.fnend` (OutsideFunction) or
+    /// if the bytecode doesn't fit the entry (TooLong).
     pub fn finish(self) -> Result<EntryWords, (UnwindFault, FrameText)>
         ensures ok { IfOk result (λ entry. entry_words_of self ≡ Ok entry) }
         ensures err { IfErr result (λ e. e.0 ≢ UnwindFault.OutOfMemory → entry_words_of self ≡ Err e.0) }

@@ -1,23 +1,29 @@
-//! What of a frame's directives decides whether the next one is refused (docs/unwind-directives.md).
+//! The state of a function's directives, which decides whether the next one is refused (docs/rules/sources.md).
 ghost use Rattle.std.specs.Prelude.{◌≡◌, ◌<◌, [], IfNone};
 ghost use Rattle.std.specs.Bool.{OnFalse};
-ghost use Rattle.asm_unwind.specs.Refusals.{HasNarrowList, has_register, is_start, is_end, is_outside, is_bad_save, is_bad_pad, is_bad_personality, seen_in, refusal_of, with_next};
+ghost use Rattle.asm_unwind.specs.Refusals.{HasNarrowList, has_register, is_start, is_end, is_outside, is_bad_save, is_bad_pad, is_bad_personality, directive_state_of, refusal_of, with_next};
 
 use crate::directive::{MOST_FRAME_OFFSET, MOST_PAD, UnwindDirective, UnwindFault};
-use unwind_codes::words::MOST_PERSONALITY;
+use eh_codes::words::MOST_PERSONALITY;
 
-/// What the directives of a function so far say that later ones depend on.
+/// What later directives depend on.
 #[derive(Clone, Copy)]
-pub struct Seen {
+pub struct DirectiveState {
+    /// Whether `.fnstart` was seen.
     pub started: bool,
+    /// Whether `.fnend` was seen.
     pub ended: bool,
+    /// Whether `.setfp` was seen.
     pub frame_pointer: bool,
+    /// The number of `.personalityindex`, if it was seen.
     pub personality: Option<u8>,
+    /// Whether `.cantunwind` was seen.
     pub cant_unwind: bool,
+    /// Whether `.handlerdata` was seen.
     pub handler_data: bool,
 }
 
-/// Whether the register is in the list.
+/// Whether a register list contains a register.
 fn has_register(registers: u16, register: u16) -> bool
     requires { register < 16 }
     ensures { result ≡ has_register registers register }
@@ -26,12 +32,14 @@ fn has_register(registers: u16, register: u16) -> bool
 }
 
 impl UnwindDirective {
+    /// Whether the directive is `.fnstart`.
     fn is_start(self) -> bool
         ensures { result ≡ is_start self }
     {
         matches!(self, UnwindDirective::FnStart)
     }
 
+    /// Whether the directive is `.fnend`.
     fn is_end(self) -> bool
         ensures { result ≡ is_end self }
     {
@@ -39,13 +47,13 @@ impl UnwindDirective {
     }
 }
 
-impl Seen {
-    /// Nothing seen yet.
-    #[tactic(auto, unfolding(crate::specs::Refusals::seen_in))]
-    pub fn nothing() -> Seen
-        ensures { result ≡ seen_in [] }
+impl DirectiveState {
+    /// The state before the first directive.
+    #[tactic(auto, unfolding(crate::specs::Refusals::directive_state_of))]
+    pub fn nothing() -> DirectiveState
+        ensures { result ≡ directive_state_of [] }
     {
-        Seen {
+        DirectiveState {
             started: false,
             ended: false,
             frame_pointer: false,
@@ -55,14 +63,14 @@ impl Seen {
         }
     }
 
-    /// It stands before `.fnstart` or after `.fnend`.
+    /// Whether the directive is before `.fnstart` or after `.fnend`.
     fn is_outside(self, next: UnwindDirective) -> bool
         ensures { result ≡ is_outside self next }
     {
         self.ended || (!self.started && !next.is_start())
     }
 
-    /// A register list that no code says, or one after `.setfp`.
+    /// Whether the directive is a `.save` that no bytecode expresses, or one after `.setfp`.
     fn is_bad_save(self, next: UnwindDirective) -> bool
         ensures value { result ≡ is_bad_save self next }
         ensures narrow { OnFalse result (HasNarrowList next) }
@@ -78,7 +86,8 @@ impl Seen {
         }
     }
 
-    /// An offset that no code says, or a register that is no frame pointer.
+    /// Whether the directive has a size or offset that no bytecode expresses, or a register that can't be a frame
+    /// pointer.
     fn is_bad_pad(next: UnwindDirective) -> bool
         ensures { result ≡ is_bad_pad next }
     {
@@ -91,6 +100,7 @@ impl Seen {
         }
     }
 
+    /// Whether the directive is a second personality number, or one above 2.
     fn is_bad_personality(self, next: UnwindDirective) -> bool
         ensures { result ≡ is_bad_personality self next }
     {
@@ -101,7 +111,7 @@ impl Seen {
         }
     }
 
-    /// Why the next directive is refused: the first condition that holds, in the order of the refusals' numbers.
+    /// Why the next directive is refused, or None; the first that holds, in the order of `UnwindFault`.
     #[tactic(auto, unfolding(crate::specs::Refusals::refusal_of))]
     pub fn refusal(self, next: UnwindDirective) -> Option<UnwindFault>
         ensures value { result ≡ refusal_of self next }
@@ -113,7 +123,7 @@ impl Seen {
             Some(UnwindFault::NestedFunction)
         } else if self.is_bad_save(next) {
             Some(UnwindFault::SaveRange)
-        } else if Seen::is_bad_pad(next) {
+        } else if DirectiveState::is_bad_pad(next) {
             Some(UnwindFault::PadRange)
         } else if self.is_bad_personality(next) {
             Some(UnwindFault::TwoPersonalities)
@@ -124,8 +134,8 @@ impl Seen {
         }
     }
 
-    /// What is seen with a directive more, which isn't refused.
-    pub fn with_next(self, next: UnwindDirective) -> Seen
+    /// The state after one more directive, which must not be refused.
+    pub fn with_next(self, next: UnwindDirective) -> DirectiveState
         ensures { result ≡ with_next self next }
     {
         let mut seen = self;

@@ -6,7 +6,7 @@ use Rattle.std.specs.Prelude.{bit_and}
 use Rattle.eh_bus.specs.Place.{IsWidth}
 use Rattle.eh_bus.specs.Segment.{Segment, Apart, holds}
 use Rattle.eh_bus.specs.Lists.{Has}
-use Rattle.eh_bus.specs.Memory.{Memory, fault_in, number_in, written, loads, load, store, store_run, run_fault, run_written, first_fault, load_fault, store_fault, slot_fault, guard_hit, is_closed, or_fault, unless_fault}
+use Rattle.eh_bus.specs.Memory.{Memory, fault_in, number_in, store_number, load_number, load, store, store_run, run_fault, store_words, first_fault, load_fault, store_fault, slot_fault, guard_hit, is_closed, or_fault, unless_fault}
 use Rattle.eh_bus.specs.declared.fault.BusFault.{BusFault}
 use Rattle.eh_bus.specs.declared.fault.BusFault.TheVariants.{Unaligned, ReadOnly, SavedSlot, Protected}
 use Rattle.eh_bus.proofs.WordLaws.{written_other, written_same, written_fault}
@@ -78,14 +78,14 @@ load_fault_none n a t c = rw (t, c)
 -- ---- one store
 
 pub record Stored (n : ℕ) (m : Memory) (a v : ℕ) (m' : Memory) : Type 0 where
-  pub after : m' ≡ record m { segments = written n m.segments a v }
+  pub after : m' ≡ record m { segments = store_number n m.segments a v }
   pub passed : fault_in (λ s. store_fault n m.guards s a) n m.segments a ≡ None
 
 pub stored : (n : ℕ) (m : Memory) (a v : ℕ) (m' : Memory) → store n m a v ≡ (Ok tt, m') → Stored n m a v m'
 stored n m a v m' e = go (fault_in (λ s. store_fault n m.guards s a) n m.segments a) refl e
   where
     go : (o : Option BusFault) → fault_in (λ s. store_fault n m.guards s a) n m.segments a ≡ o
-        → unless_fault o m (record m { segments = written n m.segments a v }) ≡ (Ok tt, m') → Stored n m a v m'
+        → unless_fault o m (record m { segments = store_number n m.segments a v }) ≡ (Ok tt, m') → Stored n m a v m'
     go None f e = record { after = sym (ap (λ (p : Result (Unit {0}) BusFault × Memory). p.1) e); passed = f }
     go (Some x) f e = absurd (let p : Err x ≡ Ok tt = ap (λ (p : Result (Unit {0}) BusFault × Memory). p.0) e in cc)
 
@@ -129,7 +129,7 @@ store_keeps_part n k m a v m' g b e h low high = store_apart n k m a v m' b e (p
 pub store_refused : (n : ℕ) (m : Memory) (a v : ℕ) (x : BusFault) (m' : Memory) → store n m a v ≡ (Err x, m') → m' ≡ m
 store_refused n m a v x m' e = go (fault_in (λ s. store_fault n m.guards s a) n m.segments a) e
   where
-    go : (o : Option BusFault) → unless_fault o m (record m { segments = written n m.segments a v }) ≡ (Err x, m') → m' ≡ m
+    go : (o : Option BusFault) → unless_fault o m (record m { segments = store_number n m.segments a v }) ≡ (Err x, m') → m' ≡ m
     go None e = absurd (let p : Ok tt ≡ Err x = ap (λ (p : Result (Unit {0}) BusFault × Memory). p.0) e in cc)
     go (Some y) e = sym (ap (λ (p : Result (Unit {0}) BusFault × Memory). p.1) e)
 
@@ -144,7 +144,7 @@ pub record Splits (m : Memory) (a w : ℕ) (ws : List ℕ) (m' : Memory) : Type 
   pub first : store 4 m a w ≡ (Ok tt, mid)
   pub rest : store_run mid ((a + 4) % 2 ^ 32) ws ≡ (Ok tt, m')
 
-pub run_fault_written : (gs : List ℕ) (ss : List Segment) (a b v : ℕ) (ws : List ℕ) → run_fault gs (written 4 ss b v) a ws ≡ run_fault gs ss a ws
+pub run_fault_written : (gs : List ℕ) (ss : List Segment) (a b v : ℕ) (ws : List ℕ) → run_fault gs (store_number 4 ss b v) a ws ≡ run_fault gs ss a ws
 run_fault_written gs ss a b v [] = refl
 run_fault_written gs ss a b v (w ∷ ws) = rw (written_fault 4 4 b a v (λ s. store_fault 4 gs s a) ss (λ s bs. refl), run_fault_written gs ss ((a + 4) % 2 ^ 32) b v ws)
 
@@ -152,9 +152,9 @@ pub splits : (m : Memory) (a w : ℕ) (ws : List ℕ) (m' : Memory) → store_ru
 splits m a w ws m' e = go (fault_in (λ s. store_fault 4 m.guards s a) 4 m.segments a) refl (run_fault m.guards m.segments ((a + 4) % 2 ^ 32) ws) refl e
   where
     go : (o : Option BusFault) → fault_in (λ s. store_fault 4 m.guards s a) 4 m.segments a ≡ o → (p : Option BusFault) → run_fault m.guards m.segments ((a + 4) % 2 ^ 32) ws ≡ p
-        → unless_fault (first_fault o p) m (record m { segments = run_written (written 4 m.segments a w) ((a + 4) % 2 ^ 32) ws }) ≡ (Ok tt, m') → Splits m a w ws m'
+        → unless_fault (first_fault o p) m (record m { segments = store_words (store_number 4 m.segments a w) ((a + 4) % 2 ^ 32) ws }) ≡ (Ok tt, m') → Splits m a w ws m'
     go None f None g e = record {
-      mid = record m { segments = written 4 m.segments a w };
+      mid = record m { segments = store_number 4 m.segments a w };
       first = rw f;
       rest = rw (run_fault_written m.guards m.segments ((a + 4) % 2 ^ 32) a w ws, g) e;
     }
@@ -162,14 +162,14 @@ splits m a w ws m' e = go (fault_in (λ s. store_fault 4 m.guards s a) 4 m.segme
     go (Some x) f p g e = absurd (let p : Err x ≡ Ok tt = ap (λ (p : Result (Unit {0}) BusFault × Memory). p.0) e in cc)
 
 pub record Ran (m : Memory) (a : ℕ) (ws : List ℕ) (m' : Memory) : Type 0 where
-  pub after : m' ≡ record m { segments = run_written m.segments a ws }
+  pub after : m' ≡ record m { segments = store_words m.segments a ws }
   pub passed : run_fault m.guards m.segments a ws ≡ None
 
 pub ran : (m : Memory) (a : ℕ) (ws : List ℕ) (m' : Memory) → store_run m a ws ≡ (Ok tt, m') → Ran m a ws m'
 ran m a ws m' e = go (run_fault m.guards m.segments a ws) refl e
   where
     go : (o : Option BusFault) → run_fault m.guards m.segments a ws ≡ o
-        → unless_fault o m (record m { segments = run_written m.segments a ws }) ≡ (Ok tt, m') → Ran m a ws m'
+        → unless_fault o m (record m { segments = store_words m.segments a ws }) ≡ (Ok tt, m') → Ran m a ws m'
     go None f e = record { after = sym (ap (λ (p : Result (Unit {0}) BusFault × Memory). p.1) e); passed = f }
     go (Some x) f e = absurd (let p : Err x ≡ Ok tt = ap (λ (p : Result (Unit {0}) BusFault × Memory). p.0) e in cc)
 
@@ -181,7 +181,7 @@ run_done m a ws m' e = let s = ran m a ws m' e in rw s.after refl
 pub run_refused : (m : Memory) (a : ℕ) (ws : List ℕ) (x : BusFault) (m' : Memory) → store_run m a ws ≡ (Err x, m') → m' ≡ m
 run_refused m a ws x m' e = go (run_fault m.guards m.segments a ws) e
   where
-    go : (o : Option BusFault) → unless_fault o m (record m { segments = run_written m.segments a ws }) ≡ (Err x, m') → m' ≡ m
+    go : (o : Option BusFault) → unless_fault o m (record m { segments = store_words m.segments a ws }) ≡ (Err x, m') → m' ≡ m
     go None e = absurd (let p : Ok tt ≡ Err x = ap (λ (p : Result (Unit {0}) BusFault × Memory). p.0) e in cc)
     go (Some y) e = sym (ap (λ (p : Result (Unit {0}) BusFault × Memory). p.1) e)
 
@@ -228,7 +228,7 @@ run_back m a (w ∷ ws) m' (suc i) e l ok h =
 -- ---- what can be loaded can still be loaded
 
 -- a load that is done has no fault
-pub loads_done : (k : ℕ) (ss : List Segment) (b w : ℕ) → loads k ss b ≡ Ok w → fault_in (λ s. load_fault k b) k ss b ≡ None
+pub loads_done : (k : ℕ) (ss : List Segment) (b w : ℕ) → load_number k ss b ≡ Ok w → fault_in (λ s. load_fault k b) k ss b ≡ None
 loads_done k ss b w e = go (fault_in (λ s. load_fault k b) k ss b) e
   where
     go : (o : Option BusFault) → or_fault o (number_in k ss b) ≡ Ok w → o ≡ None
@@ -238,7 +238,7 @@ loads_done k ss b w e = go (fault_in (λ s. load_fault k b) k ss b) e
 pub still_loads : (n k : ℕ) (m : Memory) (a v : ℕ) (m' : Memory) (b w : ℕ) → store n m a v ≡ (Ok tt, m') → load k m b ≡ Ok w → (w' : ℕ) × (load k m' b ≡ Ok w')
 still_loads n k m a v m' b w e l =
     let s = stored n m a v m' e in
-    (number_in k (written n m.segments a v) b, rw (s.after, written_fault n k a b v (λ s. load_fault k b) m.segments (λ s bs. refl), loads_done k m.segments b w l))
+    (number_in k (store_number n m.segments a v) b, rw (s.after, written_fault n k a b v (λ s. load_fault k b) m.segments (λ s bs. refl), loads_done k m.segments b w l))
 
 pub still_run : (k : ℕ) (m : Memory) (a : ℕ) (ws : List ℕ) (m' : Memory) (b w : ℕ) → store_run m a ws ≡ (Ok tt, m') → load k m b ≡ Ok w → (w' : ℕ) × (load k m' b ≡ Ok w')
 still_run k m a [] m' b w e l = let p : m ≡ m' = ap (λ (p : Result (Unit {0}) BusFault × Memory). p.1) e in (w, rw (← p) l)

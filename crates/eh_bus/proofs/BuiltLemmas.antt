@@ -8,8 +8,8 @@ use Rattle.std.proofs.lemmas.List.Sums.{sum_by-le}
 use Rattle.std.proofs.lemmas.List.Elements.{All-append, All-push}
 use Rattle.eh_bus.specs.Segment.{Segment, AreBytes, holds}
 use Rattle.eh_bus.specs.Map.{AreSegments, AreApart, IsData}
-use Rattle.eh_bus.specs.Built.{CanBuild, Fits, built, segment_of, zeros_at}
-use Rattle.eh_list.specs.Bytes.{zeros, length-zeros}
+use Rattle.eh_bus.specs.Built.{CanBuild, Fits, initial_memory, segment_of, zeros_at}
+use Rattle.eh_word.specs.Bytes.{zeros, length-zeros}
 use Rattle.eh_bus.specs.declared.segment.SegmentSpec.{SegmentSpec}
 use Rattle.eh_bus.proofs.Kept.{inside}
 use Rattle.eh_bus.specs.declared.map.TheConstants.{IMAGE_END, MAX_IMAGE_SIZE, POOL_SIZE, POOL_START, STACK_SIZE, STACK_START}
@@ -84,7 +84,7 @@ all_bytes image b zero d h = zeros_bytes STACK_SIZE
 all_bytes image b (suc zero) d h = zeros_bytes POOL_SIZE
 all_bytes image b (suc (suc i)) d h = b i d (omega arith)
 
-pub built_segments : (specs : List SegmentSpec) → CanBuild specs → All (λ (s : Segment). AreBytes s.bytes) (map segment_of specs) → AreSegments (built specs).segments
+pub built_segments : (specs : List SegmentSpec) → CanBuild specs → All (λ (s : Segment). AreBytes s.bytes) (map segment_of specs) → AreSegments (initial_memory specs).segments
 built_segments specs p b = record {
   bytes = all_bytes (map segment_of specs) b;
   two = omega arith;

@@ -1,11 +1,11 @@
 -- Stores keep the map, and code is fetched as before.
 use Rattle.std.proofs.Common.{◌≡◌, ℕ, ◌%◌, Bool, true, false, not, ◌&&◌, ◌==◌, nat_lt, ◌⊎◌, inl, inr, cond, List, [], ◌∷◌, Some, None, Ok, length, get_or, zero, suc, ◌+◌, ◌^◌, ◌<◌, ◌≤◌, Result, refl, sym, ap, ◌∙◌, arith, lit≤, if◌then◌else◌}
 use Rattle.eh_bus.specs.Segment.{Segment, AreBytes, holds, number_at, with_number_at}
-use Rattle.eh_bus.specs.Memory.{Memory, fault_in, number_in, written, store, store_run, loads, fetch, fetches, fetch_fault, or_fault, store_fault, host_store, guarded, released, stays_guarded}
+use Rattle.eh_bus.specs.Memory.{Memory, fault_in, number_in, store_number, store, store_run, load_number, fetch, fetches, fetch_fault, or_fault, store_fault, host_store, with_guard, without_guards_below, stays_guarded}
 use Rattle.std.proofs.lemmas.Bool.{ltb-true, ltb-false}
 use Rattle.std.specs.Prelude.{IsTrue, All}
 use Rattle.eh_bus.specs.Map.{SameMap, SameSegment, CodeIsFixed, AreApart, IsMap, IsFixed, Keeps, flat_home}
-use Rattle.eh_bus.specs.Built.{CanBuild, built}
+use Rattle.eh_bus.specs.Built.{CanBuild, initial_memory}
 use Rattle.eh_bus.specs.declared.segment.SegmentSpec.{SegmentSpec}
 use Rattle.eh_bus.proofs.BuiltLemmas.{built_segments, image_bytes}
 use Rattle.eh_bus.proofs.GuardOrder.{inserted_rises, filter_rises}
@@ -28,12 +28,12 @@ map_trans (s ∷ ss) (t ∷ ts) (u ∷ us) p q =
     let a = p.0 in let b = q.0 in
     (record { start = b.start ∙ a.start; size = b.size ∙ a.size; write = b.write ∙ a.write; exec = b.exec ∙ a.exec; fixed = λ e. b.fixed (a.write ∙ e) ∙ a.fixed e }, map_trans ss ts us p.1 q.1)
 
-written_map : (n a v : ℕ) (guards : List ℕ) (ss : List Segment) → fault_in (λ s. store_fault n guards s a) n ss a ≡ None → SameMap ss (written n ss a v)
+written_map : (n a v : ℕ) (guards : List ℕ) (ss : List Segment) → fault_in (λ s. store_fault n guards s a) n ss a ≡ None → SameMap ss (store_number n ss a v)
 written_map n a v guards [] e = tt
 written_map n a v guards (s ∷ ss) e = by_cases (holds s a n) refl (written_map n a v guards ss) e
   where
-    by_cases : (t : Bool) → holds s a n ≡ t → (fault_in (λ s. store_fault n guards s a) n ss a ≡ None → SameMap ss (written n ss a v))
-        → cond t (store_fault n guards s a) (fault_in (λ s. store_fault n guards s a) n ss a) ≡ None → SameMap (s ∷ ss) (cond t (with_number_at n s a v ∷ ss) (s ∷ written n ss a v))
+    by_cases : (t : Bool) → holds s a n ≡ t → (fault_in (λ s. store_fault n guards s a) n ss a ≡ None → SameMap ss (store_number n ss a v))
+        → cond t (store_fault n guards s a) (fault_in (λ s. store_fault n guards s a) n ss a) ≡ None → SameMap (s ∷ ss) (cond t (with_number_at n s a v ∷ ss) (s ∷ store_number n ss a v))
     by_cases true h next e =
         let w = (passes n guards s a e).writes in
         (record { start = refl; size = length_with n a v s h; write = refl; exec = refl; fixed = λ f. absurd (let g : true ≡ false = sym w ∙ f in cc) }, map_refl ss)
@@ -76,7 +76,7 @@ fetch_same m m' a p x = fetched a m.segments m'.segments p x
 
 -- ---- what a read-only segment holds is loaded as before
 
-pub fixed_loads : (n a : ℕ) (ss ts : List Segment) → SameMap ss ts → IsFixed n ss a → loads n ts a ≡ loads n ss a
+pub fixed_loads : (n a : ℕ) (ss ts : List Segment) → SameMap ss ts → IsFixed n ss a → load_number n ts a ≡ load_number n ss a
 fixed_loads n a [] [] p x = refl
 fixed_loads n a [] (t ∷ ts) p x = absurd p
 fixed_loads n a (s ∷ ss) [] p x = absurd p
@@ -87,7 +87,7 @@ fixed_loads n a (s ∷ ss) (t ∷ ts) p x =
   where
     go : (b : Bool) → holds s a n ≡ b → holds t a n ≡ holds s a n → (w : Bool) → s.write ≡ w
         → cond b (cond w (Some (ReadOnly a)) None) (fault_in (λ s. if s.write then Some (ReadOnly a) else None) n ss a) ≡ None
-        → (IsFixed n ss a → loads n ts a ≡ loads n ss a) → loads n (t ∷ ts) a ≡ loads n (s ∷ ss) a
+        → (IsFixed n ss a → load_number n ts a ≡ load_number n ss a) → load_number n (t ∷ ts) a ≡ load_number n (s ∷ ss) a
     go true b h true w x next = absurd (cc)
     go true b h false w x next = rw (h, b, (p.0).start, (p.0).fixed w) refl
     go false b h w o x next = rw (h, b) (next x)
@@ -139,13 +139,13 @@ run_is_map m a ws m' e x =
 pub host_is_map : (m : Memory) (a v : ℕ) → IsMap m → IsMap (host_store m a v)
 host_is_map m a v x = record { segments = kept 4 a v m.segments x.segments; guards = x.guards; home = x.home }
 
-pub guarded_is_map : (m : Memory) (a : ℕ) → a % 4 ≡ 0 → STACK_START ≤ a → a < STACK_END → IsMap m → IsMap (guarded m a)
+pub guarded_is_map : (m : Memory) (a : ℕ) → a % 4 ≡ 0 → STACK_START ≤ a → a < STACK_END → IsMap m → IsMap (with_guard m a)
 guarded_is_map m a e l h x = record { segments = x.segments; guards = inserted_rises STACK_START a m.guards l e h x.guards; home = x.home }
 
-pub released_is_map : (m : Memory) (a : ℕ) → IsMap m → IsMap (released m a)
+pub released_is_map : (m : Memory) (a : ℕ) → IsMap m → IsMap (without_guards_below m a)
 released_is_map m a x = record { segments = x.segments; guards = filter_rises (stays_guarded m.home a) STACK_START m.guards x.guards; home = x.home }
 
-pub built_is_map : (specs : List SegmentSpec) → CanBuild specs → All (λ (spec : SegmentSpec). AreBytes spec.bytes.now) specs → IsMap (built specs)
+pub built_is_map : (specs : List SegmentSpec) → CanBuild specs → All (λ (spec : SegmentSpec). AreBytes spec.bytes.now) specs → IsMap (initial_memory specs)
 built_is_map specs p b = record { segments = built_segments specs p (image_bytes specs b); guards = lit≤ tt; home = flat_home }
 
 -- ---- segments that are apart

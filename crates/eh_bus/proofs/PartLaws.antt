@@ -8,9 +8,9 @@ use Rattle.eh_bus.specs.Lists.{Has}
 use Rattle.eh_bus.specs.Guards.{RiseFrom}
 use Rattle.eh_bus.specs.Place.{IsWidth}
 use Rattle.eh_bus.specs.Map.{AreSegments, IsData, IsMap, SameMap}
-use Rattle.eh_bus.specs.Built.{GivesImage, built, segment_of, zeros_at}
-use Rattle.eh_list.specs.Bytes.{zeros}
-use Rattle.eh_bus.specs.Memory.{Memory, fault_in, number_in, written, loads, load, fetch, fetches, store, store_run, load_fault, store_fault, guard_hit, is_closed, host_load, host_store}
+use Rattle.eh_bus.specs.Built.{GivesImage, initial_memory, segment_of, zeros_at}
+use Rattle.eh_word.specs.Bytes.{zeros}
+use Rattle.eh_bus.specs.Memory.{Memory, fault_in, number_in, store_number, load_number, load, fetch, fetches, store, store_run, load_fault, store_fault, guard_hit, is_closed, host_load, host_store}
 use Rattle.eh_bus.specs.declared.fault.BusFault.{BusFault}
 use Rattle.eh_bus.specs.declared.fault.BusFault.TheVariants.{SavedSlot}
 use Rattle.eh_bus.specs.declared.segment.SegmentSpec.{SegmentSpec}
@@ -62,7 +62,7 @@ pub host_other : (m : Memory) (a v b : ℕ) → Apart a 4 b 4 → host_load (hos
 host_other m a v b o = written_other 4 4 a b v m.segments o
 
 -- and so is a load elsewhere
-pub host_apart : (k : ℕ) (m : Memory) (a v b : ℕ) → Apart a 4 b k → loads k (host_store m a v).segments b ≡ loads k m.segments b
+pub host_apart : (k : ℕ) (m : Memory) (a v b : ℕ) → Apart a 4 b k → load_number k (host_store m a v).segments b ≡ load_number k m.segments b
 host_apart k m a v b o = rw (written_fault 4 k a b v (λ s. load_fault k b) m.segments (λ s bs. refl), written_other 4 k a b v m.segments o) refl
 
 -- the host's stores keep the map
@@ -131,14 +131,14 @@ open_above : (a : ℕ) → POOL_END ≤ a → is_closed a ≡ false
 open_above a h = rw (le-leb POOL_START a (omega arith), le-ltb a POOL_END h) refl
 
 -- the words of the stack can be loaded
-pub stack_loads : (ss : List Segment) → AreSegments ss → (a : ℕ) → STACK_START ≤ a → a + 4 ≤ STACK_END → a % 4 ≡ 0 → (v : ℕ) × (loads 4 ss a ≡ Ok v)
+pub stack_loads : (ss : List Segment) → AreSegments ss → (a : ℕ) → STACK_START ≤ a → a + 4 ≤ STACK_END → a % 4 ≡ 0 → (v : ℕ) × (load_number 4 ss a ≡ Ok v)
 stack_loads ss x a l h e =
     let p = parts ss x in
     (number_in 4 ss a, rw (stack_fault ss p (λ s. load_fault 4 a) 4 a l h, e, open_above a (omega arith)) refl)
 
 -- and stored where no guard stands
 pub stack_stores : (n : ℕ) (m : Memory) (a v : ℕ) → AreSegments m.segments → STACK_START ≤ a → a + n ≤ STACK_END → (a % n == 0) ≡ true → guard_hit m.guards a n ≡ None
-    → store n m a v ≡ (Ok tt, record m { segments = written n m.segments a v })
+    → store n m a v ≡ (Ok tt, record m { segments = store_number n m.segments a v })
 stack_stores n m a v x l h e g =
     let p = parts m.segments x in
     rw (stack_fault m.segments p (λ s. store_fault n m.guards s a) n a l h, e, (p.stack_at).writes, g, open_above a (omega arith)) refl
@@ -184,7 +184,7 @@ guarded_refused n m a v g x w e h l u =
 
 -- ---- the image
 
-pub image_loads : (ss : List Segment) (p : Parts ss) (n a : ℕ) → a < IMAGE_END → loads n ss a ≡ loads n p.image a
+pub image_loads : (ss : List Segment) (p : Parts ss) (n a : ℕ) → a < IMAGE_END → load_number n ss a ≡ load_number n p.image a
 image_loads ss p n a h =
     rw (p.is, data_misses p.stack STACK_START STACK_SIZE a n p.stack_at (omega arith), data_misses p.pool POOL_START POOL_SIZE a n p.pool_at (omega arith)) refl
 
@@ -209,7 +209,7 @@ zeros_number n i size = zero_from 0 n (drop i (zeros size)) (λ k. rw (get_or-dr
 
 -- ---- what was just built
 
-pub built_pool : (specs : List SegmentSpec) (a : ℕ) → POOL_START ≤ a → a + 4 ≤ POOL_END → host_load (built specs) a ≡ 0
+pub built_pool : (specs : List SegmentSpec) (a : ℕ) → POOL_START ≤ a → a + 4 ≤ POOL_END → host_load (initial_memory specs) a ≡ 0
 built_pool specs a l h =
     rw (
       data_misses (zeros_at STACK_START STACK_SIZE) STACK_START STACK_SIZE a 4 (zeros_data STACK_START STACK_SIZE) (omega arith),
@@ -217,7 +217,7 @@ built_pool specs a l h =
     )
     (zeros_number 4 (a - POOL_START) POOL_SIZE)
 
-pub built_stack : (specs : List SegmentSpec) (a : ℕ) → STACK_START ≤ a → a + 4 ≤ STACK_END → a % 4 ≡ 0 → load 4 (built specs) a ≡ Ok 0
+pub built_stack : (specs : List SegmentSpec) (a : ℕ) → STACK_START ≤ a → a + 4 ≤ STACK_END → a % 4 ≡ 0 → load 4 (initial_memory specs) a ≡ Ok 0
 built_stack specs a l h e =
     rw (
       data_holds (zeros_at STACK_START STACK_SIZE) STACK_START STACK_SIZE a 4 (zeros_data STACK_START STACK_SIZE) l (omega arith),
@@ -227,7 +227,7 @@ built_stack specs a l h e =
     )
     refl
 
-pub built_image : (specs : List SegmentSpec) (n a : ℕ) → a < IMAGE_END → load n (built specs) a ≡ loads n (map segment_of specs) a
+pub built_image : (specs : List SegmentSpec) (n a : ℕ) → a < IMAGE_END → load n (initial_memory specs) a ≡ load_number n (map segment_of specs) a
 built_image specs n a h =
     rw (
       data_misses (zeros_at STACK_START STACK_SIZE) STACK_START STACK_SIZE a n (zeros_data STACK_START STACK_SIZE) (omega arith),
@@ -235,7 +235,7 @@ built_image specs n a h =
     )
     refl
 
-pub built_fetch : (specs : List SegmentSpec) (a : ℕ) → a < IMAGE_END → fetch (built specs) a ≡ fetches (map segment_of specs) a
+pub built_fetch : (specs : List SegmentSpec) (a : ℕ) → a < IMAGE_END → fetch (initial_memory specs) a ≡ fetches (map segment_of specs) a
 built_fetch specs a h =
     rw (
       data_misses (zeros_at STACK_START STACK_SIZE) STACK_START STACK_SIZE a 2 (zeros_data STACK_START STACK_SIZE) (omega arith),
@@ -243,7 +243,7 @@ built_fetch specs a h =
     )
     refl
 
-pub gives_image : (specs : List SegmentSpec) → GivesImage specs (built specs)
+pub gives_image : (specs : List SegmentSpec) → GivesImage specs (initial_memory specs)
 gives_image specs = record {
   loads = λ n a h. built_image specs n a h;
   fetches = λ a h. built_fetch specs a h;

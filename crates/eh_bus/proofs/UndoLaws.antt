@@ -7,7 +7,7 @@ use Rattle.std.proofs.lemmas.Grind.{same_number_lists}
 use Rattle.byteorder.specs.Endian.{little_bytes}
 use Rattle.byteorder.specs.Numbers.{length-bytes_low_first}
 use Rattle.eh_bus.specs.Segment.{Segment, AreBytes, Apart, holds, number_at, with_number_at}
-use Rattle.eh_bus.specs.Memory.{Memory, fault_in, number_in, written, loads, load, store, store_run, run_fault, run_written, first_fault, load_fault, store_fault, or_fault, host_load, host_store}
+use Rattle.eh_bus.specs.Memory.{Memory, fault_in, number_in, store_number, load_number, load, store, store_run, run_fault, store_words, first_fault, load_fault, store_fault, or_fault, host_load, host_store}
 use Rattle.eh_bus.specs.Map.{AreSegments, IsMap}
 use Rattle.eh_bus.specs.Undo.{Undoable, WordUndoable, RunUndoable}
 use Rattle.eh_bus.specs.declared.fault.BusFault.{BusFault}
@@ -103,32 +103,32 @@ seg_swap n m a b v u s h g o =
 -- ---- all segments
 
 written_back : (n a v : ℕ) (f : Segment → Option BusFault) (ss : List Segment) → fault_in f n ss a ≡ None → ((k : ℕ) (d : Segment) → k < length ss → AreBytes (get_or ss k d).bytes)
-    → written n (written n ss a v) a (number_in n ss a) ≡ ss
+    → store_number n (store_number n ss a v) a (number_in n ss a) ≡ ss
 written_back n a v f [] e b = refl
 written_back n a v f (s ∷ more) e b = at_a (holds s a n) refl (λ e. written_back n a v f more e (λ k d l. b (suc k) d (omega arith)))
   where
-    at_a : (t : Bool) → holds s a n ≡ t → (fault_in f n more a ≡ None → written n (written n more a v) a (number_in n more a) ≡ more)
-        → written n (cond t (with_number_at n s a v ∷ more) (s ∷ written n more a v)) a (cond t (number_at n s a) (number_in n more a)) ≡ s ∷ more
+    at_a : (t : Bool) → holds s a n ≡ t → (fault_in f n more a ≡ None → store_number n (store_number n more a v) a (number_in n more a) ≡ more)
+        → store_number n (cond t (with_number_at n s a v ∷ more) (s ∷ store_number n more a v)) a (cond t (number_at n s a) (number_in n more a)) ≡ s ∷ more
     at_a true h next = rw (holds_with n n a a v s h, h) (ap (λ x. x ∷ more) (seg_back n a v s h (b 0 s (omega arith))))
     at_a false h next = rw h (ap (λ ss. s ∷ ss) (next (rw h at e)))
 
-written_swap : (n m a b v u : ℕ) (ss : List Segment) → Apart a n b m → written n (written m ss b u) a v ≡ written m (written n ss a v) b u
+written_swap : (n m a b v u : ℕ) (ss : List Segment) → Apart a n b m → store_number n (store_number m ss b u) a v ≡ store_number m (store_number n ss a v) b u
 written_swap n m a b v u [] o = refl
 written_swap n m a b v u (s ∷ more) o = at_a (holds s a n) refl (holds s b m) refl (written_swap n m a b v u more o)
   where
-    at_a : (t : Bool) → holds s a n ≡ t → (w : Bool) → holds s b m ≡ w → written n (written m more b u) a v ≡ written m (written n more a v) b u
-        → written n (cond w (with_number_at m s b u ∷ more) (s ∷ written m more b u)) a v ≡ written m (cond t (with_number_at n s a v ∷ more) (s ∷ written n more a v)) b u
+    at_a : (t : Bool) → holds s a n ≡ t → (w : Bool) → holds s b m ≡ w → store_number n (store_number m more b u) a v ≡ store_number m (store_number n more a v) b u
+        → store_number n (cond w (with_number_at m s b u ∷ more) (s ∷ store_number m more b u)) a v ≡ store_number m (cond t (with_number_at n s a v ∷ more) (s ∷ store_number n more a v)) b u
     at_a true h true g next = rw (holds_with m n b a u s g, holds_with n m a b v s h, h, g) (ap (λ x. x ∷ more) (seg_swap n m a b v u s h g o))
     at_a true h false g next = rw (holds_with n m a b v s h, h, g) refl
     at_a false h true g next = rw (holds_with m n b a u s g, h, g) refl
     at_a false h false g next = rw (h, g) (ap (λ ss. s ∷ ss) next)
 
 run_swap : (a v : ℕ) (ws : List ℕ) (b : ℕ) (ss : List Segment) → Apart a 4 b (4 * length ws) → b + 4 * length ws < 2 ^ 32
-    → run_written (written 4 ss a v) b ws ≡ written 4 (run_written ss b ws) a v
+    → store_words (store_number 4 ss a v) b ws ≡ store_number 4 (store_words ss b ws) a v
 run_swap a v [] b ss o l = refl
 run_swap a v (w ∷ ws) b ss o l =
     let next : (b + 4) % 2 ^ 32 ≡ b + 4 = omega arith in
-    rw (written_swap 4 4 b a w v ss (first o), next) (run_swap a v ws (b + 4) (written 4 ss b w) (rest o) (omega arith))
+    rw (written_swap 4 4 b a w v ss (first o), next) (run_swap a v ws (b + 4) (store_number 4 ss b w) (rest o) (omega arith))
   where
     first : Apart a 4 b (4 * length (w ∷ ws)) → Apart b 4 a 4
     first (inl p) = inr p
@@ -148,7 +148,7 @@ store_loads n m a v m' e =
     let fine = fault_less n a f (λ d. load_fault n a) m.segments (λ d p. let q = passes n m.guards d a p in load_fault_none n a q.aligned q.opened) s.passed in
     rw fine refl
 
-loaded : (n : ℕ) (ss : List Segment) (a v : ℕ) → loads n ss a ≡ Ok v → v ≡ number_in n ss a
+loaded : (n : ℕ) (ss : List Segment) (a v : ℕ) → load_number n ss a ≡ Ok v → v ≡ number_in n ss a
 loaded n ss a v e = go (fault_in (λ s. load_fault n a) n ss a) e
   where
     go : (o : Option BusFault) → or_fault o (number_in n ss a) ≡ Ok v → v ≡ number_in n ss a
@@ -248,33 +248,33 @@ word_under [] ss a i h = absurd (omega arith)
 word_under (w ∷ ws) ss a zero h = let e : a + 4 * 0 ≡ a = omega arith in rw e refl
 word_under (w ∷ ws) ss a (suc i) h = let e : a + 4 * suc i ≡ a + 4 + 4 * i = omega arith in rw e (word_under ws ss (a + 4) i (omega arith))
 
-under_same : (ws : List ℕ) (ss : List Segment) (a b v : ℕ) → a + 4 ≤ b → words_under ws (written 4 ss a v) b ≡ words_under ws ss b
+under_same : (ws : List ℕ) (ss : List Segment) (a b v : ℕ) → a + 4 ≤ b → words_under ws (store_number 4 ss a v) b ≡ words_under ws ss b
 under_same [] ss a b v h = refl
 under_same (w ∷ ws) ss a b v h = rw (written_other 4 4 a b v ss (inl h), under_same ws ss a (b + 4) v (omega arith)) refl
 
 run_back_to : (gs : List ℕ) (a : ℕ) (ws : List ℕ) (ss : List Segment) → AreSegments ss → run_fault gs ss a ws ≡ None → a + 4 * length ws < 2 ^ 32
-    → run_written (run_written ss a ws) a (words_under ws ss a) ≡ ss
+    → store_words (store_words ss a ws) a (words_under ws ss a) ≡ ss
 run_back_to gs a [] ss x e l = refl
 run_back_to gs a (w ∷ ws) ss x e l =
     let next : (a + 4) % 2 ^ 32 ≡ a + 4 = omega arith in
     let f = both gs ss a w ws e in
     let old = number_in 4 ss a in
     let olds = words_under ws ss (a + 4) in
-    let mid = written 4 ss a w in
-    let new = run_written mid (a + 4) ws in
+    let mid = store_number 4 ss a w in
+    let new = store_words mid (a + 4) ws in
     let rest : run_fault gs mid (a + 4) ws ≡ None = run_fault_written gs ss (a + 4) a w ws ∙ rw next at f.rest in
     let back = run_back_to gs (a + 4) ws mid (kept 4 a w ss x) rest (omega arith) in
-    let undone : run_written new (a + 4) olds ≡ mid = rw (under_same ws ss a (a + 4) w (omega arith)) at back in
+    let undone : store_words new (a + 4) olds ≡ mid = rw (under_same ws ss a (a + 4) w (omega arith)) at back in
     let size = length-under ws ss (a + 4) in
     let swap = run_swap a old olds (a + 4) new (inl (omega arith)) (omega arith) in
     let one = written_back 4 a w (λ s. store_fault 4 gs s a) ss f.first x.bytes in
-    let first : run_written ss a (w ∷ ws) ≡ new = ap (λ (p : ℕ). run_written mid p ws) next in
-    let step : run_written new a (words_under (w ∷ ws) ss a) ≡ run_written (written 4 new a old) (a + 4) olds = ap (λ (p : ℕ). run_written (written 4 new a old) p olds) next in
-    ap (λ (s : List Segment). run_written s a (words_under (w ∷ ws) ss a)) first ∙ step ∙ swap ∙ ap (λ (s : List Segment). written 4 s a old) undone ∙ one
+    let first : store_words ss a (w ∷ ws) ≡ new = ap (λ (p : ℕ). store_words mid p ws) next in
+    let step : store_words new a (words_under (w ∷ ws) ss a) ≡ store_words (store_number 4 new a old) (a + 4) olds = ap (λ (p : ℕ). store_words (store_number 4 new a old) p olds) next in
+    ap (λ (s : List Segment). store_words s a (words_under (w ∷ ws) ss a)) first ∙ step ∙ swap ∙ ap (λ (s : List Segment). store_number 4 s a old) undone ∙ one
 
-run_fault_run : (gs : List ℕ) (b : ℕ) (ws : List ℕ) (ss : List Segment) (a : ℕ) (vs : List ℕ) → run_fault gs (run_written ss b ws) a vs ≡ run_fault gs ss a vs
+run_fault_run : (gs : List ℕ) (b : ℕ) (ws : List ℕ) (ss : List Segment) (a : ℕ) (vs : List ℕ) → run_fault gs (store_words ss b ws) a vs ≡ run_fault gs ss a vs
 run_fault_run gs b [] ss a vs = refl
-run_fault_run gs b (w ∷ ws) ss a vs = run_fault_run gs ((b + 4) % 2 ^ 32) ws (written 4 ss b w) a vs ∙ run_fault_written gs ss a b w vs
+run_fault_run gs b (w ∷ ws) ss a vs = run_fault_run gs ((b + 4) % 2 ^ 32) ws (store_number 4 ss b w) a vs ∙ run_fault_written gs ss a b w vs
 
 -- only how many words are stored tells whether they can be
 run_fault_count : (gs : List ℕ) (ss : List Segment) (a : ℕ) (vs ws : List ℕ) → length vs ≡ length ws → run_fault gs ss a vs ≡ run_fault gs ss a ws
@@ -283,7 +283,7 @@ run_fault_count gs ss a [] (w ∷ ws) e = absurd (omega arith)
 run_fault_count gs ss a (v ∷ vs) [] e = absurd (omega arith)
 run_fault_count gs ss a (v ∷ vs) (w ∷ ws) e = rw (run_fault_count gs ss ((a + 4) % 2 ^ 32) vs ws (omega arith)) refl
 
-run_loads : (gs : List ℕ) (ss : List Segment) (a : ℕ) (ws : List ℕ) (i : ℕ) → run_fault gs ss a ws ≡ None → a + 4 * length ws < 2 ^ 32 → i < length ws → loads 4 ss (a + 4 * i) ≡ Ok (number_in 4 ss (a + 4 * i))
+run_loads : (gs : List ℕ) (ss : List Segment) (a : ℕ) (ws : List ℕ) (i : ℕ) → run_fault gs ss a ws ≡ None → a + 4 * length ws < 2 ^ 32 → i < length ws → load_number 4 ss (a + 4 * i) ≡ Ok (number_in 4 ss (a + 4 * i))
 run_loads gs ss a [] i e l h = absurd (omega arith)
 run_loads gs ss a (w ∷ ws) zero e l h =
     let f = both gs ss a w ws e in
@@ -312,6 +312,6 @@ run_undoable m a ws m' small x e =
 
     back : Ran m a ws m' → a + 4 * length ws < 2 ^ 32 → (words : List ℕ) → length words ≡ length ws → words ≡ words_under ws m.segments a → store_run m' a words ≡ (Ok tt, m)
     back s low words count e =
-        let fine : run_fault m.guards (run_written m.segments a ws) a words ≡ None = run_fault_run m.guards a ws m.segments a words ∙ run_fault_count m.guards m.segments a words ws count ∙ s.passed in
-        let undone : run_written (run_written m.segments a ws) a words ≡ m.segments = rw e (run_back_to m.guards a ws m.segments x.segments s.passed low) in
+        let fine : run_fault m.guards (store_words m.segments a ws) a words ≡ None = run_fault_run m.guards a ws m.segments a words ∙ run_fault_count m.guards m.segments a words ws count ∙ s.passed in
+        let undone : store_words (store_words m.segments a ws) a words ≡ m.segments = rw e (run_back_to m.guards a ws m.segments x.segments s.passed low) in
         rw (s.after, fine, undone) refl

@@ -1,19 +1,19 @@
--- The guarded words of the stack: addresses of words, strictly rising.
+-- The guarded words of the stack: addresses of words, strictly ascending.
 use Rattle.std.specs.Prelude.{◌≡◌, ℕ, ◌+◌, ◌%◌, ◌≤◌, ◌==◌, nat_lt, List, [], ◌∷◌, if◌then◌else◌}
 use Rattle.std.specs.Coded.{×_prop, le_prop, Coded-set, coded_ℕ}
 use Rattle.eh_bus.specs.declared.map.TheConstants.{STACK_END, STACK_START}
 
 -- with the word at a
-abbrev pub inserted : ℕ → List ℕ → List ℕ
-inserted a [] = a ∷ []
-inserted a (g ∷ more) = if nat_lt g a then g ∷ inserted a more else (if g == a then g ∷ more else a ∷ g ∷ more)
+abbrev pub insert_sorted : ℕ → List ℕ → List ℕ
+insert_sorted a [] = a ∷ []
+insert_sorted a (g ∷ more) = if nat_lt g a then g ∷ insert_sorted a more else (if g == a then g ∷ more else a ∷ g ∷ more)
 
--- with all of these words, the last of them put in first
+-- with all of these words inserted, the last one first
 abbrev pub insert_all : List ℕ → List ℕ → List ℕ
 insert_all [] guards = guards
-insert_all (a ∷ more) guards = inserted a (insert_all more guards)
+insert_all (a ∷ more) guards = insert_sorted a (insert_all more guards)
 
--- words from low on, one above the other, that end by the end of the stack
+-- ascending, non-overlapping words from low on, up to the end of the stack
 abbrev pub RiseFrom : ℕ → List ℕ → Type 0
 RiseFrom low [] = low ≤ STACK_END
 RiseFrom low (g ∷ more) = (low ≤ g) × ((g % 4 ≡ 0) × RiseFrom (g + 4) more)

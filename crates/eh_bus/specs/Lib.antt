@@ -6,3 +6,4 @@ pub mod Map
 pub mod Undo
 pub mod Built
 pub mod Place
+pub mod eh_word

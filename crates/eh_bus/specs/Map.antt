@@ -1,4 +1,4 @@
--- The map that every bus has, and what no call changes of it.
+-- The map that every bus has, and what no call changes.
 use Rattle.std.specs.Prelude.{◌≡◌, ℕ, ◌+◌, ◌%◌, ◌<◌, ◌≤◌, true, false, ◌&&◌, List, [], ◌∷◌, length, slice_index_or, IsTrue, All, Some, None, if◌then◌else◌}
 use Rattle.std.proofs.Common.{refl, lit<, lit≤}
 use Rattle.eh_bus.specs.Segment.{Segment, AreBytes, holds}
@@ -7,7 +7,7 @@ use Rattle.eh_bus.specs.Memory.{Memory, fault_in, load, fetch}
 use Rattle.eh_bus.specs.declared.fault.BusFault.TheVariants.{ReadOnly}
 use Rattle.eh_bus.specs.declared.map.TheConstants.{IMAGE_END, POOL_SIZE, POOL_START, STACK_END, STACK_SIZE, STACK_START}
 
--- a segment of this place and size that may be written and not executed
+-- a writable, not executable segment of this address and size
 pub record IsData (s : Segment) (start size : ℕ) : Type 0 where
   pub starts : s.start ≡ start
   pub sized : length s.bytes ≡ size
@@ -63,19 +63,19 @@ SameMap (s ∷ ss) (t ∷ ts) = SameSegment s t × SameMap ss ts
 SameMap [] (t ∷ ts) = ⊥
 SameMap (s ∷ ss) [] = ⊥
 
--- the segment that holds the n bytes from a on may not be written
+-- the segment that contains the n bytes from a on isn't writable
 abbrev pub IsFixed : ℕ → List Segment → ℕ → Type 0
 IsFixed n segments a = fault_in (λ s. if s.write then Some (ReadOnly a) else None) n segments a ≡ None
 
--- what no call of a bus changes: where segments lie, their rights and the running stack, and what a segment that may
--- not be written gives to loads and fetches, whatever the other segments may be
+-- What no call of a bus changes: the addresses and rights of segments, the running stack, and what loads and fetches
+-- give in a segment that isn't writable, whatever the other segments are.
 pub record Keeps (old new : Memory) : Type 0 where
   pub map : SameMap old.segments new.segments
   pub home : new.home ≡ old.home
   pub loads : (n a : ℕ) → IsFixed n old.segments a → load n new a ≡ load n old a
   pub fetches : (a : ℕ) → IsFixed 2 old.segments a → fetch new a ≡ fetch old a
 
--- no segment may be both written and executed
+-- no segment is both writable and executable
 abbrev pub CodeIsFixed : List Segment → Type 0
 CodeIsFixed [] = Unit {0}
 CodeIsFixed (s ∷ ss) = ((s.write && s.exec) ≡ false) × CodeIsFixed ss

@@ -1,4 +1,4 @@
--- A run of bytes at an address, with its rights.
+-- Bytes at an address, with access rights.
 use Rattle.std.specs.Prelude.{ℕ, ◌+◌, ◌-◌, ◌<◌, ◌≤◌, ◌⊎◌, Bool, ◌&&◌, nat_le, List, length, take, drop, ◌++◌, All}
 use Rattle.byteorder.specs.Endian.{little_number, little_bytes}
 
@@ -26,6 +26,6 @@ with_number_at n s a v = record s {
   bytes = take (a - s.start) s.bytes ++ (little_bytes n v ++ drop (a - s.start + n) s.bytes);
 }
 
--- the n bytes from a on and the m bytes from b on have no byte in common
+-- the n bytes from a on and the m bytes from b on don't overlap
 abbrev pub Apart : ℕ → ℕ → ℕ → ℕ → Type 0
 Apart a n b m = (a + n ≤ b) ⊎ (b + m ≤ a)

@@ -1,8 +1,8 @@
--- What it takes to undo a store: the numbers that stood there, as loads give them before it.
+-- How a store is undone: by storing the numbers that loads gave before it.
 use Rattle.std.specs.Prelude.{◌≡◌, ℕ, ◌+◌, ◌*◌, ◌<◌, List, length, slice_index, Ok}
 use Rattle.eh_bus.specs.Memory.{Memory, load, store, store_run, host_load, host_store}
 
--- a store of n bytes at a made the memory new of old
+-- a store of n bytes at a made the memory new from old
 pub record Undoable (n : ℕ) (old : Memory) (a : ℕ) (new : Memory) : Type 0 where
   -- what it overwrote could be loaded
   pub loads : (v : ℕ) × (load n old a ≡ Ok v)
@@ -14,9 +14,9 @@ pub record WordUndoable (old : Memory) (a : ℕ) (new : Memory) : Type 0 where
   pub store : Undoable 4 old a new
   pub host : host_store new a (host_load old a) ≡ old
 
--- n words stored upwards from a on made the memory new of old
+-- n words stored upwards from a on made the memory new from old
 pub record RunUndoable (n : ℕ) (old : Memory) (a : ℕ) (new : Memory) : Type 0 where
-  -- each word that it overwrote could be loaded
+  -- each overwritten word could be loaded
   pub loads : (i : ℕ) → i < n → (v : ℕ) × (load 4 old (a + 4 * i) ≡ Ok v)
   -- and a run of these words gives the old memory
   pub back :

@@ -1,5 +1,5 @@
-//! The memory of the machine as every memory meets it: segments of bytes, guarded words of the stack, and the closed part of the
-//! pool (docs/memory-map.md). The memories themselves are in bus_memories.
+//! The machine's memory as a trait: segments of bytes, guarded words of the stack, and the pool with its closed parts
+//! (docs/rules/memory.md). The memories that implement it are in mem_buses.
 #![tactic(auto)]
 
 pub mod bus;

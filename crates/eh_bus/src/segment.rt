@@ -1,11 +1,16 @@
-//! A segment that is asked for (docs/memory-map.md).
+//! The description of a segment to make (docs/rules/memory.md).
 
-/// A segment that is asked for: `size` bytes from the address `start` on, of which the first are `bytes` and the rest zeros.
+/// A segment to make: memory that begins with the given bytes, then has zeros.
 #[derive(Clone, Copy)]
 pub struct SegmentSpec<'a> {
+    /// The address of its first byte.
     pub start: u32,
+    /// The bytes from `start` on.
     pub bytes: &'a [u8],
+    /// The size in bytes.
     pub size: u32,
+    /// Whether it is writable.
     pub write: bool,
+    /// Whether it is executable.
     pub exec: bool,
 }

@@ -4,10 +4,10 @@ use Rattle.std.specs.Prelude.{flat_map, nat_lt, Ok, Err}
 use Rattle.std.proofs.lemmas.Bool.Decides.{nat_tests}
 use Rattle.std.proofs.lemmas.Grind.{common_steps}
 use Rattle.byteorder.specs.Endian.{little_number}
-use Rattle.unwind_codes.specs.declared.words.TheConstants.{COMPACT_MARK, COMPACT_TOP}
-use Rattle.unwind_codes.specs.Words.{bytes_of_word, personality_of_word, code_words_after, code_in_first, code_of_words}
+use Rattle.eh_codes.specs.declared.words.TheConstants.{COMPACT_MARK, COMPACT_TOP}
+use Rattle.eh_codes.specs.Words.{bytes_of_word, personality_of_word, code_words_after, code_in_first, code_of_words}
 use Rattle.eh_bytecode.specs.declared.codes.CodesFault.TheVariants.{Short, Generic, Reserved}
-use Rattle.eh_bytecode.specs.Codes.{words_in, turned, is_reserved, table_codes}
+use Rattle.eh_bytecode.specs.Codes.{words_in, swap_word_bytes, is_reserved, table_codes}
 
 -- each number is a byte
 abbrev pub AreBytes : List ℕ → Type 0
@@ -31,18 +31,18 @@ length-words_in (a ∷ b ∷ []) = refl
 length-words_in (a ∷ b ∷ c ∷ []) = refl
 length-words_in (a ∷ b ∷ c ∷ d ∷ more) = omega (arith, length-words_in more)
 
-pub length-turned : (xs : List ℕ) → length (turned xs) ≡ length xs / 4 * 4
+pub length-turned : (xs : List ℕ) → length (swap_word_bytes xs) ≡ length xs / 4 * 4
 length-turned [] = refl
 length-turned (a ∷ []) = refl
 length-turned (a ∷ b ∷ []) = refl
 length-turned (a ∷ b ∷ c ∷ []) = refl
 length-turned (a ∷ b ∷ c ∷ d ∷ more) = omega (arith, length-turned more)
 
-four_more : (n : ℕ) (xs : List ℕ) {ys : List ℕ} → ys ≡ turned (take (suc (suc (suc (suc (4 * n))))) xs) → ys ≡ turned (take (4 * suc n) xs)
-four_more n xs e = e ∙ ap (λ k. turned (take k xs)) (let four : suc (suc (suc (suc (4 * n)))) ≡ 4 * suc n = omega arith in four)
+four_more : (n : ℕ) (xs : List ℕ) {ys : List ℕ} → ys ≡ swap_word_bytes (take (suc (suc (suc (suc (4 * n))))) xs) → ys ≡ swap_word_bytes (take (4 * suc n) xs)
+four_more n xs e = e ∙ ap (λ k. swap_word_bytes (take k xs)) (let four : suc (suc (suc (suc (4 * n)))) ≡ 4 * suc n = omega arith in four)
 
 -- the bytes of the first n words
-pub turned_words : (n : ℕ) (xs : List ℕ) → AreBytes xs → flat_map bytes_of_word (take n (words_in xs)) ≡ turned (take (4 * n) xs)
+pub turned_words : (n : ℕ) (xs : List ℕ) → AreBytes xs → flat_map bytes_of_word (take n (words_in xs)) ≡ swap_word_bytes (take (4 * n) xs)
 turned_words zero xs h = refl
 turned_words (suc n) [] h = four_more n [] refl
 turned_words (suc n) (a ∷ []) h = four_more n (a ∷ []) refl
@@ -141,7 +141,7 @@ long_short a b c d more s l h few =
     let short : nat_lt (length (words_in more)) c ≡ true = grind (arith, nat_tests) in
     long_kept a b c d more s l h ∙ rw short refl
 
-pub long_first : (a b c d : ℕ) (more : List ℕ) → FirstWord a b c d → 0x81 ≤ d → d ≤ 0x82 → 4 * c ≤ length more → AreBytes more → table_codes (a ∷ b ∷ c ∷ d ∷ more) ≡ Ok (b ∷ a ∷ turned (take (4 * c) more))
+pub long_first : (a b c d : ℕ) (more : List ℕ) → FirstWord a b c d → 0x81 ≤ d → d ≤ 0x82 → 4 * c ≤ length more → AreBytes more → table_codes (a ∷ b ∷ c ∷ d ∷ more) ≡ Ok (b ∷ a ∷ swap_word_bytes (take (4 * c) more))
 long_first a b c d more s l h room small =
     let count : length (words_in more) ≡ length more / 4 = length-words_in more in
     let short : nat_lt (length (words_in more)) c ≡ false = grind (arith, nat_tests) in

@@ -5,9 +5,9 @@ use Rattle.std.specs.Int.{bit_at}
 use Rattle.std.specs.List.{range_with_len, list_any, AllByRecursion}
 use Rattle.std.proofs.lemmas.Bool.{eqb-true}
 use Rattle.std.proofs.lemmas.List.Elements.{filter-append}
-use Rattle.thumb_core.specs.Words.{listed, numbers}
+use Rattle.thumb_core.specs.Words.{registers_of_list, numbers}
 use Rattle.thumb_core.specs.Registers.{word_in}
-use Rattle.unwind_codes.specs.Meaning.{masked}
+use Rattle.eh_codes.specs.Meaning.{registers_of_mask}
 
 -- a register that isn't the stack pointer takes the whole word
 pub plain_word : (list k x : ℕ) → bit_at list 13 ≡ 0 → bit_at list k ≡ 1 → x < 2 ^ 32 → word_in k x ≡ x
@@ -41,8 +41,8 @@ low_four = 0 ∷ 1 ∷ 2 ∷ 3 ∷ []
 high_twelve : List ℕ
 high_twelve = 4 ∷ 5 ∷ 6 ∷ 7 ∷ 8 ∷ 9 ∷ 10 ∷ 11 ∷ 12 ∷ 13 ∷ 14 ∷ 15 ∷ []
 
-pub mask_listed : (mask : ℕ) → masked 4 12 mask ≡ listed (16 * mask)
-unfolding listed low_four high_twelve
+pub mask_listed : (mask : ℕ) → registers_of_mask 4 12 mask ≡ registers_of_list (16 * mask)
+unfolding registers_of_list low_four high_twelve
 mask_listed mask =
     let q : ℕ → Bool = λ k. bit_at (16 * mask) k == 1 in
     let p : ℕ → Bool = λ register. bit_at mask (register - 4) == 1 in
@@ -78,8 +78,8 @@ mask_listed mask =
       ),
     ))
 
-pub low_listed : (mask : ℕ) → mask < 16 → masked 0 4 mask ≡ listed mask
-unfolding listed low_four high_twelve
+pub low_listed : (mask : ℕ) → mask < 16 → registers_of_mask 0 4 mask ≡ registers_of_list mask
+unfolding registers_of_list low_four high_twelve
 low_listed mask small =
     let q : ℕ → Bool = λ k. bit_at mask k == 1 in
     let p : ℕ → Bool = λ register. bit_at mask (register - 0) == 1 in
@@ -128,13 +128,13 @@ eight P a b c d e f g h (suc (suc (suc (suc (suc (suc zero)))))) l = g
 eight P a b c d e f g h (suc (suc (suc (suc (suc (suc (suc zero))))))) l = h
 eight P a b c d e f g h (suc (suc (suc (suc (suc (suc (suc (suc n)))))))) l = absurd (omega arith)
 
-pub range_listed : (last : ℕ) → last < 8 → range_with_len 4 (last + 1) ≡ listed (range_mask last)
-unfolding listed
-range_listed = eight (λ n. range_with_len 4 (n + 1) ≡ listed (range_mask n)) refl refl refl refl refl refl refl refl
+pub range_listed : (last : ℕ) → last < 8 → range_with_len 4 (last + 1) ≡ registers_of_list (range_mask last)
+unfolding registers_of_list
+range_listed = eight (λ n. range_with_len 4 (n + 1) ≡ registers_of_list (range_mask n)) refl refl refl refl refl refl refl refl
 
-pub range_and_lr_listed : (last : ℕ) → last < 8 → range_with_len 4 (last + 1) ++ 14 ∷ [] ≡ listed (range_mask last + 0x4000)
-unfolding listed
-range_and_lr_listed = eight (λ n. range_with_len 4 (n + 1) ++ 14 ∷ [] ≡ listed (range_mask n + 0x4000)) refl refl refl refl refl refl refl refl
+pub range_and_lr_listed : (last : ℕ) → last < 8 → range_with_len 4 (last + 1) ++ 14 ∷ [] ≡ registers_of_list (range_mask last + 0x4000)
+unfolding registers_of_list
+range_and_lr_listed = eight (λ n. range_with_len 4 (n + 1) ++ 14 ∷ [] ≡ registers_of_list (range_mask n + 0x4000)) refl refl refl refl refl refl refl refl
 
 pub range_shift : (last : ℕ) → last < 8 → (2 * 2 ^ last % 65536 - 1) * 16 ≡ range_mask last
 range_shift = eight (λ n. (2 * 2 ^ n % 65536 - 1) * 16 ≡ range_mask n) refl refl refl refl refl refl refl refl
@@ -170,6 +170,6 @@ any_filter q (x ∷ xs) =
     any_of_cond (λ k. k == 15) (q x) (x ∷ filter q xs) (filter q xs)
     ∙ combine (q x) (x == 15) (q 15) (list_any (λ k. k == 15) (filter q xs)) (list_any (λ k. k == 15) xs) (any_filter q xs) (λ e. ap q (eqb-true x 15 e))
 
-pub pc_popped : (list : ℕ) → list < 2 ^ 16 → list_any (λ k. k == 15) (listed list) ≡ (list / 2 ^ 15 == 1)
-unfolding listed
+pub pc_popped : (list : ℕ) → list < 2 ^ 16 → list_any (λ k. k == 15) (registers_of_list list) ≡ (list / 2 ^ 15 == 1)
+unfolding registers_of_list
 pc_popped list small = any_filter (λ k. bit_at list k == 1) numbers ∙ ap (λ (n : ℕ). n == 1) (let e : bit_at list 15 ≡ list / 2 ^ 15 = omega arith in e)

@@ -4,7 +4,7 @@ use Rattle.std.specs.Int.{bit_at, bit_not, trailing_zeros, w32}
 use Rattle.std.proofs.lemmas.Bool.{cases_lt}
 use Rattle.std.proofs.lemmas.Nat.Bits.{bit_at_above, bit_at-trailing_zeros, bit_at_clear_same, bit_at_clear_other}
 use Rattle.std.specs.List.{filter}
-use Rattle.thumb_core.specs.Words.{listed, numbers}
+use Rattle.thumb_core.specs.Words.{registers_of_list, numbers}
 use Rattle.thumb_core.proofs.Listed.{listed_from, listed_all, listed_more, listed_none}
 
 over : (list d k : ℕ) → k + d ≤ 16 → ((i : ℕ) → k ≤ i → i < k + d → bit_at list i ≡ 0) → listed_from k list ≡ listed_from (k + d) list
@@ -33,7 +33,7 @@ without list k = bit_and list (bit_not w32 (1 * 2 ^ k % 2 ^ 32))
 pub record IsLowest (list k : ℕ) : Type 0 where
   pub within : k < 16
   pub set : bit_at list k ≡ 1
-  pub is : listed list ≡ k ∷ listed (without list k)
+  pub is : registers_of_list list ≡ k ∷ registers_of_list (without list k)
 
 pub lowest_of : (list : ℕ) → list < 2 ^ 16 → (list ≡ 0 → ⊥) → IsLowest list (trailing_zeros w32 list)
 lowest_of list small some =
@@ -81,12 +81,12 @@ still_clear list k i h inside none = by_case (cases_lt i k) (cases_lt k i)
     by_case (inr at) (inl high) = bit_at_clear_other w32 list k (omega arith) i (omega arith) (omega arith) ∙ none
     by_case (inr at) (inr same) = let e : i ≡ k = omega arith in ap (bit_at (without list k)) e ∙ bit_at_clear_same w32 list k (omega arith)
 
-pub listed_zero : (list : ℕ) → list ≡ 0 → listed list ≡ []
-unfolding listed
-listed_zero list e = ap listed e
+pub listed_zero : (list : ℕ) → list ≡ 0 → registers_of_list list ≡ []
+unfolding registers_of_list
+listed_zero list e = ap registers_of_list e
 
-pub listed_few : (list : ℕ) → length (listed list) ≤ 16
-unfolding listed
+pub listed_few : (list : ℕ) → length (registers_of_list list) ≤ 16
+unfolding registers_of_list
 listed_few list = filter_short (λ k. bit_at list k == 1) numbers
   where
     one_more : (b : Bool) (x : ℕ) (xs : List ℕ) (n : ℕ) → length xs ≤ n → length (cond b (x ∷ xs) xs) ≤ suc n

@@ -7,10 +7,10 @@ use Rattle.std.proofs.lemmas.Bool.Decides.{nat_tests}
 use Rattle.std.proofs.lemmas.Grind.{common_steps}
 use Rattle.eh_word.specs.declared.fault.WordFault.{WordFault}
 use Rattle.eh_word.specs.declared.fault.WordFault.TheVariants.{Ends, TooWide}
-use Rattle.eh_word.specs.Words.{has_more, base_128, uleb128_front, uleb128_of, placed_at}
-use Rattle.unwind_codes.specs.declared.code.Code.TheVariants.{RaiseLong}
-use Rattle.unwind_codes.specs.Table.{code_front}
-use Rattle.unwind_codes.proofs.Table.{long, long_by}
+use Rattle.eh_word.specs.Words.{has_more, base_128, uleb128_front, uleb128_of, move_place}
+use Rattle.eh_codes.specs.declared.code.UnwindCode.TheVariants.{RaiseLong}
+use Rattle.eh_codes.specs.Table.{code_front}
+use Rattle.eh_codes.proofs.Table.{long, long_by}
 
 take_four : (xs : List ℕ) → take 4 (take 5 xs) ≡ take 4 xs
 take_four [] = refl
@@ -70,7 +70,7 @@ pub long_by_five : (xs front : List ℕ) → front ≡ take 5 xs → code_front 
 unfolding uleb128_of
 long_by_five xs front e = long 0xB2 xs refl ∙ ap (λ r. long_by (result_ok r)) (sym (five_enough xs) ∙ ap uleb128_front (sym e) ∙ placed (uleb128_front front))
   where
-    placed : (r : Result (ℕ × ℕ) WordFault) → r ≡ placed_at 0 r
+    placed : (r : Result (ℕ × ℕ) WordFault) → r ≡ move_place 0 r
     placed (Ok found) = λ i. Ok (found.0, (let e : found.1 ≡ 0 + found.1 = omega arith in e) i)
     placed (Err fault) = refl
 

@@ -1,22 +1,22 @@
--- The code bytes of an entry (IHI 0038, "The compact model").
+-- The bytes of an entry's unwind instructions (IHI 0038, "The compact model").
 use Rattle.std.specs.Prelude.{ℕ, ◌/◌, ◌%◌, ◌^◌, ◌==◌, ◌-◌, ◌||◌, not, Bool, nat_lt, if◌then◌else◌, List, [], ◌∷◌, length, drop, Option, Some, None, Result, Ok, Err}
 use Rattle.byteorder.specs.Endian.{little_number}
-use Rattle.unwind_codes.specs.declared.code.Code.{Code}
-use Rattle.unwind_codes.specs.declared.words.TheConstants.{COMPACT_MARK, MOST_PERSONALITY}
-use Rattle.unwind_codes.specs.Table.{code_front}
-use Rattle.unwind_codes.specs.Words.{personality_of_word, code_words_after, code_in_first, code_of_words}
+use Rattle.eh_codes.specs.declared.code.UnwindCode.{UnwindCode}
+use Rattle.eh_codes.specs.declared.words.TheConstants.{COMPACT_MARK, MOST_PERSONALITY}
+use Rattle.eh_codes.specs.Table.{code_front}
+use Rattle.eh_codes.specs.Words.{personality_of_word, code_words_after, code_in_first, code_of_words}
 use Rattle.eh_bytecode.specs.declared.codes.CodesFault.{CodesFault}
 use Rattle.eh_bytecode.specs.declared.codes.CodesFault.TheVariants.{Short, Generic, Reserved}
 
--- the words whose bytes stand one after the other, each with its lowest byte first
+-- the words with these bytes, which are little-endian
 abbrev pub words_in : List ℕ → List ℕ
 words_in (a ∷ b ∷ c ∷ d ∷ more) = little_number 4 (a ∷ b ∷ c ∷ d ∷ []) ∷ words_in more
 words_in _ = []
 
--- the bytes of words, each with its top byte first, by their bytes with each word's lowest byte first
-abbrev pub turned : List ℕ → List ℕ
-turned (a ∷ b ∷ c ∷ d ∷ more) = d ∷ c ∷ b ∷ a ∷ turned more
-turned _ = []
+-- the bytes of words, each with its top byte first, from their little-endian bytes
+abbrev pub swap_word_bytes : List ℕ → List ℕ
+swap_word_bytes (a ∷ b ∷ c ∷ d ∷ more) = d ∷ c ∷ b ∷ a ∷ swap_word_bytes more
+swap_word_bytes _ = []
 
 -- bits 30 to 28 aren't 0, or the personality index is above the highest
 abbrev pub is_reserved : ℕ → Bool
@@ -39,12 +39,12 @@ codes_of_words (first ∷ more) =
 unfoldable pub table_codes : List ℕ → Result (List ℕ) CodesFault
 table_codes bytes = codes_of_words (words_in bytes)
 
--- the code at the front of bytes, and how many of them it has
-abbrev pub front : List ℕ → Option (Code × ℕ)
-front [] = None
-front (first ∷ more) = code_front first more
+-- the instruction at the front of bytes, and its length
+abbrev pub first_code : List ℕ → Option (UnwindCode × ℕ)
+first_code [] = None
+first_code (first ∷ more) = code_front first more
 
--- a code whose first byte was taken before is taken from the bytes after it; where none was found they stay as they are
-abbrev pub taken_after : Option (Code × ℕ) → List ℕ → Option Code × List ℕ
-taken_after None bytes = (None, bytes)
-taken_after (Some found) bytes = (Some found.0, drop (found.1 - 1) bytes)
+-- an instruction whose first byte was taken before; the rest of it is taken from the bytes, which stay if it is None
+abbrev pub code_and_rest : Option (UnwindCode × ℕ) → List ℕ → Option UnwindCode × List ℕ
+code_and_rest None bytes = (None, bytes)
+code_and_rest (Some found) bytes = (Some found.0, drop (found.1 - 1) bytes)

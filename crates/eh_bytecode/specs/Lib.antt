@@ -4,3 +4,4 @@ pub mod Once
 pub mod Recipe
 pub mod RecipeLaw
 pub mod Marks
+pub mod eh_codes

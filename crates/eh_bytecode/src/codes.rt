@@ -1,33 +1,33 @@
-//! The code bytes of an entry (IHI 0038, "The compact model"), lent from where they stand. docs/unwind-bytecode.md states where
-//! they stand.
+//! The unwind instructions of an entry, read in place (IHI 0038, "The compact model"). docs/rules/unwind-tables.md states where their bytes
+//! are.
 ghost use Rattle.std.specs.Prelude.{◌≡◌, ◌+◌, ◌-◌, ◌*◌, ◌/◌, ◌%◌, ◌^◌, ◌<◌, ◌≤◌, ◌==◌, ◌++◌, [], List, ℕ, length, take, drop, ◌∷◌, IfSome, MatchOption};
 ghost use Rattle.std.specs.Iterator.{YieldsFirst, item_count};
-ghost use Rattle.unwind_codes.specs.Bytes.{IsCode};
-ghost use Rattle.unwind_codes.specs.Table.{code_front};
-ghost use Rattle.eh_bytecode.specs.Codes.{inline_codes, table_codes, taken_after, turned};
+ghost use Rattle.eh_codes.specs.Bytes.{IsCode};
+ghost use Rattle.eh_codes.specs.Table.{code_front};
+ghost use Rattle.eh_bytecode.specs.Codes.{inline_codes, table_codes, code_and_rest, swap_word_bytes};
 
-use eh_word::uleb128;
-use std::marker::Model;
-use unwind_codes::Code;
-use unwind_codes::code::{
+use eh_codes::UnwindCode;
+use eh_codes::code::{
     FINISH, LOWER, POP_LOW, POP_MASK, POP_RANGE, POP_RANGE_AND_LR, RAISE_LONG, RESTORE,
 };
-use unwind_codes::words::{COMPACT_TOP, MOST_PERSONALITY};
+use eh_codes::words::{COMPACT_TOP, MOST_PERSONALITY};
+use eh_word::uleb128;
+use std::marker::Model;
 
-/// Why an entry has no codes that can be read. The lowest that holds is answered, but for words past the first, which are looked
-/// for last.
+/// Why an entry has no unwind instructions that can be read. If several variants hold, the first is given; but missing words after the
+/// first are checked last.
 #[derive(Clone, Copy)]
 pub enum CodesFault {
-    /// The entry's words run past the bytes.
+    /// The entry's words go past the end of the bytes.
     Short,
-    /// Bit 31 of the first word is clear: an entry of the generic model.
+    /// Bit 31 of the first word is clear: the entry is of the generic model.
     Generic,
-    /// Bits 30 to 28 of the first word aren't 0, its personality index is above 2, or that of an inline entry isn't 0.
+    /// Bits 30 to 28 of the first word aren't 0; or the personality index is above 2; or an inline entry has an index other than 0.
     Reserved,
 }
 
-/// The code bytes of an entry, in order; contracts see the list of those that the iterator hasn't given yet. It lends the bytes of
-/// a table and takes no memory.
+/// Iterates over the bytes of an entry's unwind instructions. In contracts, a `Codes` is the list of bytes still to come. It reads the
+/// table in place and allocates nothing.
 #[derive(Drop)]
 pub struct Codes<'a> {
     word: [u8; 4],
@@ -37,17 +37,17 @@ pub struct Codes<'a> {
 
 impl<'a> Model for Codes<'a> {
     ghost use Rattle.std.specs.Prelude.{List, ℕ, drop, ◌++◌, ◌≤◌};
-    ghost use Rattle.eh_bytecode.specs.Codes.{turned};
+    ghost use Rattle.eh_bytecode.specs.Codes.{swap_word_bytes};
 
     ghost Value = { List ℕ };
 
-    ghost view = { λ c. drop c.given c.word ++ turned c.further.now };
+    ghost view = { λ c. drop c.given c.word ++ swap_word_bytes c.further.now };
 
     ghost invariant = { λ c. c.given ≤ 4 };
 }
 
 impl<'a> Codes<'a> {
-    /// The code bytes of an entry in the second word of an index row.
+    /// The unwind instructions that are inline in the second word of an index row.
     #[inline(always)]
     pub fn inline(word: u32) -> Result<Codes<'a>, CodesFault>
         ensures { result ≡ inline_codes word }
@@ -66,7 +66,7 @@ impl<'a> Codes<'a> {
         }
     }
 
-    /// The code bytes of an entry in the exception table, whose bytes begin with those of its first word, the lowest byte first.
+    /// The unwind instructions of an entry in the exception table; `bytes` begin with the entry's first word, little-endian.
     #[inline(always)]
     pub fn table(bytes: &'a [u8]) -> Result<Codes<'a>, CodesFault>
         ensures { result ≡ table_codes bytes.now }
@@ -99,8 +99,8 @@ impl<'a> Codes<'a> {
         })
     }
 
-    /// The same codes, to be read apart.
-    pub(crate) fn again(&self) -> Codes<'a>
+    /// A copy of this iterator, to read the same bytes again.
+    pub(crate) fn copy(&self) -> Codes<'a>
         ensures { result ≡ self.now }
     {
         Codes {
@@ -110,7 +110,7 @@ impl<'a> Codes<'a> {
         }
     }
 
-    /// How many bytes are left.
+    /// The number of bytes left.
     pub fn len(&self) -> usize
         ensures { result ≡ length self.now }
     {
@@ -126,12 +126,12 @@ impl<'a> Codes<'a> {
 }
 
 impl<'a> Codes<'a> {
-    /// The next bytes, at most five, and how many there are.
-    fn five(&self) -> ([u8; 5], usize)
+    /// The next bytes, five at most, and their number.
+    fn peek_five(&self) -> ([u8; 5], usize)
         ensures within { result.1 ≤ 5 }
         ensures bytes { take result.1 result.0 ≡ take 5 self.now }
     {
-        let mut left = self.again();
+        let mut left = self.copy();
         let mut bytes = [0; 5];
         let mut count = 0;
         while count < 5 {
@@ -144,27 +144,27 @@ impl<'a> Codes<'a> {
         (bytes, count)
     }
 
-    /// Takes the rest of a code that begins with `10110010`.
+    /// Takes the operand of an instruction that begins with `10110010`. None, and nothing taken, if it isn't valid.
     #[inline(never)]
-    fn take_long_raise(&mut self) -> Option<Code>
-        ensures code { (result, self.new) ≡ taken_after (code_front RAISE_LONG self.old) self.old }
+    fn take_long_raise(&mut self) -> Option<UnwindCode>
+        ensures code { (result, self.new) ≡ code_and_rest (code_front RAISE_LONG self.old) self.old }
         ensures fits { IfSome result IsCode }
     {
-        let (bytes, count) = self.five();
+        let (bytes, count) = self.peek_five();
         match uleb128(&bytes[..count], 0) {
             Ok((words, size)) => {
                 self.skip_bytes(size);
-                Some(Code::RaiseLong(words))
+                Some(UnwindCode::RaiseLong(words))
             }
             Err(_) => None,
         }
     }
 
-    /// Takes the rest of a code that begins with `1000iiii`.
-    fn take_mask(&mut self, first: u8) -> Option<Code>
+    /// Takes the operand of an instruction that begins with `1000iiii`. None, and nothing taken, if there is none.
+    fn take_mask(&mut self, first: u8) -> Option<UnwindCode>
         requires low { POP_MASK ≤ first }
         requires high { first < RESTORE }
-        ensures code { (result, self.new) ≡ taken_after (code_front first self.old) self.old }
+        ensures code { (result, self.new) ≡ code_and_rest (code_front first self.old) self.old }
         ensures fits { IfSome result IsCode }
     {
         if first / 2 % 2 == 1 {
@@ -172,51 +172,51 @@ impl<'a> Codes<'a> {
         }
         let next = self.next()?;
         if first == POP_MASK && next == 0 {
-            Some(Code::Refuse)
+            Some(UnwindCode::Refuse)
         } else {
             let mask = u16::from(first % 16) * 256 + u16::from(next);
-            Some(Code::PopMask(mask))
+            Some(UnwindCode::PopMask(mask))
         }
     }
 
-    /// Takes the rest of a code that begins with `10110001`.
+    /// Takes the operand of an instruction that begins with `10110001`. None, and nothing taken, if it isn't valid.
     #[inline(never)]
-    fn take_low_mask(&mut self) -> Option<Code>
-        ensures code { (result, self.new) ≡ taken_after (code_front POP_LOW self.old) self.old }
+    fn take_low_mask(&mut self) -> Option<UnwindCode>
+        ensures code { (result, self.new) ≡ code_and_rest (code_front POP_LOW self.old) self.old }
         ensures fits { IfSome result IsCode }
     {
-        let mut after = self.again();
+        let mut after = self.copy();
         let next = after.next()?;
         if next == 0 || next > 15 {
             return None;
         }
         *self = after;
-        Some(Code::PopLow(next))
+        Some(UnwindCode::PopLow(next))
     }
 
-    /// Takes the rest of a code whose first byte was taken, and answers the code. None where that byte and these begin no code; then
-    /// nothing is taken.
+    /// Takes the rest of an instruction whose first byte was taken, and returns the instruction. None if these bytes are no
+    /// instruction; then nothing is taken.
     #[inline(always)]
-    pub(crate) fn take_code(&mut self, first: u8) -> Option<Code>
-        ensures code { (result, self.new) ≡ taken_after (code_front first self.old) self.old }
+    pub(crate) fn take_code(&mut self, first: u8) -> Option<UnwindCode>
+        ensures code { (result, self.new) ≡ code_and_rest (code_front first self.old) self.old }
         ensures fits { IfSome result IsCode }
     {
         if first < POP_RANGE {
             if first < LOWER {
-                Some(Code::Raise(first % 64))
+                Some(UnwindCode::Raise(first % 64))
             } else if first < POP_MASK {
-                Some(Code::Lower(first % 64))
+                Some(UnwindCode::Lower(first % 64))
             } else if first < RESTORE {
                 self.take_mask(first)
             } else {
                 restore(first)
             }
         } else if first < POP_RANGE_AND_LR {
-            Some(Code::PopRange(first % 8))
+            Some(UnwindCode::PopRange(first % 8))
         } else if first < FINISH {
-            Some(Code::PopRangeAndLr(first % 8))
+            Some(UnwindCode::PopRangeAndLr(first % 8))
         } else if first == FINISH {
-            Some(Code::Finish)
+            Some(UnwindCode::Finish)
         } else if first == POP_LOW {
             self.take_low_mask()
         } else if first == RAISE_LONG {
@@ -226,7 +226,7 @@ impl<'a> Codes<'a> {
         }
     }
 
-    /// Passes over bytes.
+    /// Skips `count` bytes.
     pub(crate) fn skip_bytes(&mut self, count: usize)
         ensures { self.new ≡ drop count self.old }
     {
@@ -236,25 +236,25 @@ impl<'a> Codes<'a> {
     }
 }
 
-/// The code `1001nnnn`: neither the stack pointer nor pc.
-fn restore(first: u8) -> Option<Code>
+/// The instruction `1001nnnn` (vsp = r`nnnn`); None for sp and pc.
+fn restore(first: u8) -> Option<UnwindCode>
     requires low { RESTORE ≤ first }
     requires high { first < POP_RANGE }
-    ensures code { (after : List ℕ) → (result, after) ≡ taken_after (code_front first after) after }
+    ensures code { (after : List ℕ) → (result, after) ≡ code_and_rest (code_front first after) after }
     ensures fits { IfSome result IsCode }
 {
     let register = first % 16;
     if register == 13 || register == 15 {
         None
     } else {
-        Some(Code::Restore(register))
+        Some(UnwindCode::Restore(register))
     }
 }
 
-/// The first byte of the words further on, and the bytes after it; None where there is no word.
+/// The first byte of the further words, in the order of instructions, and the bytes after it; None if there is no word.
 #[inline(never)]
 fn next_word<'a>(further: &'a [u8]) -> Option<(u8, Codes<'a>)>
-    ensures { MatchOption result (turned further.now ≡ []) (λ first. turned further.now ≡ first.0 ∷ first.1) }
+    ensures { MatchOption result (swap_word_bytes further.now ≡ []) (λ first. swap_word_bytes further.now ≡ first.0 ∷ first.1) }
 {
     let [a, b, c, d, more @ ..] = further else {
         return None;

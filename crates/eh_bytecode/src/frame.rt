@@ -1,62 +1,64 @@
-//! Codes are run on the registers of a frame, over a memory (IHI 0038, "Frame unwinding instructions"). docs/unwind-bytecode.md has
-//! the table.
+//! Runs unwind instructions on a frame's registers, over a memory (IHI 0038, "Frame unwinding instructions"). docs/rules/unwind-tables.md
+//! has the table.
 ghost use Rattle.std.specs.Prelude.{◌≡◌, List, ◌∷◌, ◌+◌, ◌-◌, ◌*◌, ◌/◌, ◌%◌, ◌^◌, ◌<◌, ◌≤◌, ◌==◌, length, IfOk, IfErr, Ok, Err};
 ghost use Rattle.std.specs.Int.{bit_at};
 ghost use Rattle.eh_bus.specs.Segment.{Segment};
-ghost use Rattle.thumb_core.specs.Words.{load_words, loads_from, listed};
-ghost use Rattle.unwind_codes.specs.Bytes.{IsCode};
-ghost use Rattle.unwind_codes.specs.Cut.{Item, Is, cut};
-ghost use Rattle.unwind_codes.specs.declared.code.Code.TheVariants.{PopRangeAndLr, Finish};
-ghost use Rattle.unwind_codes.specs.Meaning.{effect};
-ghost use Rattle.eh_bytecode.specs.Meaning.{begins, finished, address_of, pops, after, unwound, step_of, answer};
+ghost use Rattle.thumb_core.specs.Words.{load_words, loads_from, registers_of_list};
+ghost use Rattle.eh_codes.specs.Bytes.{IsCode};
+ghost use Rattle.eh_codes.specs.Cut.{Item, Is, split_codes};
+ghost use Rattle.eh_codes.specs.declared.code.UnwindCode.TheVariants.{PopRangeAndLr, Finish};
+ghost use Rattle.eh_codes.specs.Meaning.{effect};
+ghost use Rattle.eh_bytecode.specs.Meaning.{begin_unwind, finish_registers, address_of, pop_step, effect_step, unwind_result, step_of, unwind_answer};
 
 use crate::codes::Codes;
 use eh_bus::bus::Bus;
 use eh_bus::fault::BusFault;
-use unwind_codes::Code;
-use unwind_codes::code::{FINISH, LONG_LEAST, POP_RANGE_AND_LR};
+use eh_codes::UnwindCode;
+use eh_codes::code::{FINISH, LONG_LEAST, POP_RANGE_AND_LR};
 
-/// The registers r0 to r15 of a frame.
+/// The virtual register set: the core registers of a frame.
 #[derive(Clone, Copy)]
 pub struct Vrs {
+    /// The values of r0 to r15.
     pub r: [u32; 16],
 }
 
-/// How an unwinding ends.
+/// How unwinding a frame ends.
 #[derive(Clone, Copy)]
 pub enum UnwindEnd {
-    /// The codes finish, or end: the registers are those of the caller.
+    /// The instructions finish, or there are no more: the registers are the caller's.
     Finished,
-    /// The codes refuse to unwind.
+    /// The instructions refuse to unwind.
     Refused,
-    /// The place of bytes that begin no code, counted from the first of the codes.
+    /// These bytes are no instruction: their index, from the first byte of the instructions.
     BadCode(usize),
-    /// The first address of a register's word that can't be read.
+    /// A register's word can't be read: the first such address.
     Unreadable(u32),
 }
 
-/// How far an unwinding has come.
+/// The state of unwinding a frame, between two instructions.
 #[derive(Drop)]
-pub struct Unwinding {
-    /// The virtual stack pointer.
+pub struct UnwindState {
+    /// The virtual stack pointer, in bytes.
     pub vsp: u32,
+    /// The values of r0 to r15 so far; r13 isn't used, `vsp` has its value.
     pub r: [u32; 16],
-    /// Whether pc was popped.
+    /// Whether pc has been popped.
     pub popped_pc: bool,
 }
 
-/// How an unwinding goes on after a code.
+/// How unwinding goes on after an instruction.
 #[derive(Clone, Copy)]
-pub enum Next {
-    /// With the next code.
+pub enum CodeOutcome {
+    /// It goes on with the next instruction.
     Goes,
-    /// Not: the codes finish.
+    /// It ends: the instructions finish.
     Finishes,
-    /// Not, and there are no registers of a caller.
+    /// It ends without the caller's registers, for this reason.
     Stops(UnwindEnd),
 }
 
-/// The address of an access that is refused.
+/// The address of a refused access.
 fn address_of(fault: BusFault) -> u32
     ensures { result ≡ address_of fault }
 {
@@ -70,13 +72,14 @@ fn address_of(fault: BusFault) -> u32
     }
 }
 
-/// Loads the registers of a list from address `a` on. No time goes to those that it doesn't have.
+/// Loads the registers of a list from the words at address `a`, and returns the number of bytes. Takes time only for the registers in
+/// the list.
 #[inline(always)]
 fn load_list<B: Bus>(list: u16, a: u32, r: &mut [u32; 16], bus: &B) -> Result<u32, BusFault>
     requires { bit_at list 13 ≡ 0 }
-    ensures bytes { IfOk result (λ n. n ≡ 4 * length (listed list)) }
-    ensures ok { IfOk result (λ n. load_words (B.memory bus.now).segments a (loads_from 0 (listed list)) r.old ≡ Ok r.new) }
-    ensures fault { IfErr result (λ fault. load_words (B.memory bus.now).segments a (loads_from 0 (listed list)) r.old ≡ Err fault) }
+    ensures bytes { IfOk result (λ n. n ≡ 4 * length (registers_of_list list)) }
+    ensures ok { IfOk result (λ n. load_words (B.memory bus.now).segments a (loads_from 0 (registers_of_list list)) r.old ≡ Ok r.new) }
+    ensures fault { IfErr result (λ fault. load_words (B.memory bus.now).segments a (loads_from 0 (registers_of_list list)) r.old ≡ Err fault) }
 {
     let mut at = 0;
     let mut rest = u32::from(list);
@@ -92,7 +95,7 @@ fn load_list<B: Bus>(list: u16, a: u32, r: &mut [u32; 16], bus: &B) -> Result<u3
     Ok(at)
 }
 
-/// The list of r4 to r4+n.
+/// The list of r4 to r(4+`last`), as a bit mask.
 pub(crate) fn range(last: u8) -> u16
     requires { last < 8 }
     ensures { result ≡ 16 * (2 ^ (last + 1) - 1) }
@@ -100,72 +103,72 @@ pub(crate) fn range(last: u8) -> u16
     ((2 << last) - 1) * 16
 }
 
-impl Unwinding {
+impl UnwindState {
     #[inline(always)]
-    fn begin(vrs: &Vrs) -> Unwinding
-        ensures { result ≡ begins vrs.now.r }
+    fn begin_unwind(vrs: &Vrs) -> UnwindState
+        ensures { result ≡ begin_unwind vrs.now.r }
     {
-        Unwinding {
+        UnwindState {
             vsp: vrs.r[13],
             r: vrs.r,
             popped_pc: false,
         }
     }
 
-    /// Pops the registers of a list without the stack pointer, the lowest first.
+    /// Pops the registers of a list, the lowest first; sp must not be in the list.
     #[inline(always)]
-    fn pop<B: Bus>(&mut self, list: u16, bus: &B) -> Next
+    fn pop<B: Bus>(&mut self, list: u16, bus: &B) -> CodeOutcome
         requires { bit_at list 13 ≡ 0 }
-        ensures { pops self.old (listed list) (load_words (B.memory bus.now).segments self.old.vsp (loads_from 0 (listed list)) self.old.r) ≡ step_of result self.new }
+        ensures { pop_step self.old (registers_of_list list) (load_words (B.memory bus.now).segments self.old.vsp (loads_from 0 (registers_of_list list)) self.old.r) ≡ step_of result self.new }
     {
         match load_list(list, self.vsp, &mut self.r, bus) {
             Ok(bytes) => {
                 self.vsp = self.vsp.wrapping_add(bytes);
                 self.popped_pc = self.popped_pc || list >> 15 == 1;
-                Next::Goes
+                CodeOutcome::Goes
             }
-            Err(fault) => Next::Stops(UnwindEnd::Unreadable(address_of(fault))),
+            Err(fault) => CodeOutcome::Stops(UnwindEnd::Unreadable(address_of(fault))),
         }
     }
 
-    /// Does what a code says.
+    /// Executes an instruction.
     #[inline(always)]
-    fn apply<B: Bus>(&mut self, code: Code, bus: &B) -> Next
+    fn apply<B: Bus>(&mut self, code: UnwindCode, bus: &B) -> CodeOutcome
         requires { IsCode code }
-        ensures { after (B.memory bus.now).segments self.old (effect code) ≡ step_of result self.new }
+        ensures { effect_step (B.memory bus.now).segments self.old (effect code) ≡ step_of result self.new }
     {
         let list = match code {
-            Code::PopMask(mask) => 16 * mask,
-            Code::PopRange(last) => range(last),
-            Code::PopRangeAndLr(last) => range(last) + 0x4000,
-            Code::PopLow(mask) => u16::from(mask),
-            Code::Raise(words) => {
+            UnwindCode::PopMask(mask) => 16 * mask,
+            UnwindCode::PopRange(last) => range(last),
+            UnwindCode::PopRangeAndLr(last) => range(last) + 0x4000,
+            UnwindCode::PopLow(mask) => u16::from(mask),
+            UnwindCode::Raise(words) => {
                 self.vsp = self.vsp.wrapping_add(4 * u32::from(words) + 4);
-                return Next::Goes;
+                return CodeOutcome::Goes;
             }
-            Code::Lower(words) => {
+            UnwindCode::Lower(words) => {
                 self.vsp = self.vsp.wrapping_sub(4 * u32::from(words) + 4);
-                return Next::Goes;
+                return CodeOutcome::Goes;
             }
-            Code::RaiseLong(words) => {
+            UnwindCode::RaiseLong(words) => {
                 let by = words.wrapping_mul(4).wrapping_add(LONG_LEAST);
                 self.vsp = self.vsp.wrapping_add(by);
-                return Next::Goes;
+                return CodeOutcome::Goes;
             }
-            Code::Restore(register) => {
+            UnwindCode::Restore(register) => {
                 self.vsp = self.r[register as usize];
-                return Next::Goes;
+                return CodeOutcome::Goes;
             }
-            Code::Refuse => return Next::Stops(UnwindEnd::Refused),
-            Code::Finish => return Next::Finishes,
+            UnwindCode::Refuse => return CodeOutcome::Stops(UnwindEnd::Refused),
+            UnwindCode::Finish => return CodeOutcome::Finishes,
         };
         self.pop(list, bus)
     }
 
-    /// Gives a frame the registers of its caller.
+    /// Writes the caller's registers to `vrs`.
     #[inline(always)]
     fn finish(&self, vrs: &mut Vrs)
-        ensures { vrs.new.r ≡ finished self.now }
+        ensures { vrs.new.r ≡ finish_registers self.now }
     {
         vrs.r = self.r;
         if !self.popped_pc {
@@ -175,45 +178,45 @@ impl Unwinding {
     }
 }
 
-/// Unwinds a frame by codes that pop r4 to r4+n and the link register, and then finish.
+/// Unwinds a frame whose instructions pop r4 to r(4+`last`) and lr, and then finish.
 #[inline(always)]
 fn unwind_saves<B: Bus>(last: u8, vrs: &mut Vrs, bus: &B) -> UnwindEnd
     requires { last < 8 }
-    ensures { (more : List Item) → (result, vrs.new) ≡ answer vrs.old (unwound (B.memory bus.now).segments vrs.old.r (Is (PopRangeAndLr last) ∷ Is Finish ∷ more)) }
+    ensures { (more : List Item) → (result, vrs.new) ≡ unwind_answer vrs.old (unwind_result (B.memory bus.now).segments vrs.old.r (Is (PopRangeAndLr last) ∷ Is Finish ∷ more)) }
 {
-    let mut state = Unwinding::begin(vrs);
-    match state.apply(Code::PopRangeAndLr(last), bus) {
-        Next::Stops(end) => end,
-        Next::Goes => {
+    let mut state = UnwindState::begin_unwind(vrs);
+    match state.apply(UnwindCode::PopRangeAndLr(last), bus) {
+        CodeOutcome::Stops(end) => end,
+        CodeOutcome::Goes => {
             state.finish(vrs);
             UnwindEnd::Finished
         }
-        Next::Finishes => {
+        CodeOutcome::Finishes => {
             state.finish(vrs);
             UnwindEnd::Finished
         }
     }
 }
 
-/// Unwinds a frame by codes that finish first.
+/// Unwinds a frame whose first instruction is finish.
 #[inline(always)]
-fn unwind_at_once(vrs: &mut Vrs) -> UnwindEnd
-    ensures { (segments : List Segment) (more : List Item) → (result, vrs.new) ≡ answer vrs.old (unwound segments vrs.old.r (Is Finish ∷ more)) }
+fn unwind_by_finish(vrs: &mut Vrs) -> UnwindEnd
+    ensures { (segments : List Segment) (more : List Item) → (result, vrs.new) ≡ unwind_answer vrs.old (unwind_result segments vrs.old.r (Is Finish ∷ more)) }
 {
-    let state = Unwinding::begin(vrs);
+    let state = UnwindState::begin_unwind(vrs);
     state.finish(vrs);
     UnwindEnd::Finished
 }
 
-/// Unwinds a frame by the codes that are left, over the words of a memory. `vrs` changes only where the codes finish; then it has the
-/// caller's registers. Codes that finish first are known by their first byte, and those that pop what most functions push by two.
+/// Unwinds a frame by the remaining instructions, over a memory. `vrs` changes only if they finish; then it has the caller's registers.
+/// The most common instruction sequences are recognised by their first one or two bytes.
 pub fn unwind<B: Bus>(codes: &Codes, vrs: &mut Vrs, bus: &B) -> UnwindEnd
-    ensures { (result, vrs.new) ≡ answer vrs.old (unwound (B.memory bus.now).segments vrs.old.r (cut codes.now)) }
+    ensures { (result, vrs.new) ≡ unwind_answer vrs.old (unwind_result (B.memory bus.now).segments vrs.old.r (split_codes codes.now)) }
 {
-    let mut left = codes.again();
+    let mut left = codes.copy();
     if let Some(first) = left.next() {
         if first == FINISH {
-            return unwind_at_once(vrs);
+            return unwind_by_finish(vrs);
         }
         if first >= POP_RANGE_AND_LR && first < FINISH {
             if let Some(second) = left.next() {
@@ -226,21 +229,21 @@ pub fn unwind<B: Bus>(codes: &Codes, vrs: &mut Vrs, bus: &B) -> UnwindEnd
     unwind_each(codes, vrs, bus)
 }
 
-/// The same, code by code.
+/// As `unwind`, one instruction at a time.
 #[inline(never)]
 fn unwind_each<B: Bus>(codes: &Codes, vrs: &mut Vrs, bus: &B) -> UnwindEnd
-    ensures { (result, vrs.new) ≡ answer vrs.old (unwound (B.memory bus.now).segments vrs.old.r (cut codes.now)) }
+    ensures { (result, vrs.new) ≡ unwind_answer vrs.old (unwind_result (B.memory bus.now).segments vrs.old.r (split_codes codes.now)) }
 {
-    let mut state = Unwinding::begin(vrs);
-    let mut left = codes.again();
+    let mut state = UnwindState::begin_unwind(vrs);
+    let mut left = codes.copy();
     while let Some(first) = left.next() {
         let Some(code) = left.take_code(first) else {
             return UnwindEnd::BadCode(codes.len() - left.len() - 1);
         };
         match state.apply(code, bus) {
-            Next::Goes => {}
-            Next::Finishes => break,
-            Next::Stops(end) => return end,
+            CodeOutcome::Goes => {}
+            CodeOutcome::Finishes => break,
+            CodeOutcome::Stops(end) => return end,
         }
     }
     state.finish(vrs);

@@ -1,5 +1,5 @@
-//! The unwinding bytecode of an entry (IHI 0038, "Frame unwinding instructions"), read where it stands: its bytes, what they do to
-//! registers over a memory, and the same without one, as a recipe. docs/unwind-bytecode.md states the rules.
+//! The unwind instructions of an entry (IHI 0038, "Frame unwinding instructions"), read in place: their bytes, what they do to
+//! registers over a memory, and a recipe that tells the same without a memory. docs/rules/unwind-tables.md states the rules.
 #![tactic(auto)]
 
 ghost use Rattle.eh_bytecode.specs.RecipeLaw.{RecipesRun};
@@ -14,8 +14,8 @@ pub use frame::{UnwindEnd, Vrs, unwind};
 pub use once::pops_once;
 pub use recipe::{Recipe, RecipeFault, Src, summarise};
 
-/// Where codes have a recipe, running it on any registers and any memory is unwinding by the codes: the words that the codes load, in
-/// their order, give the same registers, or the same first address that can't be read.
+/// If instructions have a recipe, running it gives the same as unwinding by them, for any registers and memory. From the words that the
+/// instructions load, in the same order, it gives the same registers, or the same first address that can't be read.
 pub fn recipes_run()
     ensures { RecipesRun }
 {}

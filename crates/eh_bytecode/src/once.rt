@@ -1,34 +1,38 @@
-//! Whether codes pop a register twice, whose first word no register of the recipe would name. docs/unwind-bytecode.md states the rule.
+//! Whether instructions pop a register twice: then the recipe would not name the word of the first pop. docs/rules/unwind-tables.md states
+//! the rule.
 ghost use Rattle.std.specs.Prelude.{◌≡◌, ℕ, ◌↔◌, List, IsTrue};
-ghost use Rattle.thumb_core.specs.Words.{listed};
-ghost use Rattle.unwind_codes.specs.Bytes.{IsCode};
-ghost use Rattle.unwind_codes.specs.Cut.{cut};
-ghost use Rattle.unwind_codes.specs.Meaning.{effect};
-ghost use Rattle.eh_bytecode.specs.Once.{popped_first, PopsOnce};
-ghost use Rattle.eh_bytecode.specs.Marks.{popped_by, Marked};
+ghost use Rattle.thumb_core.specs.Words.{registers_of_list};
+ghost use Rattle.eh_codes.specs.Bytes.{IsCode};
+ghost use Rattle.eh_codes.specs.Cut.{split_codes};
+ghost use Rattle.eh_codes.specs.Meaning.{effect};
+ghost use Rattle.eh_bytecode.specs.Once.{with_popped_first, PopsOnce};
+ghost use Rattle.eh_bytecode.specs.Marks.{with_popped_list, MarksRegisters};
 
 use crate::codes::Codes;
 use crate::frame::range;
-use unwind_codes::Code;
+use eh_codes::UnwindCode;
 
-/// The list of registers that a code pops, or `None` where it ends the codes.
-fn list_of(code: Code) -> Option<u16>
+/// The list of registers that an instruction pops, as a bit mask; None if it ends the instructions.
+fn list_of(code: UnwindCode) -> Option<u16>
     requires { IsCode code }
-    ensures { (more : List ℕ) → popped_first (effect code) more ≡ popped_by result more }
+    ensures { (more : List ℕ) → with_popped_first (effect code) more ≡ with_popped_list result more }
 {
     match code {
-        Code::Raise(_) | Code::Lower(_) | Code::RaiseLong(_) | Code::Restore(_) => Some(0),
-        Code::PopMask(mask) => Some(16 * mask),
-        Code::PopRange(last) => Some(range(last)),
-        Code::PopRangeAndLr(last) => Some(range(last) + 0x4000),
-        Code::PopLow(mask) => Some(u16::from(mask)),
-        Code::Refuse | Code::Finish => None,
+        UnwindCode::Raise(_)
+        | UnwindCode::Lower(_)
+        | UnwindCode::RaiseLong(_)
+        | UnwindCode::Restore(_) => Some(0),
+        UnwindCode::PopMask(mask) => Some(16 * mask),
+        UnwindCode::PopRange(last) => Some(range(last)),
+        UnwindCode::PopRangeAndLr(last) => Some(range(last) + 0x4000),
+        UnwindCode::PopLow(mask) => Some(u16::from(mask)),
+        UnwindCode::Refuse | UnwindCode::Finish => None,
     }
 }
 
-/// Marks the registers of a list as popped, and answers whether none of them was.
+/// Marks the registers of a list as popped, and answers whether none was popped before.
 fn mark(seen: &mut [bool; 16], list: u16) -> bool
-    ensures { Marked seen.old seen.new (listed list) result }
+    ensures { MarksRegisters seen.old seen.new (registers_of_list list) result }
 {
     for k in 0..16u8 {
         if (list >> k) & 1 == 1 {
@@ -41,13 +45,13 @@ fn mark(seen: &mut [bool; 16], list: u16) -> bool
     true
 }
 
-/// Whether the codes that are left pop no register twice before they end: at the first that finishes or refuses, at bytes that begin
-/// no code, or after the last byte. It takes no memory.
+/// Whether the remaining instructions pop no register twice before they end. They end at the first that finishes or refuses, at bytes
+/// that are no instruction, or after the last byte. Allocates nothing.
 pub fn pops_once(codes: &Codes) -> bool
-    ensures { IsTrue result ↔ PopsOnce (cut codes.now) }
+    ensures { IsTrue result ↔ PopsOnce (split_codes codes.now) }
 {
     let mut seen = [false; 16];
-    let mut left = codes.again();
+    let mut left = codes.copy();
     while let Some(first) = left.next() {
         let Some(code) = left.take_code(first) else {
             return true;

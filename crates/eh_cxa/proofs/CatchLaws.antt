@@ -11,9 +11,9 @@ use Rattle.eh_cxa.specs.declared.state.State.{State}
 use Rattle.eh_cxa.specs.declared.state.State.TheVariants.{Flying, Landed, Caught}
 use Rattle.eh_cxa.specs.States.{is_landed}
 use Rattle.eh_cxa.specs.Words.{block_slot, block, Pool, with_all, one_less}
-use Rattle.eh_cxa.specs.Catch.{counted, catch_fault, catch_at, catch_in, catch_by, begin_catch_of}
+use Rattle.eh_cxa.specs.Catch.{count_after_catch, catch_fault, catch_at, catch_in, catch_by, begin_catch_of}
 use Rattle.eh_cxa.specs.Lists.{Record, Live, Lists, entry, slots, count_in, state_in}
-use Rattle.eh_cxa.specs.ListCalls.{become, is_top, on_top, caught_count, catch_entry, catch_by_list, catch_list}
+use Rattle.eh_cxa.specs.ListCalls.{become, is_top, push_if, one_more_handler, catch_entry, catch_by_list, catch_list}
 use Rattle.eh_cxa.specs.Stands.{record_of, entry_of, Chain, Stands, Follows}
 use Rattle.eh_cxa.proofs.Pools.{slot_small, slot_block}
 use Rattle.eh_cxa.proofs.Chains.{chain_same}
@@ -52,7 +52,7 @@ no_fault st b c e = go (is_landed (Some st)) refl e
     go true p e = landed_is st p
     go false p e = cc
 
-caught_counts : (z : ℤ) → caught_count z ≡ pos 0 → ⊥
+caught_counts : (z : ℤ) → one_more_handler z ≡ pos 0 → ⊥
 caught_counts z e = let a = caught_above z in omega (arith, ints)
 
 -- a landed exception is in no cleanup in progress
@@ -63,7 +63,7 @@ idle l s r is landed flying p =
 
 catch_new : (w : Pool) (g : Globals) (l : Lists) (ucb s : ℕ) (st : State) → Stands w g l → block_slot ucb ≡ Some s → g.caught < 2 ^ 32 → entry l s ≡ Live (record_of st w s) → st ≡ Landed → w s COUNT ≡ 0
     → Stands (with_all (catch_by true w g ucb s).writes w) (catch_by true w g ucb s).globals
-    (record { entries = set l.entries s (Live (become Caught (caught_count (signed (w s COUNT))) (record_of st w s))); caught = s ∷ l.caught; cleanups = l.cleanups; uncaught = one_less l.uncaught })
+    (record { entries = set l.entries s (Live (become Caught (one_more_handler (signed (w s COUNT))) (record_of st w s))); caught = s ∷ l.caught; cleanups = l.cleanups; uncaught = one_less l.uncaught })
 catch_new w g l ucb s st x e gs is three none =
     let h : s < SLOTS = slot_small ucb s e in
     let in_range : w s COUNT < 2 ^ 32 = x.shows.small s COUNT h (omega arith) in
@@ -87,8 +87,8 @@ catch_new w g l ucb s st x e gs is three none =
           x.valid;
     }
   where
-    shown_now : Live (become Caught (signed (counted (w s COUNT))) (record_of st w s)) ≡ entry_of (with_all (catch_by true w g ucb s).writes w) s
-    shown_now = showing (with_all (catch_by true w g ucb s).writes w) s Caught _ _ _ (counted (w s COUNT)) (rw (self s) refl) refl refl refl (rw (self s) refl)
+    shown_now : Live (become Caught (signed (count_after_catch (w s COUNT))) (record_of st w s)) ≡ entry_of (with_all (catch_by true w g ucb s).writes w) s
+    shown_now = showing (with_all (catch_by true w g ucb s).writes w) s Caught _ _ _ (count_after_catch (w s COUNT)) (rw (self s) refl) refl refl refl (rw (self s) refl)
 
     other : (t : ℕ) → Has l.caught t → (Has l.caught s → ⊥) → (b : Bool) → (t == s) ≡ b → cond b g.caught (w t NEXT_CAUGHT) ≡ w t NEXT_CAUGHT
     other t p n true q = let f : t ≡ s = grind (arith, nat_tests) in absurd (n (rw f at p))
@@ -96,7 +96,7 @@ catch_new w g l ucb s st x e gs is three none =
 
 catch_again : (w : Pool) (g : Globals) (l : Lists) (ucb s : ℕ) (st : State) → Stands w g l → block_slot ucb ≡ Some s → entry l s ≡ Live (record_of st w s) → st ≡ Landed → w s COUNT ≢ 0
     → Stands (with_all (catch_by false w g ucb s).writes w) (catch_by false w g ucb s).globals
-    (record { entries = set l.entries s (Live (become Caught (caught_count (signed (w s COUNT))) (record_of st w s))); caught = l.caught; cleanups = l.cleanups; uncaught = one_less l.uncaught })
+    (record { entries = set l.entries s (Live (become Caught (one_more_handler (signed (w s COUNT))) (record_of st w s))); caught = l.caught; cleanups = l.cleanups; uncaught = one_less l.uncaught })
 catch_again w g l ucb s st x e is three some =
     let h : s < SLOTS = slot_small ucb s e in
     let in_range : w s COUNT < 2 ^ 32 = x.shows.small s COUNT h (omega arith) in
@@ -119,8 +119,8 @@ catch_again w g l ucb s st x e is three some =
           x.valid;
     }
   where
-    shown_now : Live (become Caught (signed (counted (w s COUNT))) (record_of st w s)) ≡ entry_of (with_all (catch_by false w g ucb s).writes w) s
-    shown_now = showing (with_all (catch_by false w g ucb s).writes w) s Caught _ _ _ (counted (w s COUNT)) (rw (self s) refl) refl refl refl (rw (self s) refl)
+    shown_now : Live (become Caught (signed (count_after_catch (w s COUNT))) (record_of st w s)) ≡ entry_of (with_all (catch_by false w g ucb s).writes w) s
+    shown_now = showing (with_all (catch_by false w g ucb s).writes w) s Caught _ _ _ (count_after_catch (w s COUNT)) (rw (self s) refl) refl refl refl (rw (self s) refl)
 
 pub begin_catch_follows : (w : Pool) (g : Globals) (l : Lists) (ucb : ℕ) → g.caught < 2 ^ 32 → Stands w g l
     → Follows (with_all (begin_catch_of w g ucb).writes w) (begin_catch_of w g ucb).globals (begin_catch_of w g ucb).answer (catch_list (λ s. w s BARRIER_OBJECT) l (block_slot ucb))
@@ -131,7 +131,7 @@ begin_catch_follows w g l ucb gs x = start (block_slot ucb) refl
 
     effect : (s : ℕ) (st : State) → block_slot ucb ≡ Some s → entry l s ≡ Live (record_of st w s) → st ≡ Landed → (b : Bool) → (w s COUNT == 0) ≡ b
         → Follows (with_all (catch_by b w g ucb s).writes w) (catch_by b w g ucb s).globals (catch_by b w g ucb s).answer
-        (record { answer = Ok (w s BARRIER_OBJECT); lists = record { entries = set l.entries s (Live (become Caught (caught_count (signed (w s COUNT))) (record_of st w s))); caught = on_top b s l.caught; cleanups = l.cleanups; uncaught = one_less l.uncaught } })
+        (record { answer = Ok (w s BARRIER_OBJECT); lists = record { entries = set l.entries s (Live (become Caught (one_more_handler (signed (w s COUNT))) (record_of st w s))); caught = push_if b s l.caught; cleanups = l.cleanups; uncaught = one_less l.uncaught } })
     effect s st e is three true q = record { same = refl; stands = catch_new w g l ucb s st x e gs is three (grind (arith, nat_tests)) }
     effect s st e is three false q = record { same = refl; stands = catch_again w g l ucb s st x e is three (grind (arith, nat_tests)) }
 

@@ -3,7 +3,7 @@ use Rattle.std.proofs.Common.{◌≡◌, ℕ, ◌<◌, inl, inr, List, [], ◌�
 use Rattle.eh_bus.specs.Lists.{Has}
 use Rattle.eh_cxa.specs.declared.layout.TheConstants.{SLOTS}
 use Rattle.eh_cxa.specs.Words.{block_slot}
-use Rattle.eh_cxa.specs.Words.{chained, linked}
+use Rattle.eh_cxa.specs.Words.{chain_word, word_if_block}
 use Rattle.eh_cxa.specs.Stands.{Chain}
 use Rattle.eh_cxa.proofs.Pools.{slot_small}
 
@@ -25,12 +25,12 @@ chain_small next h (x ∷ xs) s c (inl e) = let l = slot_small h x c.0 in rw (�
 chain_small next h (x ∷ xs) s c (inr p) = chain_small next (next x) xs s c.1 p
 
 -- a link that is no control block counts as 0
-pub block_slot_chained : (k : ℕ) → block_slot (chained k) ≡ block_slot k
+pub block_slot_chained : (k : ℕ) → block_slot (chain_word k) ≡ block_slot k
 block_slot_chained k = by_cases (block_slot k) refl
   where
-    by_cases : (o : Option ℕ) → block_slot k ≡ o → block_slot (linked k o) ≡ block_slot k
+    by_cases : (o : Option ℕ) → block_slot k ≡ o → block_slot (word_if_block k o) ≡ block_slot k
     by_cases (Some s) e = refl
     by_cases None e = Rattle.eh_cxa.proofs.Pools.block_slot_zero ∙ sym e
 
-pub chain_pop : (next : ℕ → ℕ) (k : ℕ) (xs : List ℕ) → Chain next k xs → Chain next (chained k) xs
-chain_pop next k xs c = chain_head next k (chained k) xs (block_slot_chained k) c
+pub chain_pop : (next : ℕ → ℕ) (k : ℕ) (xs : List ℕ) → Chain next k xs → Chain next (chain_word k) xs
+chain_pop next k xs c = chain_head next k (chain_word k) xs (block_slot_chained k) c

@@ -6,7 +6,7 @@ use Rattle.eh_cxa.specs.declared.globals.CleanupWords.{CleanupWords}
 use Rattle.eh_cxa.specs.declared.globals.CxaFault.{CxaFault}
 use Rattle.eh_cxa.specs.declared.layout.TheConstants.{SLOTS, CLEANUP_NEXT, CLEANUP_SP, CLEANUP_SITE, NEXT_CLEANUP}
 use Rattle.eh_cxa.specs.declared.state.State.TheVariants.{Flying}
-use Rattle.eh_cxa.specs.Words.{block_slot, Pool, with_all, chained}
+use Rattle.eh_cxa.specs.Words.{block_slot, Pool, with_all, chain_word}
 use Rattle.eh_cxa.specs.Cleanup.{cleanup_at, begin_cleanup_of, end_cleanup_by, end_cleanup_of}
 use Rattle.eh_cxa.specs.Lists.{Cleanup, Lists, entry, slots, state_in}
 use Rattle.eh_cxa.specs.ListCalls.{begin_cleanup_list, end_cleanup_list, end_cleanup_from, end_cleanup_by_list, innermost_in}
@@ -62,7 +62,7 @@ end_cleanup_follows w g l sp x = start l.cleanups refl
   where
     -- the innermost goes
     gone : (c : Cleanup) (more : List Cleanup) → l.cleanups ≡ c ∷ more
-        → Stands w (record { caught = g.caught; cleanup = chained (w c.slot NEXT_CLEANUP); uncaught = g.uncaught }) (record { entries = l.entries; caught = l.caught; cleanups = more; uncaught = l.uncaught })
+        → Stands w (record { caught = g.caught; cleanup = chain_word (w c.slot NEXT_CLEANUP); uncaught = g.uncaught }) (record { entries = l.entries; caught = l.caught; cleanups = more; uncaught = l.uncaught })
     gone c more e =
         let chain = x.shows.cleanups in let chain' = rw e at chain in
         let frames = x.shows.frames in let frames' = rw e at frames in

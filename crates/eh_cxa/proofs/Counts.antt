@@ -5,8 +5,8 @@ use Rattle.std.specs.Ordering.{int_eq}
 use mir.Syntax.{w32}
 use Rattle.std.proofs.lemmas.Int.{ints}
 use Rattle.std.proofs.lemmas.Bool.Decides.{nat_tests, Decides-int_eq}
-use Rattle.eh_cxa.specs.Catch.{counted, negated, Fall, stays, falls, ends, leaves, fall}
-use Rattle.eh_cxa.specs.ListCalls.{caught_count, fall_of}
+use Rattle.eh_cxa.specs.Catch.{count_after_catch, negated_count, Fall, stays, falls, ends, leaves, fall}
+use Rattle.eh_cxa.specs.ListCalls.{one_more_handler, fall_of}
 
 abbrev pub signed : ℕ → ℤ
 signed c = cast_signed w32 c
@@ -14,10 +14,10 @@ signed c = cast_signed w32 c
 pub zero_count : (c : ℕ) → c < 2 ^ 32 → int_eq (signed c) (pos 0) ≡ (c == 0)
 zero_count c h = grind (arith, ints, nat_tests, Decides-int_eq)
 
-pub counted_is : (c : ℕ) → c < 2 ^ 32 → signed (counted c) ≡ caught_count (signed c)
+pub counted_is : (c : ℕ) → c < 2 ^ 32 → signed (count_after_catch c) ≡ one_more_handler (signed c)
 counted_is c h = grind (arith, ints, nat_tests)
 
-pub negated_is : (c : ℕ) → c < 2 ^ 32 → c ≢ 2 ^ 31 → signed (negated c) ≡ neg_ℤ (signed c)
+pub negated_is : (c : ℕ) → c < 2 ^ 32 → c ≢ 2 ^ 31 → signed (negated_count c) ≡ neg_ℤ (signed c)
 negated_is c h n = grind (arith, ints, nat_tests)
 
 abbrev pub as_signed : Fall ℕ → Fall ℤ
@@ -62,7 +62,7 @@ fall_is c h = rw (zero_count c h, one_count c h, last_count c h) (by_cases (c ==
 
 -- ---- signs
 
-pub caught_above : (z : ℤ) → pos 0 <ℤ caught_count z
+pub caught_above : (z : ℤ) → pos 0 <ℤ one_more_handler z
 caught_above z = grind (arith, ints)
 
 pub signed_zero : (c : ℕ) → c < 2 ^ 32 → signed c ≡ pos 0 → c ≡ 0
@@ -117,7 +117,7 @@ leaves_by c e = go (c == 0) (c == 1) (c == 2 ^ 32 - 1) refl (nat_lt c (2 ^ 31)) 
     go false false false b true e = cc
     go false false false b false e = cc
 
-pub negated_small : (c : ℕ) → negated c < 2 ^ 32
+pub negated_small : (c : ℕ) → negated_count c < 2 ^ 32
 negated_small c = omega arith
 
 pub positive : (c : ℕ) → c < 2 ^ 32 → pos 0 <ℤ signed c → c < 2 ^ 31

@@ -7,9 +7,9 @@ use Rattle.eh_cxa.specs.declared.globals.CxaFault.{CxaFault}
 use Rattle.eh_cxa.specs.declared.layout.TheConstants.{SLOTS, STATE, COUNT, NEXT_CAUGHT}
 use Rattle.eh_cxa.specs.declared.state.State.{State}
 use Rattle.eh_cxa.specs.declared.state.State.TheVariants.{Fresh, Flying, Landed, Caught, Ended}
-use Rattle.eh_cxa.specs.States.{named, is_caught}
+use Rattle.eh_cxa.specs.States.{state_of_word, is_caught}
 use Rattle.eh_cxa.specs.Words.{block_slot, Pool, Write, write, with_all, one_more}
-use Rattle.eh_cxa.specs.Catch.{negated, Fall, stays, falls, ends, leaves, fall, popped, end_catch_by, end_catch_of, rethrow_by, rethrow_of}
+use Rattle.eh_cxa.specs.Catch.{negated_count, Fall, stays, falls, ends, leaves, fall, globals_without_top, end_catch_by, end_catch_of, rethrow_by, rethrow_of}
 use Rattle.eh_cxa.specs.Lists.{Entry, Live, Lists, entry, slots, Once, count_in, state_in, CountFits, Fits}
 use Rattle.eh_cxa.specs.ListCalls.{become, with_entry, end_list, end_from, end_by_list, rethrow_list, rethrow_from, rethrow_by_list}
 use Rattle.eh_cxa.specs.Stands.{record_of, Chain, Shows, Stands, Follows}
@@ -27,7 +27,7 @@ pub record Top (w : Pool) (g : Globals) (l : Lists) (s : ℕ) (more : List ℕ) 
   pub chain : Chain (λ t. w t NEXT_CAUGHT) (w s NEXT_CAUGHT) more
   pub small : s < SLOTS
   pub inside : s < length l.entries
-  pub name : named (w s STATE) ≡ Some st
+  pub name : state_of_word (w s STATE) ≡ Some st
   pub is : entry l s ≡ Live (record_of st w s)
   pub in_range : w s COUNT < 2 ^ 32
   pub counts : signed (w s COUNT) ≡ pos 0 → ⊥
@@ -124,12 +124,12 @@ below : (st : State) (z : ℤ) → CountFits st z → st ≡ Flying → z ≤ℤ
 below st z f e = rw e at f
 
 ending : (w : Pool) (g : Globals) (l : Lists) (s : ℕ) (more : List ℕ) (st : State) → Top w g l s more st → fall (w s COUNT) ≡ ends
-    → Stands (with_all (end_catch_by ends w g s).writes w) (popped w g s)
+    → Stands (with_all (end_catch_by ends w g s).writes w) (globals_without_top w g s)
     (record { entries = set l.entries s (Live (become Ended (pos 0) (record_of st w s))); caught = more; cleanups = l.cleanups; uncaught = l.uncaught })
 ending w g l s more st p q =
     let e : signed (w s COUNT) ≡ pos 1 = rw (ends_by (w s COUNT) q) refl in
-    go w (end_catch_by ends w g s).writes g (popped w g s) l s more st _ p
-    (shows_set w (end_catch_by ends w g s).writes g (popped w g s) l s _ more l.uncaught p.stands.shows p.small (refl, (refl, tt))
+    go w (end_catch_by ends w g s).writes g (globals_without_top w g s) l s more st _ p
+    (shows_set w (end_catch_by ends w g s).writes g (globals_without_top w g s) l s _ more l.uncaught p.stands.shows p.small (refl, (refl, tt))
     ((p.small, omega arith, omega arith), ((p.small, omega arith, omega arith), tt))
     (showing (with_all (end_catch_by ends w g s).writes w) s Ended _ _ _ 0 (rw (self s) refl) refl refl refl (rw (self s) refl))
     (λ t h. refl) (λ t h. refl) refl p.stands.shows.uncaught (chain_pop (λ t. w t NEXT_CAUGHT) (w s NEXT_CAUGHT) more p.chain))
@@ -146,12 +146,12 @@ none_fits Fresh z e f = refl
 none_fits Ended z e f = refl
 
 leaving : (w : Pool) (g : Globals) (l : Lists) (s : ℕ) (more : List ℕ) (st : State) → Top w g l s more st → fall (w s COUNT) ≡ leaves
-    → Stands (with_all (end_catch_by leaves w g s).writes w) (popped w g s)
+    → Stands (with_all (end_catch_by leaves w g s).writes w) (globals_without_top w g s)
     (record { entries = set l.entries s (Live (become st (pos 0) (record_of st w s))); caught = more; cleanups = l.cleanups; uncaught = l.uncaught })
 leaving w g l s more st p q =
     let e : signed (w s COUNT) ≡ negsuc 0 = rw (leaves_by (w s COUNT) q) refl in
-    go w (end_catch_by leaves w g s).writes g (popped w g s) l s more st _ p
-    (shows_set w (end_catch_by leaves w g s).writes g (popped w g s) l s _ more l.uncaught p.stands.shows p.small (refl, tt)
+    go w (end_catch_by leaves w g s).writes g (globals_without_top w g s) l s more st _ p
+    (shows_set w (end_catch_by leaves w g s).writes g (globals_without_top w g s) l s _ more l.uncaught p.stands.shows p.small (refl, tt)
     ((p.small, omega arith, omega arith), tt)
     (showing (with_all (end_catch_by leaves w g s).writes w) s st _ _ _ 0 p.name refl refl refl (rw (self s) refl))
     (λ t h. refl) (λ t h. refl) refl p.stands.shows.uncaught (chain_pop (λ t. w t NEXT_CAUGHT) (w s NEXT_CAUGHT) more p.chain))
@@ -191,7 +191,7 @@ rising w g l s more st p q =
     (shows_set w (rethrow_by true w g s).writes g _ l s _ l.caught (one_more l.uncaught) p.stands.shows p.small (refl, (refl, tt))
     ((p.small, omega arith, negated_small (w s COUNT)), ((p.small, omega arith, omega arith), tt))
     (one_count Flying (record_of st w s) _ _ (sym (negated_is (w s COUNT) p.in_range (omega arith)))
-    ∙ showing (with_all (rethrow_by true w g s).writes w) s Flying _ _ _ (negated (w s COUNT)) (rw (self s) refl) refl refl refl (rw (self s) refl))
+    ∙ showing (with_all (rethrow_by true w g s).writes w) s Flying _ _ _ (negated_count (w s COUNT)) (rw (self s) refl) refl refl refl (rw (self s) refl))
     (λ t h. refl) (λ t h. refl) refl
     (ap one_more p.stands.shows.uncaught) p.stands.shows.caught)
     (λ z. minus_counts (signed (w s COUNT)) above z)

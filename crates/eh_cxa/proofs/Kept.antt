@@ -8,7 +8,7 @@ use Rattle.eh_cxa.specs.declared.globals.Globals.{Globals}
 use Rattle.eh_cxa.specs.declared.layout.TheConstants.{SLOTS, CLOSED_WORDS, STATE}
 use Rattle.eh_cxa.specs.Words.{Pool, word}
 use Rattle.eh_cxa.specs.Lists.{Entry, Free, OutOfUse, Lists, count_in, Fits}
-use Rattle.eh_cxa.specs.Runs.{nothing, no_globals}
+use Rattle.eh_cxa.specs.Runs.{empty_lists, no_globals}
 use Rattle.eh_cxa.specs.Stands.{Stands}
 use Rattle.eh_cxa.proofs.Pools.{block_slot_zero}
 use Rattle.eh_cxa.proofs.Showing.{shows_same}
@@ -24,7 +24,7 @@ blank P (suc n) zero f l = f
 blank P (suc n) (suc s) f l = blank P n s f l
 
 -- a pool of zeros has no exceptions
-pub start_stands : (w : Pool) → ((s k : ℕ) → s < SLOTS → k < CLOSED_WORDS → w s k ≡ 0) → Stands w no_globals nothing
+pub start_stands : (w : Pool) → ((s k : ℕ) → s < SLOTS → k < CLOSED_WORDS → w s k ≡ 0) → Stands w no_globals empty_lists
 start_stands w z = record {
   shows = record {
     small = λ s k h i. rw (z s k h i) (omega arith);

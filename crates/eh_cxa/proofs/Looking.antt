@@ -9,7 +9,7 @@ use mir.Syntax.{w32}
 use Rattle.eh_cxa.specs.declared.state.TheConstants.{FREE}
 use Rattle.eh_cxa.specs.declared.state.State.{State}
 use Rattle.eh_cxa.specs.declared.state.State.TheVariants.{Fresh, Flying, Landed, Caught, Ended}
-use Rattle.eh_cxa.specs.States.{named, is_fresh, is_flying, is_landed, is_caught}
+use Rattle.eh_cxa.specs.States.{state_of_word, is_fresh, is_flying, is_landed, is_caught}
 use Rattle.eh_cxa.specs.Words.{Pool, Write, with_word, with_all}
 use Rattle.eh_cxa.specs.Lists.{Entry, Free, OutOfUse, Live, Lists, entry, slots}
 use Rattle.eh_cxa.specs.ListCalls.{become}
@@ -25,29 +25,29 @@ self s = eq-eqb s s refl
 -- ---- what a slot holds
 
 pub data Look (w : Pool) (l : Lists) (s : ℕ) : Type 0 where
-  live : (st : State) → named (w s STATE) ≡ Some st → entry l s ≡ Live (record_of st w s) → Look w l s
+  live : (st : State) → state_of_word (w s STATE) ≡ Some st → entry l s ≡ Live (record_of st w s) → Look w l s
   free : w s STATE ≡ FREE → entry l s ≡ Free → Look w l s
-  lost : (w s STATE == FREE) ≡ false → named (w s STATE) ≡ None → entry l s ≡ OutOfUse → Look w l s
+  lost : (w s STATE == FREE) ≡ false → state_of_word (w s STATE) ≡ None → entry l s ≡ OutOfUse → Look w l s
 
 pub look : (w : Pool) (g : Globals) (l : Lists) (s : ℕ) → Shows w g l → s < SLOTS → Look w l s
-look w g l s x h = go (w s STATE == FREE) refl (named (w s STATE)) refl (x.entries s h)
+look w g l s x h = go (w s STATE == FREE) refl (state_of_word (w s STATE)) refl (x.entries s h)
   where
-    go : (b : Bool) → (w s STATE == FREE) ≡ b → (o : Option State) → named (w s STATE) ≡ o → entry l s ≡ cond b Free (live_at o w s) → Look w l s
+    go : (b : Bool) → (w s STATE == FREE) ≡ b → (o : Option State) → state_of_word (w s STATE) ≡ o → entry l s ≡ cond b Free (live_at o w s) → Look w l s
     go true p o q e = free (grind (arith, nat_tests)) e
     go false p (Some st) q e = live st q e
     go false p None q e = lost p q e
 
 -- a word that names a state shows a record
-pub shown : (n : ℕ) (st : State) (w : Pool) (s : ℕ) → named n ≡ Some st → entry_at n w s ≡ Live (record_of st w s)
+pub shown : (n : ℕ) (st : State) (w : Pool) (s : ℕ) → state_of_word n ≡ Some st → entry_at n w s ≡ Live (record_of st w s)
 shown n st w s e = go (n == FREE) refl
   where
-    go : (b : Bool) → (n == FREE) ≡ b → cond b Free (live_at (named n) w s) ≡ Live (record_of st w s)
-    go true q = let z : n ≡ FREE = grind (arith, nat_tests) in let f : Some st ≡ None = sym e ∙ ap named z in cc
+    go : (b : Bool) → (n == FREE) ≡ b → cond b Free (live_at (state_of_word n) w s) ≡ Live (record_of st w s)
+    go true q = let z : n ≡ FREE = grind (arith, nat_tests) in let f : Some st ≡ None = sym e ∙ ap state_of_word z in cc
     go false q = rw e refl
 
 -- the record that a slot shows, word by word
 pub showing : (u : Pool) (s : ℕ) (st : State) (size ty destructor c : ℕ)
-    → named (u s STATE) ≡ Some st → u s SIZE ≡ size → u s TYPE ≡ ty → u s DESTRUCTOR ≡ destructor → u s COUNT ≡ c
+    → state_of_word (u s STATE) ≡ Some st → u s SIZE ≡ size → u s TYPE ≡ ty → u s DESTRUCTOR ≡ destructor → u s COUNT ≡ c
     → Live (record { state = st; size = size; ty = ty; destructor = destructor; count = cast_signed w32 c }) ≡ entry_of u s
 showing u s st size ty destructor c n a b d e = same ∙ sym (shown (u s STATE) st u s n)
   where
@@ -55,11 +55,11 @@ showing u s st size ty destructor c n a b d e = same ∙ sym (shown (u s STATE) 
     same = rw (a, b, d, e) refl
 
 -- a named state isn't free
-pub not_free : (n : ℕ) (st : State) → named n ≡ Some st → (n == FREE) ≡ false
+pub not_free : (n : ℕ) (st : State) → state_of_word n ≡ Some st → (n == FREE) ≡ false
 not_free n st e = go (n == FREE) refl
   where
     go : (b : Bool) → (n == FREE) ≡ b → b ≡ false
-    go true q = let z : n ≡ FREE = grind (arith, nat_tests) in let f : Some st ≡ None = sym e ∙ ap named z in cc
+    go true q = let z : n ≡ FREE = grind (arith, nat_tests) in let f : Some st ≡ None = sym e ∙ ap state_of_word z in cc
     go false q = refl
 
 -- what a call asks of a state

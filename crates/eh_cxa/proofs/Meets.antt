@@ -13,8 +13,8 @@ use Rattle.eh_cxa.specs.declared.layout.TheConstants.{SLOTS, SLOT_WORDS, OBJECT_
 use Rattle.eh_bus.specs.declared.map.TheConstants.{SLOT_SIZE}
 use Rattle.eh_cxa.specs.declared.state.TheConstants.{FREE, FRESH}
 use Rattle.eh_cxa.specs.declared.state.State.TheVariants.{Flying}
-use Rattle.eh_cxa.specs.States.{named, is_fresh, is_flying, is_caught, may_be_freed}
-use Rattle.eh_cxa.specs.Words.{block_slot, object_slot, object, write, word, Pool, Write, with_all, put_all, Wrote, wrote, Done, made}
+use Rattle.eh_cxa.specs.States.{state_of_word, is_fresh, is_flying, is_caught, may_be_freed}
+use Rattle.eh_cxa.specs.Words.{block_slot, object_slot, object, write, word, Pool, Write, with_all, set_slot_words, Wrote, wrote, Done, call_result}
 use Rattle.eh_cxa.specs.Allocate.{zeros, first_slot, allocate_at, allocate_of, free_by, free_of}
 use Rattle.eh_cxa.specs.Throw.{Throw, throw_by, start_throw_of, set_barrier_of, land_by, land_of}
 use Rattle.eh_cxa.specs.Catch.{begin_catch_of, catch_in, catch_at, catch_by, Fall, stays, falls, ends, leaves, fall, end_catch_by, end_catch_of, end_catch_at, rethrow_of, rethrow_at, rethrow_by}
@@ -34,22 +34,22 @@ use Rattle.eh_cxa.proofs.EndLaws.{end_catch_follows, rethrow_follows}
 use Rattle.eh_cxa.proofs.CleanupLaws.{FitCleanup, begin_cleanup_follows, end_cleanup_follows}
 
 -- lists that the written words stand for are those that the memory stands for
-pub moved : (m : Memory) (xs : List Write) (g : Globals) (l : Lists) → IsMap m → AllFit xs → Stands (with_all xs (word m)) g l → Stands (word (put_all xs m)) g l
+pub moved : (m : Memory) (xs : List Write) (g : Globals) (l : Lists) → IsMap m → AllFit xs → Stands (with_all xs (word m)) g l → Stands (word (set_slot_words xs m)) g l
 moved m xs g l map fit x = record { shows = shows_same _ _ g l (λ s k h i. all_agree xs (word m) m map fit (λ s k h i. refl) s k h (omega arith)) x.shows; valid = x.valid }
 
-pub meets : {A : Type 0} (m m' : Memory) (g' : Globals) (r : A) (d : Done A) (o : Outcome A) → IsMap m → (r, g', m') ≡ made d m → AllFit d.writes
+pub meets : {A : Type 0} (m m' : Memory) (g' : Globals) (r : A) (d : Done A) (o : Outcome A) → IsMap m → (r, g', m') ≡ call_result d m → AllFit d.writes
     → Follows (with_all d.writes (word m)) d.globals d.answer o → Follows (word m') g' r o
 meets {A} m m' g' r d o map e fit f =
     let a : r ≡ d.answer = ap (λ (p : A × Globals × Memory). p.0) e in
     let b : g' ≡ d.globals = ap (λ (p : A × Globals × Memory). p.1) e in
-    let c : m' ≡ put_all d.writes m = ap (λ (p : A × Globals × Memory). p.2) e in
+    let c : m' ≡ set_slot_words d.writes m = ap (λ (p : A × Globals × Memory). p.2) e in
     record { same = a ∙ f.same; stands = rw (b, c) (moved m d.writes d.globals o.lists map fit f.stands) }
 
 pub meets_wrote : {A : Type 0} (m m' : Memory) (g : Globals) (r : A) (d : Wrote A) (o : Outcome A) → IsMap m → (r, m') ≡ wrote d m → AllFit d.writes
     → Follows (with_all d.writes (word m)) g d.answer o → Follows (word m') g r o
 meets_wrote {A} m m' g r d o map e fit f =
     let a : r ≡ d.answer = ap (λ (p : A × Memory). p.0) e in
-    let c : m' ≡ put_all d.writes m = ap (λ (p : A × Memory). p.1) e in
+    let c : m' ≡ set_slot_words d.writes m = ap (λ (p : A × Memory). p.1) e in
     record { same = a ∙ f.same; stands = rw c (moved m d.writes g o.lists map fit f.stands) }
 
 -- ---- what each call writes are words
@@ -67,7 +67,7 @@ allocate_fit w size fit = by_size (nat_lt OBJECT_BYTES size)
 
 free_fit : (w : Pool) (o : Option ℕ) → ((s : ℕ) → o ≡ Some s → s < SLOTS) → AllFit (free_of w o).writes
 free_fit w None small = tt
-free_fit w (Some s) small = by (may_be_freed (named (w s STATE)))
+free_fit w (Some s) small = by (may_be_freed (state_of_word (w s STATE)))
   where
     by : (b : Bool) → AllFit (free_by b s).writes
     by false = tt
@@ -75,7 +75,7 @@ free_fit w (Some s) small = by (may_be_freed (named (w s STATE)))
 
 throw_fit : (w : Pool) (g : Globals) (o : Option ℕ) (t : Throw) → ((s : ℕ) → o ≡ Some s → s < SLOTS) → FitThrow t → AllFit (start_throw_of w g o t).writes
 throw_fit w g None t small fit = tt
-throw_fit w g (Some s) t small fit = by (is_fresh (named (w s STATE)))
+throw_fit w g (Some s) t small fit = by (is_fresh (state_of_word (w s STATE)))
   where
     h : s < SLOTS
     h = small s refl
@@ -96,7 +96,7 @@ barrier_fit s b h f =
     ((h, omega arith, f.sp), ((h, omega arith, f.object), ((h, omega arith, f.desc), ((h, omega arith, f.pointer), ((h, omega arith, omega arith), ((h, omega arith, omega arith), tt))))))
 
 land_fit : (w : Pool) (s : ℕ) → s < SLOTS → AllFit (land_of w (Some s))
-land_fit w s h = by (is_flying (named (w s STATE)))
+land_fit w s h = by (is_flying (state_of_word (w s STATE)))
   where
     by : (b : Bool) → AllFit (land_by b s)
     by false = tt
@@ -139,7 +139,7 @@ rethrow_fit w g = start (block_slot g.caught) refl
 
     start : (o : Option ℕ) → block_slot g.caught ≡ o → AllFit (rethrow_at w g o).writes
     start None e = tt
-    start (Some s) e = by s (slot_small g.caught s e) (is_caught (named (w s STATE)))
+    start (Some s) e = by s (slot_small g.caught s e) (is_caught (state_of_word (w s STATE)))
 
 end_cleanup_fit : (w : Pool) (g : Globals) (sp : ℕ) → AllFit (end_cleanup_of w g sp).writes
 end_cleanup_fit w g sp = start (block_slot g.cleanup)
@@ -165,71 +165,71 @@ free_meets m m' r object map e g l x =
     let small = λ (s : ℕ) (h : object_slot object ≡ Some s). object_small object s h in
     meets_wrote m m' g r (free_of (word m) (object_slot object)) _ map e (free_fit (word m) (object_slot object) small) (free_follows (word m) g l (object_slot object) small x)
 
-pub throw_meets : (m m' : Memory) (g g' : Globals) (r : Result ℕ CxaFault) (object : ℕ) (t : Throw) → IsMap m → FitThrow t → (r, g', m') ≡ made (start_throw_of (word m) g (object_slot object) t) m
+pub throw_meets : (m m' : Memory) (g g' : Globals) (r : Result ℕ CxaFault) (object : ℕ) (t : Throw) → IsMap m → FitThrow t → (r, g', m') ≡ call_result (start_throw_of (word m) g (object_slot object) t) m
     → (l : Lists) → Stands (word m) g l → Follows (word m') g' r (throw_list l (object_slot object) t)
 throw_meets m m' g g' r object t map fit e l x =
     let small = λ (s : ℕ) (h : object_slot object ≡ Some s). object_small object s h in
     meets m m' g' r (start_throw_of (word m) g (object_slot object) t) _ map e (throw_fit (word m) g (object_slot object) t small fit) (throw_follows (word m) g l (object_slot object) t small fit x)
 
-pub barrier_meets : (m m' : Memory) (ucb : ℕ) (b : BarrierWords) → IsMap m → FitBarrier b → m' ≡ put_all (set_barrier_of (block_slot ucb) b) m
+pub barrier_meets : (m m' : Memory) (ucb : ℕ) (b : BarrierWords) → IsMap m → FitBarrier b → m' ≡ set_slot_words (set_barrier_of (block_slot ucb) b) m
     → (g : Globals) (l : Lists) → Stands (word m) g l → Stands (word m') g l
 barrier_meets m m' ucb b map fit e g l x = start (block_slot ucb) refl e
   where
-    start : (o : Option ℕ) → block_slot ucb ≡ o → m' ≡ put_all (set_barrier_of o b) m → Stands (word m') g l
+    start : (o : Option ℕ) → block_slot ucb ≡ o → m' ≡ set_slot_words (set_barrier_of o b) m → Stands (word m') g l
     start None q e = rw e x
     start (Some s) q e =
         let f = barrier_fit s b (slot_small ucb s q) fit in
         rw e (moved m (set_barrier_of (Some s) b) g l map f (barrier_keeps (word m) g l s b f x))
 
 -- the guest can load the pointer
-pub barrier_open : (m m' : Memory) (ucb : ℕ) (b : BarrierWords) → IsMap m → FitBarrier b → m' ≡ put_all (set_barrier_of (block_slot ucb) b) m
+pub barrier_open : (m m' : Memory) (ucb : ℕ) (b : BarrierWords) → IsMap m → FitBarrier b → m' ≡ set_slot_words (set_barrier_of (block_slot ucb) b) m
     → IsSome (block_slot ucb) → load 4 m' (ucb + 44) ≡ Ok b.pointer
 barrier_open m m' ucb b map fit e some = start (block_slot ucb) refl e some
   where
     written : (w : Pool) (s : ℕ) → with_all (set_barrier_of (Some s) b) w s BARRIER_POINTER ≡ b.pointer
     written w s = rw (self s) refl
 
-    start : (o : Option ℕ) → block_slot ucb ≡ o → m' ≡ put_all (set_barrier_of o b) m → IsSome o → load 4 m' (ucb + 44) ≡ Ok b.pointer
+    start : (o : Option ℕ) → block_slot ucb ≡ o → m' ≡ set_slot_words (set_barrier_of o b) m → IsSome o → load 4 m' (ucb + 44) ≡ Ok b.pointer
     start None q e i = cc
     start (Some s) q e i =
         let h = slot_small ucb s q in
         let f = barrier_fit s b h fit in
         let g = all_agree (set_barrier_of (Some s) b) (word m) m map f (λ s k h i. refl) s BARRIER_POINTER h (omega arith) ∙ written (word m) s in
-        rw (e, slot_block ucb s q) (open_word (put_all (set_barrier_of (Some s) b) m) s (all_is_map (set_barrier_of (Some s) b) m map) h ∙ ap (λ (v : ℕ). Ok v) g)
+        rw (e, slot_block ucb s q) (open_word (set_slot_words (set_barrier_of (Some s) b) m) s (all_is_map (set_barrier_of (Some s) b) m map) h ∙ ap (λ (v : ℕ). Ok v) g)
 
-pub land_meets : (m m' : Memory) (ucb : ℕ) → IsMap m → m' ≡ put_all (land_of (word m) (block_slot ucb)) m
+pub land_meets : (m m' : Memory) (ucb : ℕ) → IsMap m → m' ≡ set_slot_words (land_of (word m) (block_slot ucb)) m
     → (g : Globals) (l : Lists) (s : ℕ) → Stands (word m) g l → block_slot ucb ≡ Some s → (Has (slots l.cleanups) s → ⊥) → Stands (word m') g (land_list l s)
 land_meets m m' ucb map e g l s x is idle =
     let h = slot_small ucb s is in
     let e' = rw is at e in
     rw e' (moved m (land_of (word m) (Some s)) g _ map (land_fit (word m) s h) (land_follows (word m) g l s h idle x))
 
-pub begin_catch_meets : (m m' : Memory) (g g' : Globals) (r : Result ℕ CxaFault) (ucb : ℕ) → IsMap m → g.caught < 2 ^ 32 → (r, g', m') ≡ made (begin_catch_of (word m) g ucb) m
+pub begin_catch_meets : (m m' : Memory) (g g' : Globals) (r : Result ℕ CxaFault) (ucb : ℕ) → IsMap m → g.caught < 2 ^ 32 → (r, g', m') ≡ call_result (begin_catch_of (word m) g ucb) m
     → (l : Lists) → Stands (word m) g l → Follows (word m') g' r (catch_list (λ s. word m s BARRIER_OBJECT) l (block_slot ucb))
 begin_catch_meets m m' g g' r ucb map gs e l x =
     meets m m' g' r (begin_catch_of (word m) g ucb) _ map e (catch_fit (word m) g ucb gs) (begin_catch_follows (word m) g l ucb gs x)
 
-pub end_catch_meets : (m m' : Memory) (g g' : Globals) (r : Result (ℕ × ℕ) CxaFault) → IsMap m → (r, g', m') ≡ made (end_catch_of (word m) g) m
+pub end_catch_meets : (m m' : Memory) (g g' : Globals) (r : Result (ℕ × ℕ) CxaFault) → IsMap m → (r, g', m') ≡ call_result (end_catch_of (word m) g) m
     → (l : Lists) → Stands (word m) g l → Follows (word m') g' r (end_list l)
 end_catch_meets m m' g g' r map e l x =
     meets m m' g' r (end_catch_of (word m) g) _ map e (end_fit (word m) g (λ s h. x.shows.small s COUNT h (omega arith))) (end_catch_follows (word m) g l x)
 
-pub rethrow_meets : (m m' : Memory) (g g' : Globals) (r : Result ℕ CxaFault) → IsMap m → (r, g', m') ≡ made (rethrow_of (word m) g) m
+pub rethrow_meets : (m m' : Memory) (g g' : Globals) (r : Result ℕ CxaFault) → IsMap m → (r, g', m') ≡ call_result (rethrow_of (word m) g) m
     → (l : Lists) → Stands (word m) g l → Follows (word m') g' r (rethrow_list l)
 rethrow_meets m m' g g' r map e l x = meets m m' g' r (rethrow_of (word m) g) _ map e (rethrow_fit (word m) g) (rethrow_follows (word m) g l x)
 
-pub end_cleanup_meets : (m m' : Memory) (g g' : Globals) (r : Result (ℕ × CleanupWords) CxaFault) (sp : ℕ) → IsMap m → (r, g', m') ≡ made (end_cleanup_of (word m) g sp) m
+pub end_cleanup_meets : (m m' : Memory) (g g' : Globals) (r : Result (ℕ × CleanupWords) CxaFault) (sp : ℕ) → IsMap m → (r, g', m') ≡ call_result (end_cleanup_of (word m) g sp) m
     → (l : Lists) → Stands (word m) g l → Follows (word m') g' r (end_cleanup_list l sp)
 end_cleanup_meets m m' g g' r sp map e l x = meets m m' g' r (end_cleanup_of (word m) g sp) _ map e (end_cleanup_fit (word m) g sp) (end_cleanup_follows (word m) g l sp x)
 
 pub begin_cleanup_meets : (m m' : Memory) (g g' : Globals) (ucb : ℕ) (c : CleanupWords) → IsMap m → g.cleanup < 2 ^ 32 → FitCleanup c
-    → (tt, g', m') ≡ made (begin_cleanup_of g ucb c) m
+    → (tt, g', m') ≡ call_result (begin_cleanup_of g ucb c) m
     → (l : Lists) (s : ℕ) → Stands (word m) g l → block_slot ucb ≡ Some s → state_in (entry l s) ≡ Some Flying → (Has (slots l.cleanups) s → ⊥)
     → Stands (word m') g' (begin_cleanup_list l s c)
 begin_cleanup_meets m m' g g' ucb c map gs f e l s x is two fresh =
     let d = begin_cleanup_of g ucb c in
     let b : g' ≡ d.globals = ap (λ (p : Unit {0} × Globals × Memory). p.1) e in
-    let a : m' ≡ put_all d.writes m = ap (λ (p : Unit {0} × Globals × Memory). p.2) e in
+    let a : m' ≡ set_slot_words d.writes m = ap (λ (p : Unit {0} × Globals × Memory). p.2) e in
     rw (b, a) (moved m d.writes d.globals _ map (rw is fit) (begin_cleanup_follows (word m) g l ucb s c x gs f is two fresh))
   where
     fit : AllFit (cleanup_at g ucb c (Some s)).writes
@@ -274,7 +274,7 @@ allocate_clears m m' r size map fit e s k is h low high = by_size (nat_lt OBJECT
         let a : Ok (object s) ≡ Ok (object t) = sym is ∙ ap (λ (p : Result ℕ CxaFault × Memory). p.0) e in
         let b : object s ≡ object t = cc in
         let c : t ≡ s = omega arith in
-        let d : m' ≡ put_all (fresh t size) m = ap (λ (p : Result ℕ CxaFault × Memory). p.1) e in
+        let d : m' ≡ set_slot_words (fresh t size) m = ap (λ (p : Result ℕ CxaFault × Memory). p.1) e in
         rw (d, c) (all_agree (fresh s size) (word m) m map (fresh_fit s size h fit) (λ s k h i. refl) s k h (omega arith) ∙ fresh_clear (word m) s size k low (omega arith))
 
     by_size : (b : Bool) → (r, m') ≡ wrote (cond b (record { answer = Err TooBig; writes = [] }) (allocate_at size (first_slot (λ s. word m s STATE == FREE)))) m → word m' s k ≡ 0

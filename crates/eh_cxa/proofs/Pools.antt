@@ -9,7 +9,7 @@ use Rattle.eh_bus.proofs.PartLaws.{parts, pool_fault, host_back, host_other}
 use Rattle.eh_bus.proofs.MapLaws.{host_is_map}
 use Rattle.eh_cxa.specs.declared.layout.TheConstants.{SLOTS, SLOT_WORDS, BARRIER_POINTER}
 use Rattle.eh_bus.specs.declared.map.TheConstants.{POOL_START, SLOT_SIZE}
-use Rattle.eh_cxa.specs.Words.{block_slot, object_slot, block, object, word, put, Pool, Write, with_word, with_all, put_all}
+use Rattle.eh_cxa.specs.Words.{block_slot, object_slot, block, object, word, set_slot_word, Pool, Write, with_word, with_all, set_slot_words}
 
 pub slot_small : (a s : ℕ) → block_slot a ≡ Some s → s < SLOTS
 unfolding block_slot
@@ -49,8 +49,8 @@ AllFit (x ∷ more) = ((x.slot < SLOTS) × (x.place < SLOT_WORDS) × (x.value < 
 abbrev pub Agrees : Pool → Memory → Type 0
 Agrees w m = (s k : ℕ) → s < SLOTS → k < SLOT_WORDS → word m s k ≡ w s k
 
-put_agrees : (w : Pool) (m : Memory) (x : Write) → IsMap m → x.slot < SLOTS → x.place < SLOT_WORDS → x.value < 2 ^ 32 → Agrees w m → Agrees (with_word w x) (put m x.slot x.place x.value)
-unfolding word put
+put_agrees : (w : Pool) (m : Memory) (x : Write) → IsMap m → x.slot < SLOTS → x.place < SLOT_WORDS → x.value < 2 ^ 32 → Agrees w m → Agrees (with_word w x) (set_slot_word m x.slot x.place x.value)
+unfolding word set_slot_word
 put_agrees w m x map l h v a s k sl kh = by_cases (k == x.place) refl (s == x.slot) refl
   where
     at : ℕ → ℕ → ℕ
@@ -69,19 +69,19 @@ put_agrees w m x map l h v a s k sl kh = by_cases (k == x.place) refl (s == x.sl
     by_cases false p false q =
         host_other m _ x.value _ (grind (arith, nat_tests)) ∙ a s k sl kh
 
-pub put_is_map : (m : Memory) (s k v : ℕ) → IsMap m → IsMap (put m s k v)
-unfolding put
+pub put_is_map : (m : Memory) (s k v : ℕ) → IsMap m → IsMap (set_slot_word m s k v)
+unfolding set_slot_word
 put_is_map m s k v map = host_is_map m _ v map
 
-pub all_agree : (xs : List Write) (w : Pool) (m : Memory) → IsMap m → AllFit xs → Agrees w m → Agrees (with_all xs w) (put_all xs m)
+pub all_agree : (xs : List Write) (w : Pool) (m : Memory) → IsMap m → AllFit xs → Agrees w m → Agrees (with_all xs w) (set_slot_words xs m)
 all_agree [] w m map f a = a
 all_agree (x ∷ more) w m map f a =
-    all_agree more (with_word w x) (put m x.slot x.place x.value) (put_is_map m x.slot x.place x.value map) f.1
+    all_agree more (with_word w x) (set_slot_word m x.slot x.place x.value) (put_is_map m x.slot x.place x.value map) f.1
     (put_agrees w m x map f.0.0 f.0.1 f.0.2 a)
 
-pub all_is_map : (xs : List Write) (m : Memory) → IsMap m → IsMap (put_all xs m)
+pub all_is_map : (xs : List Write) (m : Memory) → IsMap m → IsMap (set_slot_words xs m)
 all_is_map [] m map = map
-all_is_map (x ∷ more) m map = all_is_map more (put m x.slot x.place x.value) (put_is_map m x.slot x.place x.value map)
+all_is_map (x ∷ more) m map = all_is_map more (set_slot_word m x.slot x.place x.value) (put_is_map m x.slot x.place x.value map)
 
 -- the guest may load one closed word of a slot, that of the barrier's pointer
 pub open_word : (m : Memory) (s : ℕ) → IsMap m → s < SLOTS → load 4 m (block s + 44) ≡ Ok (word m s BARRIER_POINTER)

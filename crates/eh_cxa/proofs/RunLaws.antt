@@ -17,8 +17,8 @@ use Rattle.eh_cxa.specs.Allocate.{first_slot}
 use Rattle.eh_cxa.specs.Throw.{Throw}
 use Rattle.eh_cxa.specs.Catch.{catch_fault, Fall, stays, falls, ends, leaves}
 use Rattle.eh_cxa.specs.Lists.{Record, Entry, Free, OutOfUse, Live, Lists, entry, state_in, CountFits, Fits}
-use Rattle.eh_cxa.specs.ListCalls.{become, is_free, fresh_record, allocate_in, allocate_list, free_by_list, free_list, thrown_record, throw_by_list, throw_entry, throw_list, land_record, land_entry, land_list, caught_count, is_top, catch_by_list, catch_entry, catch_list, fall_of, end_by_list, end_entry, end_from, end_list, rethrow_by_list, rethrow_entry, rethrow_from, rethrow_list, end_cleanup_by_list, end_cleanup_from, end_cleanup_list}
-use Rattle.eh_cxa.specs.Runs.{flies, nothing, Call, Allocate, GiveBack, StartThrow, Land, BeginCatch, EndCatch, Rethrow, BeginCleanup, EndCleanup, after, run, UncaughtFly}
+use Rattle.eh_cxa.specs.ListCalls.{become, is_free, fresh_record, allocate_in, allocate_list, free_by_list, free_list, record_of_throw, throw_by_list, throw_entry, throw_list, land_record, land_entry, land_list, one_more_handler, is_top, catch_by_list, catch_entry, catch_list, fall_of, end_by_list, end_entry, end_from, end_list, rethrow_by_list, rethrow_entry, rethrow_from, rethrow_list, end_cleanup_by_list, end_cleanup_from, end_cleanup_list}
+use Rattle.eh_cxa.specs.Runs.{flies, empty_lists, Call, Allocate, GiveBack, StartThrow, Land, BeginCatch, EndCatch, Rethrow, BeginCleanup, EndCleanup, lists_after, run, UncaughtFly}
 use Rattle.eh_cxa.proofs.Counts.{caught_above, minus_below}
 use Rattle.eh_cxa.proofs.Valid.{at_set}
 use Rattle.eh_cxa.proofs.Zeros.{first_passes}
@@ -209,7 +209,7 @@ sound_throw l (Some s) t x = by (entry l s) refl
     thrown r is true q =
         let f = x.fits s in let f' = rw is at f in
         let st = fresh_is r.state q in
-        one_flies l (throw_by_list true l s r t).lists s (Live (thrown_record t r)) refl refl (live_inside l.entries s r is)
+        one_flies l (throw_by_list true l s r t).lists s (Live (record_of_throw t r)) refl refl (live_inside l.entries s r is)
         (zero_fits r.state r.count st f') (rw is (rw st refl)) refl x
 
     by : (e : Entry) → entry l s ≡ e → Sound (throw_entry l s e t).lists
@@ -241,7 +241,7 @@ sound_catch given l (Some s) x = by (entry l s) refl
     caught r is (Some e) q = x
     caught r is None q =
         let st = no_fault r.state _ _ q in
-        one_lands l (catch_by_list (given s) l s r None).lists s (Live (become Caught (caught_count r.count) r)) refl refl (live_inside l.entries s r is)
+        one_lands l (catch_by_list (given s) l s r None).lists s (Live (become Caught (one_more_handler r.count) r)) refl refl (live_inside l.entries s r is)
         (caught_above r.count) (rw is (rw st refl)) refl x
 
     by : (e : Entry) → entry l s ≡ e → Sound (catch_entry (given s) l s e).lists
@@ -307,7 +307,7 @@ sound_end_cleanup l sp x = start l.cleanups
     start [] = x
     start (c ∷ more) = by (c.sp == sp) c more
 
-pub sound_after : (c : Call) (l : Lists) → Sound l → Sound (after c l)
+pub sound_after : (c : Call) (l : Lists) → Sound l → Sound (lists_after c l)
 sound_after (Allocate size) l x = sound_allocate l size x
 sound_after (GiveBack s) l x = sound_free l s x
 sound_after (StartThrow s t) l x = sound_throw l s t x
@@ -321,12 +321,12 @@ sound_after (EndCleanup sp) l x = sound_end_cleanup l sp x
 none_fly : (n : ℕ) → count_by flies (replicate n Free) ≡ 0
 none_fly n = let e = sum_by-replicate one n Free in omega (arith, e)
 
-pub sound_nothing : Sound nothing
+pub sound_nothing : Sound empty_lists
 sound_nothing = record { sized = refl; fits = λ s. blank Fits 64 s tt tt; tallied = sym (none_fly 64) }
 
 sound_run : (calls : List Call) (l : Lists) → Sound l → Sound (run calls l)
 sound_run [] l x = x
-sound_run (c ∷ more) l x = sound_run more (after c l) (sound_after c l x)
+sound_run (c ∷ more) l x = sound_run more (lists_after c l) (sound_after c l x)
 
 pub uncaught_fly : UncaughtFly
-uncaught_fly calls = (sound_run calls nothing sound_nothing).tallied
+uncaught_fly calls = (sound_run calls empty_lists sound_nothing).tallied

@@ -6,7 +6,7 @@ use Rattle.eh_cxa.specs.declared.globals.Globals.{Globals}
 use Rattle.eh_cxa.specs.Words.{Pool, Write, with_word, with_all}
 use Rattle.eh_cxa.specs.Lists.{Entry, Free, OutOfUse, Cleanup, Lists, entry, slots}
 use Rattle.eh_cxa.specs.Stands.{live_at, entry_of, cleanup_of, Frames, Shows}
-use Rattle.eh_cxa.specs.States.{named}
+use Rattle.eh_cxa.specs.States.{state_of_word}
 use Rattle.eh_cxa.specs.declared.state.State.{State}
 use Rattle.eh_cxa.specs.declared.state.TheConstants.{FREE}
 use Rattle.eh_cxa.specs.declared.layout.TheConstants.{SLOTS, CLOSED_WORDS, STATE, SIZE, TYPE, DESTRUCTOR, COUNT, NEXT_CAUGHT, CLEANUP_NEXT, CLEANUP_SP, CLEANUP_SITE, NEXT_CLEANUP}
@@ -34,7 +34,7 @@ only_at s (x ∷ more) w a t n k = only_at s more (with_word w x) a.1 t n k ∙ 
 -- only the header's first five words show
 pub entry_same : (w u : Pool) (t : ℕ) → u t STATE ≡ w t STATE → u t SIZE ≡ w t SIZE → u t TYPE ≡ w t TYPE → u t DESTRUCTOR ≡ w t DESTRUCTOR → u t COUNT ≡ w t COUNT
     → entry_of u t ≡ entry_of w t
-entry_same w u t state size ty destructor count = rw state (by_cases (w t STATE == FREE) (named (w t STATE)))
+entry_same w u t state size ty destructor count = rw state (by_cases (w t STATE == FREE) (state_of_word (w t STATE)))
   where
     by_cases : (b : Bool) (o : Option State) → cond b Free (live_at o u t) ≡ cond b Free (live_at o w t)
     by_cases true o = refl

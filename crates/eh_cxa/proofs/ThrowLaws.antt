@@ -8,11 +8,11 @@ use Rattle.eh_cxa.specs.declared.globals.CxaFault.{CxaFault}
 use Rattle.eh_cxa.specs.declared.layout.TheConstants.{SLOTS, STATE, COUNT}
 use Rattle.eh_cxa.specs.declared.state.State.{State}
 use Rattle.eh_cxa.specs.declared.state.State.TheVariants.{Fresh, Flying, Landed}
-use Rattle.eh_cxa.specs.States.{named, is_fresh, is_flying}
+use Rattle.eh_cxa.specs.States.{state_of_word, is_fresh, is_flying}
 use Rattle.eh_cxa.specs.Words.{Pool, with_all, one_more}
 use Rattle.eh_cxa.specs.Throw.{Throw, throw_by, start_throw_of, set_barrier_of, land_by, land_of}
 use Rattle.eh_cxa.specs.Lists.{Live, Lists, entry, slots, CountFits}
-use Rattle.eh_cxa.specs.ListCalls.{thrown_record, throw_by_list, throw_list, land_record, land_list}
+use Rattle.eh_cxa.specs.ListCalls.{record_of_throw, throw_by_list, throw_list, land_record, land_list}
 use Rattle.eh_cxa.specs.Stands.{record_of, Stands, Follows}
 use Rattle.eh_cxa.proofs.Counts.{signed}
 use Rattle.eh_cxa.proofs.Showing.{entry_same}
@@ -54,7 +54,7 @@ throw_follows w g l (Some s) t small fit x = seen (look w g l s x.shows h)
         record {
           same = refl;
           stands =
-              replaced w (throw_by true g s t).writes g (throw_by true g s t).globals l s (Live (thrown_record t (record_of st w s))) (one_more l.uncaught) x h
+              replaced w (throw_by true g s t).writes g (throw_by true g s t).globals l s (Live (record_of_throw t (record_of st w s))) (one_more l.uncaught) x h
               (aside w g l s x (rw is zero) (rw is (fresh_rests st (fresh_is st q))))
               (refl, (refl, (refl, (refl, (refl, tt)))))
               ((h, omega arith, fit.ty), ((h, omega arith, fit.destructor), ((h, omega arith, omega arith), ((h, omega arith, omega arith), ((h, omega arith, omega arith), tt)))))
@@ -93,7 +93,7 @@ pub land_follows : (w : Pool) (g : Globals) (l : Lists) (s : ℕ) → s < SLOTS 
     → Stands (with_all (land_of w (Some s)) w) g (land_list l s)
 land_follows w g l s h idle x = seen (look w g l s x.shows h)
   where
-    by : (st : State) → named (w s STATE) ≡ Some st → entry l s ≡ Live (record_of st w s) → (b : Bool) → is_flying (Some st) ≡ b
+    by : (st : State) → state_of_word (w s STATE) ≡ Some st → entry l s ≡ Live (record_of st w s) → (b : Bool) → is_flying (Some st) ≡ b
         → Stands (with_all (land_by b s) w) g (land_record b l s (record_of st w s))
     by st name is false q = x
     by st name is true q =

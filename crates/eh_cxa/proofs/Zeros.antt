@@ -3,20 +3,20 @@ use Rattle.std.proofs.Common.{◌≡◌, ◌≢◌, ℕ, zero, suc, ◌+◌, ◌
 use Rattle.std.proofs.lemmas.Bool.Decides.{nat_tests}
 use Rattle.eh_bus.specs.Memory.{Memory}
 use Rattle.eh_cxa.specs.declared.layout.TheConstants.{SLOTS, SLOT_WORDS}
-use Rattle.eh_cxa.specs.Words.{Pool, Write, write, put, with_word, with_all, put_all}
+use Rattle.eh_cxa.specs.Words.{Pool, Write, write, set_slot_word, with_word, with_all, set_slot_words}
 use Rattle.eh_cxa.specs.Allocate.{zeros, first_from, first_slot}
 use Rattle.eh_cxa.proofs.Pools.{AllFit}
 use Rattle.eh_cxa.proofs.Showing.{AllAt}
 
-pub put_append : (xs ys : List Write) (m : Memory) → put_all (xs ++ ys) m ≡ put_all ys (put_all xs m)
+pub put_append : (xs ys : List Write) (m : Memory) → set_slot_words (xs ++ ys) m ≡ set_slot_words ys (set_slot_words xs m)
 put_append [] ys m = refl
-put_append (x ∷ xs) ys m = put_append xs ys (put m x.slot x.place x.value)
+put_append (x ∷ xs) ys m = put_append xs ys (set_slot_word m x.slot x.place x.value)
 
 pub with_append : (xs ys : List Write) (w : Pool) → with_all (xs ++ ys) w ≡ with_all ys (with_all xs w)
 with_append [] ys w = refl
 with_append (x ∷ xs) ys w = with_append xs ys (with_word w x)
 
-pub zeros_more : (s n : ℕ) (m : Memory) → put_all (zeros s (n + 1)) m ≡ put (put_all (zeros s n) m) s n 0
+pub zeros_more : (s n : ℕ) (m : Memory) → set_slot_words (zeros s (n + 1)) m ≡ set_slot_word (set_slot_words (zeros s n) m) s n 0
 unfolding zeros
 zeros_more s n m = rw add-one (put_append (zeros s n) (write s n 0 ∷ []) m)
 

@@ -4,7 +4,7 @@ use Rattle.eh_bus.specs.Lists.{Has}
 use Rattle.eh_cxa.specs.declared.state.State.{State}
 use Rattle.eh_cxa.specs.declared.state.State.TheVariants.{Fresh, Flying, Landed, Caught, Ended}
 
--- a live exception; its slot is its place, and its object is the slot's
+-- a live exception; the slot is its index in entries, and its object is the slot's
 pub record Record : Type 0 where
   pub state : State
   pub size : ℕ
@@ -34,7 +34,7 @@ pub record Lists : Type 0 where
   -- modulo 2^32
   pub uncaught : ℕ
 
--- what the slot holds; there is none after the last
+-- the entry of the slot; OutOfUse past the last
 abbrev pub entry : Lists → ℕ → Entry
 entry l s = get_or l.entries s OutOfUse
 
@@ -43,7 +43,7 @@ abbrev pub slots : List Cleanup → List ℕ
 slots [] = []
 slots (c ∷ more) = c.slot ∷ slots more
 
--- a slot that is free or out of use has no state, and counts as no handler's
+-- a slot that is free or out of use has no state, and no handlers
 abbrev pub state_in : Entry → Option State
 state_in Free = None
 state_in OutOfUse = None
@@ -60,7 +60,7 @@ abbrev pub Once : List ℕ → Type 0
 Once [] = Unit {0}
 Once (x ∷ xs) = (Has xs x → ⊥) × Once xs
 
--- the count of a caught exception is above 0, that of one in flight at most 0, that of any other 0
+-- the count is positive for a caught exception, 0 or negative in flight, else 0
 abbrev pub CountFits : State → ℤ → Type 0
 CountFits Caught n = pos 0 <ℤ n
 CountFits Flying n = n ≤ℤ pos 0
@@ -74,20 +74,20 @@ Fits OutOfUse = Unit {0}
 Fits (Live r) = CountFits r.state r.count
 
 pub record IsValid (l : Lists) : Type 0 where
-  -- no exception stands twice in a list
+  -- no exception is in a list twice
   pub caught_once : Once l.caught
   pub cleanups_once : Once (slots l.cleanups)
-  -- the caught stack has exactly those whose count isn't 0
+  -- the caught stack has exactly the exceptions whose count isn't 0
   pub counted : (s : ℕ) → Has l.caught s ↔ (count_in (entry l s) ≡ pos 0 → ⊥)
   pub fits : (s : ℕ) → Fits (entry l s)
   -- an exception with a cleanup in progress is flying
   pub flying : (s : ℕ) → Has (slots l.cleanups) s → state_in (entry l s) ≡ Some Flying
 
--- ---- what a call does on lists
+-- ---- what a call does to the lists
 
 pub record Outcome (A : Type 0) : Type 0 where
   pub answer : A
   pub lists : Lists
 
-abbrev pub kept : {A : Type 0} → A → Lists → Outcome A
-kept answer l = record { answer = answer; lists = l }
+abbrev pub unchanged_lists : {A : Type 0} → A → Lists → Outcome A
+unchanged_lists answer l = record { answer = answer; lists = l }

@@ -12,14 +12,14 @@ code Landed = LANDED
 code Caught = CAUGHT
 code Ended = ENDED
 
--- the state that a word names; neither 0, for a free slot, nor a word above 5 names one
-abbrev pub named : ℕ → Option State
-named n =
+-- the state that a word names; none for 0, which is a free slot, and for a word above 5
+abbrev pub state_of_word : ℕ → Option State
+state_of_word n =
     if n == FRESH then Some Fresh
     else (if n == FLYING then Some Flying
     else (if n == LANDED then Some Landed else (if n == CAUGHT then Some Caught else (if n == ENDED then Some Ended else None))))
 
--- ---- what the calls ask of a state; none is asked of a slot without one
+-- ---- the states that calls accept; a slot without a state is never accepted
 
 abbrev pub is_fresh : Option State → Bool
 is_fresh (Some Fresh) = true
@@ -62,7 +62,7 @@ may_be_freed (Some Landed) = false
 may_be_freed (Some Caught) = false
 may_be_freed None = false
 
--- thrown, and in no handler's hands yet
+-- thrown, and not yet caught by a handler
 abbrev pub is_in_flight : Option State → Bool
 is_in_flight (Some Flying) = true
 is_in_flight (Some Landed) = true

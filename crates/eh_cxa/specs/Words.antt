@@ -12,7 +12,7 @@ block s = POOL_START + SLOT_SIZE * s + BLOCK
 abbrev pub object : ℕ → ℕ
 object s = POOL_START + SLOT_SIZE * s + OBJECT
 
--- the slot of which this address is that many bytes from its start
+-- the slot for which this address is so many bytes from its start; None if there is none
 abbrev pub slot_from : ℕ → ℕ → Option ℕ
 slot_from offset a =
     if nat_le (POOL_START + offset) a && (nat_lt a POOL_END && ((a - (POOL_START + offset)) % SLOT_SIZE == 0)) then Some ((a - (POOL_START + offset)) / SLOT_SIZE) else None
@@ -27,8 +27,8 @@ object_slot a = slot_from OBJECT a
 unfoldable pub word : Memory → ℕ → ℕ → ℕ
 word m s k = host_load m (POOL_START + SLOT_SIZE * s + 4 * k)
 
-unfoldable pub put : Memory → ℕ → ℕ → ℕ → Memory
-put m s k v = host_store m (POOL_START + SLOT_SIZE * s + 4 * k) v
+unfoldable pub set_slot_word : Memory → ℕ → ℕ → ℕ → Memory
+set_slot_word m s k v = host_store m (POOL_START + SLOT_SIZE * s + 4 * k) v
 
 -- ---- words as a function of slot and place
 
@@ -46,40 +46,40 @@ write s k v = record { slot = s; place = k; value = v }
 abbrev pub with_word : Pool → Write → Pool
 with_word w x t j = if (j == x.place) && (t == x.slot) then x.value else w t j
 
--- the first write is made first
+-- writes are applied from the first to the last
 abbrev pub with_all : List Write → Pool → Pool
 with_all [] w = w
 with_all (x ∷ more) w = with_all more (with_word w x)
 
-abbrev pub put_all : List Write → Memory → Memory
-put_all [] m = m
-put_all (x ∷ more) m = put_all more (put m x.slot x.place x.value)
+abbrev pub set_slot_words : List Write → Memory → Memory
+set_slot_words [] m = m
+set_slot_words (x ∷ more) m = set_slot_words more (set_slot_word m x.slot x.place x.value)
 
--- ---- what a call does on words: its answer, and the words that it writes, in order
+-- ---- what a call does on words: its result, and the words that it writes, in order
 
 pub record Wrote (A : Type 0) : Type 0 where
   pub answer : A
   pub writes : List Write
 
 abbrev pub wrote : {A : Type 0} → Wrote A → Memory → A × Memory
-wrote d m = (d.answer, put_all d.writes m)
+wrote d m = (d.answer, set_slot_words d.writes m)
 
--- and with the globals that it leaves
+-- the same, with the globals that it leaves
 pub record Done (A : Type 0) : Type 0 where
   pub answer : A
   pub globals : Globals
   pub writes : List Write
 
-abbrev pub made : {A : Type 0} → Done A → Memory → A × Globals × Memory
-made d m = (d.answer, d.globals, put_all d.writes m)
+abbrev pub call_result : {A : Type 0} → Done A → Memory → A × Globals × Memory
+call_result d m = (d.answer, d.globals, set_slot_words d.writes m)
 
--- a chain word that is no control block counts as 0
-abbrev pub linked : ℕ → Option ℕ → ℕ
-linked w (Some s) = w
-linked w None = 0
+-- a link that isn't the address of a control block counts as 0
+abbrev pub word_if_block : ℕ → Option ℕ → ℕ
+word_if_block w (Some s) = w
+word_if_block w None = 0
 
-abbrev pub chained : ℕ → ℕ
-chained w = linked w (block_slot w)
+abbrev pub chain_word : ℕ → ℕ
+chain_word w = word_if_block w (block_slot w)
 
 -- ---- the number uncaught, modulo 2^32
 

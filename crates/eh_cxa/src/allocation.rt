@@ -1,5 +1,5 @@
-//! Slots are taken and given back: docs/exceptions.md. Each call that changes words has two clauses: what it does to the words of every
-//! pool, and, where they stand for lists, to the lists.
+//! Slots are allocated and freed: docs/rules/phases-and-exceptions.md. Each call that writes words has two clauses: `words` says what it does to any
+//! pool. `lists` says what that means for the exceptions, if the pool is valid.
 ghost use Rattle.std.specs.Prelude.{◌≡◌, ◌<◌, ◌≤◌, ◌*◌, ℕ, Some, Ok, IsSome, MatchResult};
 ghost use Rattle.eh_cxa.specs.Words.{word, wrote, object, object_slot};
 ghost use Rattle.eh_cxa.specs.Allocate.{allocate_of, free_of, size_at};
@@ -17,8 +17,8 @@ use crate::pool::{get, slot_of_object};
 use crate::words::{allocate_words, free_words};
 use eh_bus::bus::Bus;
 
-/// Takes the lowest free slot for an object of `size` bytes, clears the slot, and answers the object's address.
-/// `TooBig` over 384 bytes, else `PoolFull` where no slot is free.
+/// Allocates the lowest free slot for an object of `size` bytes, clears the slot, and returns the object's address. Err: `TooBig` over
+/// 384 bytes, else `PoolFull` if no slot is free.
 pub fn allocate<B: Bus>(bus: &mut B, size: u32) -> Result<u32, CxaFault>
     ensures words { (result, B.memory bus.new) ≡ wrote (allocate_of (word (B.memory bus.old)) size) (B.memory bus.old) }
     ensures lists { (g : Globals) (l : Lists) → Stands (word (B.memory bus.old)) g l → Follows (word (B.memory bus.new)) g result (allocate_list l size) }
@@ -28,8 +28,8 @@ pub fn allocate<B: Bus>(bus: &mut B, size: u32) -> Result<u32, CxaFault>
     allocate_words(bus, size)
 }
 
-/// Gives back the slot of an object that was never thrown, or whose last handler ended.
-/// `BadObject` unless `object` is the object of such a slot.
+/// Frees the slot of an object that was never thrown, or whose last handler ended. Err: `BadObject` if `object` isn't the address of
+/// such an object.
 pub fn free<B: Bus>(bus: &mut B, object: u32) -> Result<(), CxaFault>
     ensures words { (result, B.memory bus.new) ≡ wrote (free_of (word (B.memory bus.old)) (object_slot object)) (B.memory bus.old) }
     ensures lists { (g : Globals) (l : Lists) → Stands (word (B.memory bus.old)) g l → Follows (word (B.memory bus.new)) g result (free_list l (object_slot object)) }
@@ -37,7 +37,7 @@ pub fn free<B: Bus>(bus: &mut B, object: u32) -> Result<(), CxaFault>
     free_words(bus, object)
 }
 
-/// The size of an object in bytes, as it was asked for.
+/// The size of an object in bytes, as it was given to `allocate`.
 pub fn object_size<B: Bus>(bus: &B, object: u32) -> u32
     requires { IsSome (object_slot object) }
     ensures words { result ≡ size_at (word (B.memory bus.now)) (object_slot object) }

@@ -1,8 +1,8 @@
-//! Cleanups in progress, the innermost first: docs/exceptions.md.
+//! Cleanups in progress, the innermost first: docs/rules/phases-and-exceptions.md.
 ghost use Rattle.std.specs.Prelude.{◌≡◌, ℕ, Some, IsSome};
 ghost use Rattle.eh_bus.specs.Lists.{Has};
 ghost use Rattle.eh_cxa.specs.declared.state.State.TheVariants.{Flying};
-ghost use Rattle.eh_cxa.specs.Words.{word, made, block_slot};
+ghost use Rattle.eh_cxa.specs.Words.{word, call_result, block_slot};
 ghost use Rattle.eh_cxa.specs.Cleanup.{begin_cleanup_of, end_cleanup_of, innermost_of};
 ghost use Rattle.eh_cxa.specs.Lists.{Lists, entry, slots, state_in};
 ghost use Rattle.eh_cxa.specs.ListCalls.{begin_cleanup_list, end_cleanup_list, innermost_in};
@@ -14,10 +14,10 @@ use crate::pool::{get, slot_of_block};
 use crate::words::{begin_cleanup_words, end_cleanup_words};
 use eh_bus::bus::Bus;
 
-/// A cleanup of this throw is entered, and is the innermost in progress.
+/// Records that a cleanup of this throw was entered; it is now the innermost in progress.
 pub fn begin_cleanup<B: Bus>(bus: &mut B, g: &mut Globals, ucb: u32, w: &CleanupWords)
     requires { IsSome (block_slot ucb) }
-    ensures words { (tt, g.new, B.memory bus.new) ≡ made (begin_cleanup_of g.old ucb w.now) (B.memory bus.old) }
+    ensures words { (tt, g.new, B.memory bus.new) ≡ call_result (begin_cleanup_of g.old ucb w.now) (B.memory bus.old) }
     ensures lists { (l : Lists) (s : ℕ) → Stands (word (B.memory bus.old)) g.old l → block_slot ucb ≡ Some s → state_in (entry l s) ≡ Some Flying → (Has (slots l.cleanups) s → ⊥)
         → Stands (word (B.memory bus.new)) g.new (begin_cleanup_list l s w.now) }
 {
@@ -28,20 +28,20 @@ pub fn begin_cleanup<B: Bus>(bus: &mut B, g: &mut Globals, ucb: u32, w: &Cleanup
     begin_cleanup_words(bus, g, ucb, w)
 }
 
-/// The innermost cleanup in progress ends in a frame with this sp. Its control block and what it was entered with are answered.
-/// `NoCleanup` where none is in progress; `CleanupElsewhere` where the innermost was entered with another sp.
+/// Ends the innermost cleanup in progress, in a frame with this `sp`. Returns its control block and what it was entered with. Err:
+/// `NoCleanup` if none is in progress; `CleanupElsewhere` if the innermost was entered with another `sp`.
 pub fn end_cleanup<B: Bus>(
     bus: &mut B,
     g: &mut Globals,
     sp: u32,
 ) -> Result<(u32, CleanupWords), CxaFault>
-    ensures words { (result, g.new, B.memory bus.new) ≡ made (end_cleanup_of (word (B.memory bus.old)) g.old sp) (B.memory bus.old) }
+    ensures words { (result, g.new, B.memory bus.new) ≡ call_result (end_cleanup_of (word (B.memory bus.old)) g.old sp) (B.memory bus.old) }
     ensures lists { (l : Lists) → Stands (word (B.memory bus.old)) g.old l → Follows (word (B.memory bus.new)) g.new result (end_cleanup_list l sp) }
 {
     end_cleanup_words(bus, g, sp)
 }
 
-/// The sp with which the innermost cleanup in progress was entered; `None` where none is.
+/// The `sp` with which the innermost cleanup in progress was entered; None if none is in progress.
 pub fn innermost_sp<B: Bus>(bus: &B, g: &Globals) -> Option<u32>
     ensures words { result ≡ innermost_of (word (B.memory bus.now)) g.now }
     ensures lists { (l : Lists) → Stands (word (B.memory bus.now)) g.now l → result ≡ innermost_in l.cleanups }

@@ -1,91 +1,93 @@
-//! Where a slot of the pool lies and where its words stand: docs/exceptions.md; the control block's words are those of IHI 0038.
+//! Where a slot lies in the pool, and its words in the slot: docs/rules/phases-and-exceptions.md. The control block's words are those of IHI 0038.
 
 use eh_bus::map::{CLOSED_SIZE, POOL_SIZE, SLOT_SIZE};
 
-/// How many slots the pool has, one after the other.
+/// The number of slots of the pool; they lie one after the other.
 pub const SLOTS: u32 = POOL_SIZE / SLOT_SIZE;
 
-/// The words of a slot.
+/// The size of a slot, in words.
 pub const SLOT_WORDS: u32 = SLOT_SIZE / 4;
 
-/// The words of a slot before its object: the header and the control block. They are closed to the guest.
+/// The size of a slot's header and control block, in words. They come before the object, and the guest can't access them.
 pub const CLOSED_WORDS: u32 = CLOSED_SIZE / 4;
 
-/// Where the control block begins, in bytes from the slot's start. The header stands before it.
+/// Offset of the control block in a slot, in bytes; the header comes before it.
 pub const BLOCK: u32 = 40;
 
-/// Where the object begins, in bytes from the slot's start.
+/// Offset of the object in a slot, in bytes.
 pub const OBJECT: u32 = CLOSED_SIZE;
 
-/// The most bytes of an object.
+/// The size of the largest object, in bytes.
 pub const OBJECT_BYTES: u32 = SLOT_SIZE - OBJECT;
 
 // ---- the header, as words of the slot
 
-/// What the slot holds: see `state`.
+/// Word of the slot's state: see `state`.
 pub const STATE: u32 = 0;
 
-/// The size of the object, in bytes.
+/// Word of the object's size in bytes.
 pub const SIZE: u32 = 1;
 
-/// The address of the thrown object's type information.
+/// Word of the address of the object's type information.
 pub const TYPE: u32 = 2;
 
-/// The address of the destructor, 0 for none.
+/// Word of the destructor's address, 0 for none.
 pub const DESTRUCTOR: u32 = 3;
 
-/// How many handlers hold the exception, signed; below 0 after a rethrow.
+/// Word of the handler count, signed: how many handlers have the exception, negative after a rethrow.
 pub const COUNT: u32 = 4;
 
-/// The control block of the exception below it on the caught stack, 0 for none.
+/// Word of the address of the next control block down the caught stack, 0 for none.
 pub const NEXT_CAUGHT: u32 = 5;
 
 // ---- the control block, as words of the slot
 
-/// The exception class: the bytes `EHABIRT` and a zero byte.
+/// First word of the exception class: the bytes `EHABIRT` and a zero byte.
 pub const CLASS: u32 = 10;
 
-/// The barrier's frame, by its sp. Words 0 to 4 of the barrier cache stand after it.
+/// Word of the stack pointer of the barrier's frame; words 0 to 4 of the barrier cache come after it.
 pub const BARRIER_SP: u32 = 18;
 
-/// The address that a handler is given: the object, seen as the handler's type.
+/// Word of the address that a handler is given: the object, converted to the handler's type.
 pub const BARRIER_OBJECT: u32 = 19;
 
-/// The address of the barrier's descriptor.
+/// Word of the address of the barrier's descriptor.
 pub const BARRIER_DESCRIPTOR: u32 = 20;
 
-/// The pointer that a handler of a pointer type is given. The guest may load this word.
+/// Word of the pointer that a handler of a pointer type is given; the guest may load it.
 pub const BARRIER_POINTER: u32 = 21;
 
-/// Words 3 and 4 of the barrier cache.
+/// Word 3 of the barrier cache.
 pub const BARRIER_WORD_3: u32 = 22;
 
+/// Word 4 of the barrier cache.
 pub const BARRIER_WORD_4: u32 = 23;
 
-/// The address of the descriptor that is looked at next when the cleanup in progress ends.
+/// Word of the address of the descriptor at which the throw resumes after the cleanup in progress.
 pub const CLEANUP_NEXT: u32 = 24;
 
-/// The sp with which the cleanup in progress was entered.
+/// Word of the `sp` with which the cleanup in progress was entered.
 pub const CLEANUP_SP: u32 = 25;
 
-/// The site in whose scope the cleanup in progress lies.
+/// Word of the site of the cleanup in progress: the address of the call in whose scope it lies.
 pub const CLEANUP_SITE: u32 = 26;
 
-/// The control block of the next outer cleanup in progress, 0 for none.
+/// Word of the address of the control block of the next outer cleanup in progress, 0 for none.
 pub const NEXT_CLEANUP: u32 = 27;
 
-/// The exception class as two words, the lowest byte first.
+/// The first word of the exception class (its first four bytes, little-endian).
 pub const CLASS_LOW: u32 = 0x4241_4845;
 
+/// The second word of the exception class.
 pub const CLASS_HIGH: u32 = 0x0054_5249;
 
 // ---- counts, as words
 
-/// The first word that stands for a count below 0.
+/// The smallest word that means a negative count.
 pub const BELOW_ZERO: u32 = 0x8000_0000;
 
 /// The word of the count -1.
 pub const MINUS_ONE: u32 = 0xffff_ffff;
 
-/// The greatest count.
+/// The largest count.
 pub const MOST_COUNT: u32 = 0x7fff_ffff;

@@ -1,4 +1,4 @@
-//! Exceptions as control blocks in the words of a pool of guest memory: docs/exceptions.md; IHI 0038 for the control block.
+//! Exceptions, stored as control blocks in a pool of guest memory: docs/rules/phases-and-exceptions.md; IHI 0038 for the control block.
 #![tactic(auto)]
 
 pub mod allocation;

@@ -1,9 +1,9 @@
-//! The calls on the words of the pool: docs/exceptions.md. Each writes its words in the order of its definition.
+//! The calls as writes to the pool's words, in the order of their definitions: docs/rules/phases-and-exceptions.md.
 ghost use Rattle.std.specs.Prelude.{◌≡◌, IsSome};
-ghost use Rattle.eh_cxa.specs.Words.{word, put_all, wrote, made, block_slot, object_slot};
+ghost use Rattle.eh_cxa.specs.Words.{word, set_slot_words, wrote, call_result, block_slot, object_slot};
 ghost use Rattle.eh_cxa.specs.Allocate.{allocate_of, free_of};
 ghost use Rattle.eh_cxa.specs.Throw.{Throw, start_throw_of, set_barrier_of, land_of};
-ghost use Rattle.eh_cxa.specs.Catch.{begin_catch_of, end_catch_of, rethrow_of, counted};
+ghost use Rattle.eh_cxa.specs.Catch.{begin_catch_of, end_catch_of, rethrow_of, count_after_catch};
 ghost use Rattle.eh_cxa.specs.Cleanup.{begin_cleanup_of, end_cleanup_of};
 
 use crate::globals::{BarrierWords, CleanupWords, CxaFault, Globals};
@@ -20,6 +20,7 @@ use crate::pool::{
 use crate::state::{CAUGHT, ENDED, FLYING, FREE, FRESH, LANDED, State};
 use eh_bus::bus::Bus;
 
+/// The words part of `allocate`.
 #[tactic(auto, using(crate::proofs::Zeros::put_append))]
 pub(crate) fn allocate_words<B: Bus>(bus: &mut B, size: u32) -> Result<u32, CxaFault>
     ensures { (result, B.memory bus.new) ≡ wrote (allocate_of (word (B.memory bus.old)) size) (B.memory bus.old) }
@@ -36,6 +37,7 @@ pub(crate) fn allocate_words<B: Bus>(bus: &mut B, size: u32) -> Result<u32, CxaF
     Ok(object_of(slot))
 }
 
+/// The words part of `free`.
 pub(crate) fn free_words<B: Bus>(bus: &mut B, object: u32) -> Result<(), CxaFault>
     ensures { (result, B.memory bus.new) ≡ wrote (free_of (word (B.memory bus.old)) (object_slot object)) (B.memory bus.old) }
 {
@@ -51,6 +53,7 @@ pub(crate) fn free_words<B: Bus>(bus: &mut B, object: u32) -> Result<(), CxaFaul
     }
 }
 
+/// The words part of `start_throw`.
 pub(crate) fn throw_words<B: Bus>(
     bus: &mut B,
     g: &mut Globals,
@@ -58,7 +61,7 @@ pub(crate) fn throw_words<B: Bus>(
     ty: u32,
     dtor: u32,
 ) -> Result<u32, CxaFault>
-    ensures { (result, g.new, B.memory bus.new) ≡ made (start_throw_of (word (B.memory bus.old)) g.old (object_slot object) (record { ty = ty; destructor = dtor })) (B.memory bus.old) }
+    ensures { (result, g.new, B.memory bus.new) ≡ call_result (start_throw_of (word (B.memory bus.old)) g.old (object_slot object) (record { ty = ty; destructor = dtor })) (B.memory bus.old) }
 {
     let Some(slot) = slot_of_object(object) else {
         return Err(CxaFault::BadObject);
@@ -75,8 +78,9 @@ pub(crate) fn throw_words<B: Bus>(
     Ok(block_of(slot))
 }
 
+/// The words part of `set_barrier`.
 pub(crate) fn barrier_words<B: Bus>(bus: &mut B, ucb: u32, w: &BarrierWords)
-    ensures { B.memory bus.new ≡ put_all (set_barrier_of (block_slot ucb) w.now) (B.memory bus.old) }
+    ensures { B.memory bus.new ≡ set_slot_words (set_barrier_of (block_slot ucb) w.now) (B.memory bus.old) }
 {
     if let Some(slot) = slot_of_block(ucb) {
         set(bus, slot, BARRIER_SP, w.sp);
@@ -88,8 +92,9 @@ pub(crate) fn barrier_words<B: Bus>(bus: &mut B, ucb: u32, w: &BarrierWords)
     }
 }
 
+/// The words part of `land`.
 pub(crate) fn land_words<B: Bus>(bus: &mut B, ucb: u32)
-    ensures { B.memory bus.new ≡ put_all (land_of (word (B.memory bus.old)) (block_slot ucb)) (B.memory bus.old) }
+    ensures { B.memory bus.new ≡ set_slot_words (land_of (word (B.memory bus.old)) (block_slot ucb)) (B.memory bus.old) }
 {
     if let Some(slot) = slot_of_block(ucb) {
         if let Some(State::Flying) = state(bus, slot) {
@@ -98,9 +103,9 @@ pub(crate) fn land_words<B: Bus>(bus: &mut B, ucb: u32)
     }
 }
 
-/// The count of an exception that one more handler holds.
+/// The handler count after one more handler.
 fn next_count(c: u32) -> u32
-    ensures { result ≡ counted c }
+    ensures { result ≡ count_after_catch c }
 {
     let n = if c < BELOW_ZERO {
         c + 1
@@ -110,8 +115,9 @@ fn next_count(c: u32) -> u32
     n.min(MOST_COUNT)
 }
 
+/// The words part of `begin_catch`.
 pub(crate) fn catch_words<B: Bus>(bus: &mut B, g: &mut Globals, ucb: u32) -> Result<u32, CxaFault>
-    ensures { (result, g.new, B.memory bus.new) ≡ made (begin_catch_of (word (B.memory bus.old)) g.old ucb) (B.memory bus.old) }
+    ensures { (result, g.new, B.memory bus.new) ≡ call_result (begin_catch_of (word (B.memory bus.old)) g.old ucb) (B.memory bus.old) }
 {
     let Some(slot) = slot_of_block(ucb) else {
         return Err(CxaFault::BadUcb);
@@ -134,8 +140,9 @@ pub(crate) fn catch_words<B: Bus>(bus: &mut B, g: &mut Globals, ucb: u32) -> Res
     Ok(object)
 }
 
+/// The words part of `end_catch`.
 pub(crate) fn end_catch_words<B: Bus>(bus: &mut B, g: &mut Globals) -> Result<(u32, u32), CxaFault>
-    ensures { (result, g.new, B.memory bus.new) ≡ made (end_catch_of (word (B.memory bus.old)) g.old) (B.memory bus.old) }
+    ensures { (result, g.new, B.memory bus.new) ≡ call_result (end_catch_of (word (B.memory bus.old)) g.old) (B.memory bus.old) }
 {
     let Some(slot) = slot_of_block(g.caught) else {
         return Err(CxaFault::NoCaught);
@@ -166,8 +173,9 @@ pub(crate) fn end_catch_words<B: Bus>(bus: &mut B, g: &mut Globals) -> Result<(u
     }
 }
 
+/// The words part of `rethrow`.
 pub(crate) fn rethrow_words<B: Bus>(bus: &mut B, g: &mut Globals) -> Result<u32, CxaFault>
-    ensures { (result, g.new, B.memory bus.new) ≡ made (rethrow_of (word (B.memory bus.old)) g.old) (B.memory bus.old) }
+    ensures { (result, g.new, B.memory bus.new) ≡ call_result (rethrow_of (word (B.memory bus.old)) g.old) (B.memory bus.old) }
 {
     let Some(slot) = slot_of_block(g.caught) else {
         return Err(CxaFault::NoCaught);
@@ -182,8 +190,9 @@ pub(crate) fn rethrow_words<B: Bus>(bus: &mut B, g: &mut Globals) -> Result<u32,
     Ok(block_of(slot))
 }
 
+/// The words part of `begin_cleanup`.
 pub(crate) fn begin_cleanup_words<B: Bus>(bus: &mut B, g: &mut Globals, ucb: u32, c: &CleanupWords)
-    ensures { (tt, g.new, B.memory bus.new) ≡ made (begin_cleanup_of g.old ucb c.now) (B.memory bus.old) }
+    ensures { (tt, g.new, B.memory bus.new) ≡ call_result (begin_cleanup_of g.old ucb c.now) (B.memory bus.old) }
 {
     if let Some(slot) = slot_of_block(ucb) {
         set(bus, slot, CLEANUP_NEXT, c.next);
@@ -194,12 +203,13 @@ pub(crate) fn begin_cleanup_words<B: Bus>(bus: &mut B, g: &mut Globals, ucb: u32
     }
 }
 
+/// The words part of `end_cleanup`.
 pub(crate) fn end_cleanup_words<B: Bus>(
     bus: &mut B,
     g: &mut Globals,
     sp: u32,
 ) -> Result<(u32, CleanupWords), CxaFault>
-    ensures { (result, g.new, B.memory bus.new) ≡ made (end_cleanup_of (word (B.memory bus.old)) g.old sp) (B.memory bus.old) }
+    ensures { (result, g.new, B.memory bus.new) ≡ call_result (end_cleanup_of (word (B.memory bus.old)) g.old sp) (B.memory bus.old) }
 {
     let Some(slot) = slot_of_block(g.cleanup) else {
         return Err(CxaFault::NoCleanup);

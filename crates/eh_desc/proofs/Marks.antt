@@ -3,8 +3,8 @@ use Rattle.std.proofs.Common.{◌≡◌, ℕ, ◌+◌, ◌%◌, ◌^◌, ◌≤�
 use Rattle.std.specs.Prelude.{nat_le, nat_lt}
 use Rattle.std.proofs.lemmas.Bool.Decides.{nat_tests}
 use Rattle.eh_word.specs.Words.{prel31_of}
-use Rattle.unwind_codes.specs.declared.words.TheConstants.{REFERENCE_MARK, LANDING_PAD_MARK}
-use Rattle.unwind_codes.specs.Rows.{even}
+use Rattle.eh_codes.specs.declared.words.TheConstants.{REFERENCE_MARK, LANDING_PAD_MARK}
+use Rattle.eh_codes.specs.Rows.{even}
 use Rattle.eh_desc.specs.declared.descriptor.TheConstants.{MOST_TYPES}
 use Rattle.eh_desc.specs.Grammar.{address_at}
 use Rattle.eh_desc.specs.Laws.{CleanupsHaveNoMark, CatchesMarkTheLength, SpecificationsMarkTheOffset, BothMarksAreRefused}

@@ -3,33 +3,33 @@ use Rattle.std.proofs.Common.{◌≡◌, ℕ, zero, suc, ◌+◌, ◌-◌, ◌*�
 use Rattle.std.specs.Prelude.{Result, Ok, Err, nat_le, nat_lt, not}
 use Rattle.std.proofs.lemmas.Bool.Decides.{nat_tests}
 use Rattle.eh_word.specs.Words.{number_at}
-use Rattle.unwind_codes.specs.declared.words.TheConstants.{LANDING_PAD_MARK}
+use Rattle.eh_codes.specs.declared.words.TheConstants.{LANDING_PAD_MARK}
 use Rattle.eh_bytecode.specs.declared.codes.CodesFault.{CodesFault}
 use Rattle.eh_bytecode.specs.Codes.{table_codes}
 use Rattle.eh_desc.specs.declared.descriptor.Desc.{Desc}
 use Rattle.eh_desc.specs.declared.descriptor.DescFault.{DescFault}
 use Rattle.eh_desc.specs.declared.descriptor.DescFault.TheVariants.{Short, Kind, Count}
 use Rattle.eh_desc.specs.declared.descriptor.DescKind.TheVariants.{Spec}
-use Rattle.eh_desc.specs.declared.descriptor.Found.{Found}
-use Rattle.eh_desc.specs.declared.descriptor.Found.TheVariants.{End, One, Fault}
+use Rattle.eh_desc.specs.declared.descriptor.NextDesc.{NextDesc}
+use Rattle.eh_desc.specs.declared.descriptor.NextDesc.TheVariants.{End, One, Fault}
 use Rattle.eh_desc.specs.declared.descriptor.TheConstants.{MOST_TYPES}
-use Rattle.eh_desc.specs.Grammar.{Form, word_at, address_at, with_word, cleanup_at, catch_at, has_types, padded_at, types_at, specification_at, kind_at, found_at, descriptor_of, listed, items_in, items_from, where_codes, items_after}
+use Rattle.eh_desc.specs.Grammar.{Form, word_at, address_at, with_word, cleanup_at, catch_at, has_types, spec_with_pad, types_at, specification_at, kind_at, next_desc_at, descriptor_of, with_further_items, items_in, items_from, if_codes, items_after}
 use Rattle.eh_desc.specs.Laws.{Rise, DescriptorsRise}
 use Rattle.eh_desc.proofs.Room.{room}
 use Rattle.eh_desc.proofs.Items.{one_next}
 
 -- what stands at a place ends among the bytes
-abbrev IsInside : Form → Found → Type 0
+abbrev IsInside : Form → NextDesc → Type 0
 IsInside t End = Unit {0}
 IsInside t (Fault fault) = Unit {0}
 IsInside t (One desc next) = next ≤ length t.bytes
 
 -- a word that is there ends among the bytes
-with_inside : (t : Form) (at : ℕ) (o : Option ℕ) (f : ℕ → Found) → word_at t at ≡ o → ((w : ℕ) → at + 4 ≤ length t.bytes → IsInside t (f w)) → IsInside t (with_word o f)
+with_inside : (t : Form) (at : ℕ) (o : Option ℕ) (f : ℕ → NextDesc) → word_at t at ≡ o → ((w : ℕ) → at + 4 ≤ length t.bytes → IsInside t (f w)) → IsInside t (with_word o f)
 with_inside t at None f e each = tt
 with_inside t at (Some w) f e each = each w (room t.bytes at w e)
 
-either : (t : Form) (b : Bool) (x y : Found) → IsInside t x → IsInside t y → IsInside t (cond b x y)
+either : (t : Form) (b : Bool) (x y : NextDesc) → IsInside t x → IsInside t y → IsInside t (cond b x y)
 either t true x y h k = h
 either t false x y h k = k
 
@@ -39,14 +39,14 @@ cleanup_inside t place len off at = with_inside t at _ _ refl (λ w h. h)
 catch_inside : (t : Form) (place len off at : ℕ) → IsInside t (catch_at t place len off at)
 catch_inside t place len off at = with_inside t at _ _ refl (λ w h. with_inside t (at + 4) _ _ refl (λ v k. omega (arith, k)))
 
-padded_inside : (t : Form) (place len off types count : ℕ) → IsInside t (padded_at t place len off types count)
+padded_inside : (t : Form) (place len off types count : ℕ) → IsInside t (spec_with_pad t place len off types count)
 padded_inside t place len off types count = with_inside t (types + 4 * count) _ _ refl (λ w h. h)
 
 types_inside : (t : Form) (place len off types count : ℕ) (padded there : Bool) → has_types t types count ≡ there
-    → IsInside t (cond (not there) (Fault Short) (cond padded (padded_at t place len off types count) (descriptor_of t place len off (Spec (address_at t types) count None) (types + 4 * count))))
+    → IsInside t (cond (not there) (Fault Short) (cond padded (spec_with_pad t place len off types count) (descriptor_of t place len off (Spec (address_at t types) count None) (types + 4 * count))))
 types_inside t place len off types count padded false e = tt
 types_inside t place len off types count padded true e =
-    either t padded (padded_at t place len off types count) (descriptor_of t place len off (Spec (address_at t types) count None) (types + 4 * count))
+    either t padded (spec_with_pad t place len off types count) (descriptor_of t place len off (Spec (address_at t types) count None) (types + 4 * count))
     (padded_inside t place len off types count) (grind (arith, nat_tests))
 
 specification_inside : (t : Form) (place len off at : ℕ) → IsInside t (specification_at t place len off at)
@@ -59,13 +59,13 @@ kind_inside t place len off at =
     either t (off % 2 == 0) _ _ (either t (len % 2 == 0) (cleanup_at t place len off at) (catch_at t place len off at) (cleanup_inside t place len off at) (catch_inside t place len off at))
     (either t (len % 2 == 0) (specification_at t place len off at) (Fault Kind) (specification_inside t place len off at) tt)
 
-found_inside : (t : Form) (place : ℕ) → IsInside t (found_at t place)
+found_inside : (t : Form) (place : ℕ) → IsInside t (next_desc_at t place)
 found_inside t place = with_inside t place _ _ refl (λ first h.
     either t (first == 0) End (cond t.wide (with_word (word_at t (place + 4)) (λ off. kind_at t place first off (place + 8))) (kind_at t place (first % 2 ^ 16) (first / 2 ^ 16) (place + 4))) tt
     (either t t.wide (with_word (word_at t (place + 4)) (λ off. kind_at t place first off (place + 8))) (kind_at t place (first % 2 ^ 16) (first / 2 ^ 16) (place + 4))
     (with_inside t (place + 4) _ _ refl (λ off k. kind_inside t place first off (place + 8))) (kind_inside t place (first % 2 ^ 16) (first / 2 ^ 16) (place + 4))))
 
-one_inside : (t : Form) (place : ℕ) (f : Found) → found_at t place ≡ f → IsInside t f
+one_inside : (t : Form) (place : ℕ) (f : NextDesc) → next_desc_at t place ≡ f → IsInside t f
 one_inside t place f e = subst (IsInside t) e (found_inside t place)
 
 -- addresses that don't wrap keep their order
@@ -74,9 +74,9 @@ kept address place next most low further inside = omega arith
 
 rise_in : (n : ℕ) (t : Form) (place : ℕ) → t.address + length t.bytes < 2 ^ 32 → Rise (items_in n t place)
 rise_in zero t place low = tt
-rise_in (suc n) t place low = go (found_at t place) refl (λ next. rise_in n t next low)
+rise_in (suc n) t place low = go (next_desc_at t place) refl (λ next. rise_in n t next low)
   where
-    go : (f : Found) → found_at t place ≡ f → ((next : ℕ) → Rise (items_in n t next)) → Rise (listed (λ next. items_in n t next) f)
+    go : (f : NextDesc) → next_desc_at t place ≡ f → ((next : ℕ) → Rise (items_in n t next)) → Rise (with_further_items (λ next. items_in n t next) f)
     go End e each = tt
     go (Fault fault) e each = tt
     go (One desc next) e each =
@@ -89,7 +89,7 @@ rise_from : (t : Form) (place : ℕ) → t.address + length t.bytes < 2 ^ 32 →
 unfolding items_from
 rise_from t place low = rise_in (length t.bytes - place) t place low
 
-where_rise : (r : Result (List ℕ) CodesFault) (items : List (Result Desc DescFault)) → Rise items → Rise (where_codes r items)
+where_rise : (r : Result (List ℕ) CodesFault) (items : List (Result Desc DescFault)) → Rise items → Rise (if_codes r items)
 where_rise (Ok codes) items h = h
 where_rise (Err fault) items h = tt
 

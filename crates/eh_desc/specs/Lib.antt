@@ -1,3 +1,4 @@
 pub mod Grammar
 pub mod Tables
 pub mod Laws
+pub mod eh_bytecode

@@ -1,51 +1,52 @@
-//! Descriptors and their iterator (IHI 0038). docs/descriptors.md has the formats.
+//! Descriptors and the iterator over them (IHI 0038). docs/rules/unwind-tables.md has the formats.
 ghost use Rattle.std.specs.Prelude.{◌≡◌, ◌+◌, ◌-◌, ◌*◌, ◌/◌, ◌%◌, ◌^◌, ◌<◌, ◌≤◌, ◌==◌, [], length, IfSome, IsOk, IsTrue, ◌↔◌, nat_le, Some, None, Ok, Err, option_copied};
 ghost use Rattle.std.specs.Iterator.{YieldsFirst, item_count};
-ghost use Rattle.eh_desc.specs.Grammar.{word_at, address_at, pad_by, type_by, catch_type, descriptor_of, cleanup_at, catch_at, padded_at, types_at, specification_at, kind_at, found_at, items_from, items_of, table_items, type_in};
+ghost use Rattle.eh_desc.specs.Grammar.{word_at, address_at, pad_by, type_by, catch_type, descriptor_of, cleanup_at, catch_at, spec_with_pad, types_at, specification_at, kind_at, next_desc_at, items_from, items_of, table_items, type_in};
 ghost use Rattle.eh_desc.specs.Tables.{form, scope_at};
 ghost use Rattle.eh_index.specs.Places.{table_of};
 ghost use Rattle.eh_bytecode.specs.Codes.{table_codes};
 
 use eh_bytecode::Codes;
+use eh_codes::row::even;
+use eh_codes::words::{LANDING_PAD_MARK, REFERENCE_MARK, WIDE_PERSONALITY};
+use eh_codes::{Entry, EntryBody, code_words_after, personality_of_word};
 use eh_index::Index;
 use eh_word::{get_word, prel31};
 use std::marker::Model;
-use unwind_codes::row::even;
-use unwind_codes::words::{LANDING_PAD_MARK, REFERENCE_MARK, WIDE_PERSONALITY};
-use unwind_codes::{Entry, EntryBody, code_words_after, personality_of_word};
 
-/// The type word of a catch that takes everything.
+/// The type word of a catch that catches everything.
 pub const ALL: u32 = 0xFFFF_FFFF;
-/// The type word of a catch that takes everything and fails.
+/// The type word of a catch that ends the search: it matches everything, but the search then fails.
 pub const ALL_FAILS: u32 = 0xFFFF_FFFE;
 /// The most types of a specification.
 pub const MOST_TYPES: u32 = 1024;
 
-/// What a catch takes.
+/// What a catch descriptor catches.
 #[derive(Clone, Copy)]
 pub enum CatchType {
     /// Everything.
     All,
-    /// Everything, but the search then fails.
+    /// Everything, but then the search fails and the program terminates.
     AllFails,
-    /// The type at an address; 0 is no type.
+    /// The type whose information is at this address; 0 for no type.
     One(u32),
 }
 
-/// What a descriptor says. Addresses are in bytes; a pad's bit 0 is clear.
+/// The kind of a descriptor. Addresses are in bytes; bit 0 of a landing pad's address is clear.
 #[derive(Clone, Copy)]
 pub enum DescKind {
-    /// A cleanup at a landing pad.
+    /// A cleanup; `pad` is its landing pad's address.
     Cleanup {
         pad: u32,
     },
-    /// A catch of a type, or of a reference to it, at a landing pad.
+    /// A catch of the type `ty`, or with `reference` of a reference to it; `pad` is its landing pad's address.
     Catch {
         pad: u32,
         reference: bool,
         ty: CatchType,
     },
-    /// A function's exception specification: the address of its type words, how many there are, and a landing pad.
+    /// A function's exception specification: `types` is the address of its type words, `count` their number, and `pad` its landing
+    /// pad's address, if it has one.
     Spec {
         types: u32,
         count: u32,
@@ -53,23 +54,24 @@ pub enum DescKind {
     },
 }
 
-/// A descriptor.
+/// A descriptor of an exception table entry.
 #[derive(Clone, Copy)]
 pub struct Desc {
-    /// Its own address, in bytes.
+    /// Its address, in bytes.
     pub at: u32,
-    /// The address of the one after it.
+    /// The address of the descriptor after it.
     pub next: u32,
     /// The first address of its scope.
     pub start: u32,
-    /// How many bytes its scope has.
+    /// The size of its scope, in bytes.
     pub size: u32,
+    /// Its kind, with what that needs.
     pub kind: DescKind,
 }
 
 impl Desc {
-    /// Whether an address lies in the scope: at its start or above, and below its end. A scope whose end is past the last address
-    /// holds none.
+    /// Whether an address lies in the scope: at or above its start, and below its end. A scope that ends past the last address contains
+    /// no address.
     #[inline(always)]
     pub fn covers(&self, site: u32) -> bool
         ensures { IsTrue result ↔ ((self.now.start ≤ site) × (site < (self.now.start + self.now.size) % 2 ^ 32)) }
@@ -78,53 +80,53 @@ impl Desc {
     }
 }
 
-/// Why the descriptors can't be read on.
+/// Why the list of descriptors can't be read further.
 #[derive(Clone, Copy)]
 pub enum DescFault {
-    /// A descriptor runs past the bytes.
+    /// A descriptor goes past the end of the bytes.
     Short,
-    /// Both marks are set.
+    /// Both mark bits are set: no kind of descriptor has them.
     Kind,
     /// A specification has more than 1,024 types.
     Count,
 }
 
-/// The bytes of a table entry, and where they stand.
+/// The bytes of an exception table entry, and where they lie.
 #[derive(Clone, Copy)]
 pub struct Table<'a> {
-    /// From the entry's first byte on.
+    /// The bytes from the entry's first byte on.
     pub bytes: &'a [u8],
     /// The address of the first byte.
     pub address: u32,
-    /// The start of the entry's function.
+    /// The start address of the entry's function.
     pub start: u32,
-    /// Whether lengths and offsets are words, and not halfwords.
+    /// Whether scope lengths and offsets are words; else they are halfwords.
     pub wide: bool,
 }
 
-/// A descriptor's scope, and the place after it.
+/// The scope words of a descriptor, and the place after them.
 #[derive(Clone, Copy)]
 pub struct Scope {
-    /// How many bytes the scope has; bit 0 is a mark.
+    /// The first word: the length of the scope in bytes; bit 0 is a mark.
     pub length: u32,
-    /// How many bytes after the function's start it begins; bit 0 is a mark.
+    /// The second word: the start of the scope, in bytes from the function's start; bit 0 is a mark.
     pub offset: u32,
-    /// The place of the words after it.
+    /// The place after both words: an index into the table's bytes.
     pub place: usize,
 }
 
-/// What stands at a place.
+/// What the bytes at a place are.
 #[derive(Clone, Copy)]
-pub enum Found {
+pub enum NextDesc {
     /// The end of the list.
     End,
-    /// A descriptor, and the place after it.
+    /// A descriptor, and the place after it (an index into the table's bytes).
     One(Desc, usize),
-    /// What can't be read.
+    /// They can't be read, for this reason.
     Fault(DescFault),
 }
 
-/// The type of a type word at an address; a word of 0 is type 0.
+/// The address of the type that a type word at `address` refers to; 0 for a word of 0.
 fn type_by(address: u32, word: u32) -> u32
     ensures { result ≡ type_by address word }
 {
@@ -135,7 +137,7 @@ fn type_by(address: u32, word: u32) -> u32
     }
 }
 
-/// What a catch takes by its type word, which stands at an address.
+/// What a catch with this type word at `address` catches.
 fn catch_type(address: u32, word: u32) -> CatchType
     ensures { result ≡ catch_type address word }
 {
@@ -147,7 +149,7 @@ fn catch_type(address: u32, word: u32) -> CatchType
 }
 
 impl<'a> Table<'a> {
-    /// The word at a place.
+    /// The word at a place; None if the bytes don't contain it.
     #[inline(always)]
     #[tactic(auto, using(crate::proofs::Room::room))]
     fn word(&self, place: usize) -> Option<u32>
@@ -165,7 +167,7 @@ impl<'a> Table<'a> {
         self.address.wrapping_add((place % 0x1_0000_0000) as u32)
     }
 
-    /// A landing pad by its word.
+    /// The landing pad's address that the word at a place refers to.
     #[inline(always)]
     fn pad_by(&self, place: usize, word: u32) -> u32
         ensures { result ≡ pad_by (form self.now) place word }
@@ -174,7 +176,7 @@ impl<'a> Table<'a> {
     }
 
     #[inline(always)]
-    fn descriptor_of(&self, place: usize, scope: Scope, kind: DescKind, next: usize) -> Found
+    fn descriptor_of(&self, place: usize, scope: Scope, kind: DescKind, next: usize) -> NextDesc
         ensures { result ≡ descriptor_of (form self.now) place scope.length scope.offset kind next }
     {
         let desc = Desc {
@@ -184,29 +186,29 @@ impl<'a> Table<'a> {
             size: even(scope.length),
             kind,
         };
-        Found::One(desc, next)
+        NextDesc::One(desc, next)
     }
 
     #[inline(always)]
-    fn cleanup(&self, place: usize, scope: Scope) -> Found
+    fn cleanup(&self, place: usize, scope: Scope) -> NextDesc
         ensures { result ≡ cleanup_at (form self.now) place scope.length scope.offset scope.place }
     {
         let Some(pad) = self.word(scope.place) else {
-            return Found::Fault(DescFault::Short);
+            return NextDesc::Fault(DescFault::Short);
         };
         let pad = self.pad_by(scope.place, pad);
         self.descriptor_of(place, scope, DescKind::Cleanup { pad }, scope.place + 4)
     }
 
     #[inline(always)]
-    fn catch(&self, place: usize, scope: Scope) -> Found
+    fn catch(&self, place: usize, scope: Scope) -> NextDesc
         ensures { result ≡ catch_at (form self.now) place scope.length scope.offset scope.place }
     {
         let Some(pad) = self.word(scope.place) else {
-            return Found::Fault(DescFault::Short);
+            return NextDesc::Fault(DescFault::Short);
         };
         let Some(ty) = self.word(scope.place + 4) else {
-            return Found::Fault(DescFault::Short);
+            return NextDesc::Fault(DescFault::Short);
         };
         let kind = DescKind::Catch {
             pad: self.pad_by(scope.place, pad),
@@ -216,15 +218,15 @@ impl<'a> Table<'a> {
         self.descriptor_of(place, scope, kind, scope.place + 8)
     }
 
-    /// A specification whose types stand at a place, with a landing pad after them.
-    fn padded(&self, place: usize, scope: Scope, types: usize, count: u32) -> Found
+    /// A specification with `count` type words at `types`, and a landing pad after them.
+    fn spec_with_pad(&self, place: usize, scope: Scope, types: usize, count: u32) -> NextDesc
         requires types { types ≤ length self.now.bytes.now }
         requires count { count ≤ MOST_TYPES }
-        ensures { result ≡ padded_at (form self.now) place scope.length scope.offset types count }
+        ensures { result ≡ spec_with_pad (form self.now) place scope.length scope.offset types count }
     {
         let at = types + 4 * count as usize;
         let Some(pad) = self.word(at) else {
-            return Found::Fault(DescFault::Short);
+            return NextDesc::Fault(DescFault::Short);
         };
         let kind = DescKind::Spec {
             types: self.address_at(types),
@@ -234,18 +236,18 @@ impl<'a> Table<'a> {
         self.descriptor_of(place, scope, kind, at + 4)
     }
 
-    /// A specification whose types stand at a place.
-    fn types(&self, place: usize, scope: Scope, types: usize, count: u32, padded: bool) -> Found
+    /// A specification with `count` type words at `types`; `padded` says whether a landing pad comes after them.
+    fn types(&self, place: usize, scope: Scope, types: usize, count: u32, padded: bool) -> NextDesc
         requires types { types ≤ length self.now.bytes.now }
         requires count { count ≤ MOST_TYPES }
         ensures { result ≡ types_at (form self.now) place scope.length scope.offset types count padded }
     {
         let after = types + 4 * count as usize;
         if after > self.bytes.len() {
-            return Found::Fault(DescFault::Short);
+            return NextDesc::Fault(DescFault::Short);
         }
         if padded {
-            return self.padded(place, scope, types, count);
+            return self.spec_with_pad(place, scope, types, count);
         }
         let kind = DescKind::Spec {
             types: self.address_at(types),
@@ -256,34 +258,34 @@ impl<'a> Table<'a> {
     }
 
     #[inline(never)]
-    fn specification(&self, place: usize, scope: Scope) -> Found
+    fn specification(&self, place: usize, scope: Scope) -> NextDesc
         ensures { result ≡ specification_at (form self.now) place scope.length scope.offset scope.place }
     {
         let Some(word) = self.word(scope.place) else {
-            return Found::Fault(DescFault::Short);
+            return NextDesc::Fault(DescFault::Short);
         };
         let count = word % LANDING_PAD_MARK;
         if count > MOST_TYPES {
-            return Found::Fault(DescFault::Count);
+            return NextDesc::Fault(DescFault::Count);
         }
         let padded = word >= LANDING_PAD_MARK;
         self.types(place, scope, scope.place + 4, count, padded)
     }
 
-    /// What the marks of a scope say stands after it.
+    /// The descriptor with this scope, whose kind its marks tell.
     #[inline(always)]
-    fn kind(&self, place: usize, scope: Scope) -> Found
+    fn kind(&self, place: usize, scope: Scope) -> NextDesc
         ensures { result ≡ kind_at (form self.now) place scope.length scope.offset scope.place }
     {
         match (scope.offset % 2 == 0, scope.length % 2 == 0) {
             (true, true) => self.cleanup(place, scope),
             (true, false) => self.catch(place, scope),
             (false, true) => self.specification(place, scope),
-            (false, false) => Found::Fault(DescFault::Kind),
+            (false, false) => NextDesc::Fault(DescFault::Kind),
         }
     }
 
-    /// The scope whose first word stands at a place. None where its second word isn't there.
+    /// The scope whose first word is at a place. None if its second word isn't there.
     #[inline(always)]
     fn scope(&self, place: usize, first: u32) -> Option<Scope>
         requires { place + 4 ≤ length self.now.bytes.now }
@@ -304,26 +306,26 @@ impl<'a> Table<'a> {
         })
     }
 
-    /// What stands at a place.
+    /// What the bytes at a place are: a descriptor, a fault, or the end of the list.
     #[inline(always)]
-    fn found_at(&self, place: usize) -> Found
-        ensures { result ≡ found_at (form self.now) place }
+    fn next_desc_at(&self, place: usize) -> NextDesc
+        ensures { result ≡ next_desc_at (form self.now) place }
     {
         let Some(first) = self.word(place) else {
-            return Found::Fault(DescFault::Short);
+            return NextDesc::Fault(DescFault::Short);
         };
         if first == 0 {
-            return Found::End;
+            return NextDesc::End;
         }
         match self.scope(place, first) {
             Some(scope) => self.kind(place, scope),
-            None => Found::Fault(DescFault::Short),
+            None => NextDesc::Fault(DescFault::Short),
         }
     }
 }
 
-/// The descriptors of an entry, in order; the first that can't be read is the last item. Contracts see the list of those that the
-/// iterator hasn't given yet. It lends the table's bytes and takes no memory.
+/// Iterates over the descriptors of an entry; a fault is the last item. In contracts, a `Descs` is the list of items still to come. It
+/// reads the table in place and allocates nothing.
 #[derive(Drop)]
 pub struct Descs<'a> {
     table: Table<'a>,
@@ -361,7 +363,8 @@ impl<'a> Descs<'a> {
         }
     }
 
-    /// The descriptors after the codes of a table, at an address, of an entry with a start. The codes can be read.
+    /// The descriptors in a table at `address`, of an entry that starts at `start`. They follow the unwind instructions, which must be
+    /// readable.
     #[inline(always)]
     pub fn after_codes(start: u32, address: u32, bytes: &'a [u8]) -> Descs<'a>
         requires { IsOk (table_codes bytes.now) }
@@ -383,7 +386,7 @@ impl<'a> Descs<'a> {
         }
     }
 
-    /// The descriptors after the codes of a table.
+    /// The descriptors after the unwind instructions of a table.
     fn after(start: u32, address: u32, bytes: &'a [u8]) -> Descs<'a>
         ensures { result ≡ table_items start address bytes.now }
     {
@@ -393,15 +396,15 @@ impl<'a> Descs<'a> {
         Descs::after_codes(start, address, bytes)
     }
 
-    /// The descriptors of an entry, in the bytes from its table's address to the end of those of the read-only segment that holds
-    /// it. An entry that is no table, or whose codes can't be read, has none.
+    /// The descriptors of an entry. The bytes end with the file bytes of the read-only segment that contains the table. An entry
+    /// without a table, or whose unwind instructions can't be read, has none.
     pub fn of(index: &Index<'_, 'a>, e: &Entry) -> Descs<'a>
         ensures { result ≡ items_of e.now (table_of index.now e.now) }
     {
         Descs::of_table(e, index.table(e))
     }
 
-    /// The same, by the bytes that the index gives for the entry.
+    /// As `of`, from the bytes that the index gives for the entry.
     pub fn of_table(e: &Entry, table: Option<&'a [u8]>) -> Descs<'a>
         ensures { result ≡ items_of e.now (option_copied table.entry) }
     {
@@ -426,16 +429,16 @@ impl<'a> Iterator for Descs<'a> {
         if self.over {
             return None;
         }
-        match self.table.found_at(self.place) {
-            Found::End => {
+        match self.table.next_desc_at(self.place) {
+            NextDesc::End => {
                 self.over = true;
                 None
             }
-            Found::One(desc, next) => {
+            NextDesc::One(desc, next) => {
                 self.place = next;
                 Some(Ok(desc))
             }
-            Found::Fault(fault) => {
+            NextDesc::Fault(fault) => {
                 self.over = true;
                 Some(Err(fault))
             }
@@ -443,8 +446,8 @@ impl<'a> Iterator for Descs<'a> {
     }
 }
 
-/// The address of type `i` of a specification. None for a word of 0, for one that the bytes of no read-only segment hold, for an `i`
-/// that isn't below the count, and for a descriptor that is no specification.
+/// The address of type `i` of a specification. None if `i` isn't below the count, the word is 0 or not in the file bytes of a read-only
+/// segment, or the descriptor isn't a specification.
 pub fn spec_type(index: &Index, d: &Desc, i: u32) -> Option<u32>
     ensures { result ≡ type_in index.now.segments d.now.kind i }
 {

@@ -6,9 +6,9 @@ use Rattle.eh_cxa.specs.declared.globals.Globals.{Globals}
 use Rattle.eh_cxa.specs.declared.globals.CleanupWords.{CleanupWords}
 use Rattle.eh_cxa.specs.declared.globals.CxaFault.{CxaFault}
 use Rattle.eh_cxa.specs.declared.layout.TheConstants.{STATE, CLEANUP_SP}
-use Rattle.eh_cxa.specs.States.{named, is_fresh, is_caught}
-use Rattle.eh_cxa.specs.Words.{Pool, block, object, block_slot, object_slot, Done, made}
-use Rattle.eh_cxa.specs.Throw.{Throw, start_throw_of, throw_by, thrown_of}
+use Rattle.eh_cxa.specs.States.{state_of_word, is_fresh, is_caught}
+use Rattle.eh_cxa.specs.Words.{Pool, block, object, block_slot, object_slot, Done, call_result}
+use Rattle.eh_cxa.specs.Throw.{Throw, start_throw_of, throw_by, object_and_type}
 use Rattle.eh_cxa.specs.Catch.{rethrow_of, rethrow_at, rethrow_by}
 use Rattle.eh_cxa.specs.Cleanup.{end_cleanup_of, end_cleanup_at, end_cleanup_by}
 use Rattle.eh_cxa.proofs.Pools.{slot_small, slot_of_block_is, object_small, slot_of_object_is}
@@ -34,7 +34,7 @@ rethrow_by_answers false w g s e = refused_answers _
 
 rethrow_at_answers : (w : Pool) (g : Globals) (o : Option ℕ) → block_slot g.caught ≡ o → Answers (rethrow_at w g o).answer
 rethrow_at_answers w g None e = refused_answers _
-rethrow_at_answers w g (Some s) e = rethrow_by_answers (is_caught (named (w s STATE))) w g s e
+rethrow_at_answers w g (Some s) e = rethrow_by_answers (is_caught (state_of_word (w s STATE))) w g s e
 
 pub rethrow_block : (w : Pool) (g : Globals) (b : ℕ) → Ok b ≡ (rethrow_of w g).answer → IsSome (block_slot b)
 rethrow_block w g b e = rethrow_at_answers w g (block_slot g.caught) refl b (sym e)
@@ -50,7 +50,7 @@ throw_by_answers false g s a t e = refused_answers _
 
 throw_answers : (w : Pool) (g : Globals) (a : ℕ) (o : Option ℕ) (t : Throw) → object_slot a ≡ o → Answers (start_throw_of w g o t).answer
 throw_answers w g a None t e = refused_answers _
-throw_answers w g a (Some s) t e = throw_by_answers (is_fresh (named (w s STATE))) g s a t e
+throw_answers w g a (Some s) t e = throw_by_answers (is_fresh (state_of_word (w s STATE))) g s a t e
 
 pub throw_block : (w : Pool) (g : Globals) (a b : ℕ) (t : Throw) → Ok b ≡ (start_throw_of w g (object_slot a) t).answer → IsSome (block_slot b)
 throw_block w g a b t e = throw_answers w g a (object_slot a) t refl b (sym e)
@@ -77,9 +77,9 @@ pub cleanup_block : (w : Pool) (g : Globals) (sp b : ℕ) (c : CleanupWords) →
 cleanup_block w g sp b c e = cleanup_at_answers w g sp (block_slot g.cleanup) refl b c (sym e)
 
 -- the object of a slot's block is that slot's
-thrown_at : (w : Pool) (a : ℕ) (o : Option ℕ) → block_slot a ≡ o → IsSome o → IsSome (object_slot (thrown_of w o).0)
+thrown_at : (w : Pool) (a : ℕ) (o : Option ℕ) → block_slot a ≡ o → IsSome o → IsSome (object_slot (object_and_type w o).0)
 thrown_at w a None e h = absurd (cc)
 thrown_at w a (Some s) e h = some_slot (object_slot (object s)) s (slot_of_object_is s (slot_small a s e))
 
-pub thrown_object : (w : Pool) (a : ℕ) → IsSome (block_slot a) → IsSome (object_slot (thrown_of w (block_slot a)).0)
+pub thrown_object : (w : Pool) (a : ℕ) → IsSome (block_slot a) → IsSome (object_slot (object_and_type w (block_slot a)).0)
 thrown_object w a h = thrown_at w a (block_slot a) refl h

@@ -1,4 +1,4 @@
--- What gates promise in the words of their users (docs/machine.md, "Laws").
+-- What gates guarantee, in the terms of their users (docs/rules/machine.md, "Laws").
 use Rattle.std.specs.Prelude.{◌≡◌, ◌⊎◌, ℕ, Bool, true, false, is_some, IsSome, Ok, Err}
 use Rattle.eh_bus.specs.Map.{IsMap, SameMap}
 use Rattle.eh_cxa.specs.declared.globals.Globals.{Globals}
@@ -11,7 +11,7 @@ use Rattle.thumb_core.specs.declared.ends.End.{End}
 use Rattle.thumb_core.specs.declared.ends.End.TheVariants as the_end
 use Rattle.eh_gates.specs.declared.state.Turned.TheVariants.{Ended}
 use Rattle.eh_gates.specs.State.{State, Tables, Outcome, reg}
-use Rattle.eh_gates.specs.Throwing.{throw_gate, rethrow_gate, barrier_in, searched, thrown_first, thrown_of_block, second_flight}
+use Rattle.eh_gates.specs.Throwing.{throw_gate, rethrow_gate, barrier_in, phase1_result, gate_thrown, block_thrown, second_flight}
 use Rattle.eh_gates.specs.Gates.{gate_of}
 
 abbrev pub is_terminate : End → Bool
@@ -22,7 +22,7 @@ is_terminate the_end.Budget = false
 is_terminate the_end.ReadFault = false
 is_terminate the_end.WriteFault = false
 
--- what an end leaves: the registers in any case, and globals and memory unless it is a terminate, which leaves what was done before it
+-- what an end leaves unchanged: the registers in any case; globals and memory too, unless it terminates
 pub record IsLeft (end : End) (s t : State) : Type 0 where
   pub regs : t.regs ≡ s.regs
   pub globals : is_terminate end ≡ false → t.globals ≡ s.globals
@@ -40,12 +40,12 @@ pub record OnlyThrown (s t : State) : Type 0 where
   pub globals : t.globals ≡ s.globals
   pub memory : t.memory ≡ s.memory
 
--- a throw of an object that may be thrown, of a type that the graph holds, whose search finds no barrier: the run ends by what the search
--- found, nothing was entered, and the exception doesn't fly
+-- A throw of an object that may be thrown, with a type that the graph has, finds no barrier. Then the run ends as the search tells,
+-- nothing was entered, and the exception isn't flying.
 abbrev pub FailedSearchesEnterNothing : Type 0
 FailedSearchesEnterNothing =
     (g : Tables) (s t : State) (end why : End) → throw_fault (word s.memory) (object_slot (reg s 0)) ≡ Ok tt → is_some (row_of g.types (reg s 1)) ≡ true
-    → barrier_in s.regs.pc (searched g s (thrown_first s)) ≡ Err why → throw_gate g s ≡ (Ended end, t) → (end ≡ why) × OnlyThrown s t
+    → barrier_in s.regs.pc (phase1_result g s (gate_thrown s)) ≡ Err why → throw_gate g s ≡ (Ended end, t) → (end ≡ why) × OnlyThrown s t
 
 -- the same of a rethrow of what is on top of the caught stack
 pub record OnlyRethrown (s t : State) : Type 0 where
@@ -60,10 +60,10 @@ pub record OnlyRethrown (s t : State) : Type 0 where
 abbrev pub FailedRethrowsEnterNothing : Type 0
 FailedRethrowsEnterNothing =
     (g : Tables) (s t : State) (end why : End) (block : ℕ) → (second_flight s).answer ≡ Ok block
-    → is_some (row_of g.types (thrown_of_block s block).ty) ≡ true → barrier_in s.regs.pc (searched g s (thrown_of_block s block)) ≡ Err why
+    → is_some (row_of g.types (block_thrown s block).ty) ≡ true → barrier_in s.regs.pc (phase1_result g s (block_thrown s block)) ≡ Err why
     → rethrow_gate g s ≡ (Ended end, t) → (end ≡ why) × OnlyRethrown s t
 
--- a head of a chain: none, or the control block of a slot
+-- the head of a list: 0, or the control block of a slot
 abbrev pub IsHead : ℕ → Type 0
 IsHead h = (h ≡ 0) ⊎ IsSome (block_slot h)
 
@@ -71,10 +71,10 @@ pub record AreHeads (g : Globals) : Type 0 where
   pub caught : IsHead g.caught
   pub cleanup : IsHead g.cleanup
 
--- where the heads of both chains are heads before a gate, they are after it
+-- if the heads of both lists are heads before a gate, they are after it
 abbrev pub HeadsStay : Type 0
 HeadsStay = (g : Tables) (number next : ℕ) (s : State) → AreHeads s.globals → AreHeads (gate_of g number next s).1.globals
 
--- in a memory as every bus has it a gate changes no segment but the bytes of those that may be written
+-- in a memory as every bus has it, a gate changes segments only in the bytes of writable ones
 abbrev pub GatesKeepTheMap : Type 0
 GatesKeepTheMap = (g : Tables) (number next : ℕ) (s : State) → IsMap s.memory → SameMap s.memory.segments (gate_of g number next s).1.memory.segments

@@ -1,5 +1,5 @@
-//! The gates that are calls on exceptions alone (docs/machine.md, "Gates"). A call that is refused ends the run and leaves everything as it
-//! was; else its answer stands in r0, and in r1, and the run goes on after the gate, at `next`.
+//! The gates (SVCs that the runtime handles) that only call on exceptions (docs/rules/machine.md, "Gates"). A refused call ends the run and
+//! changes nothing. Otherwise its results are in r0 and r1, and the run goes on after the gate, at `next`.
 ghost use Rattle.std.specs.Prelude.{◌≡◌};
 ghost use Rattle.eh_trace.specs.Trace.{Trace};
 ghost use Rattle.eh_gates.specs.State.{state_of};
@@ -10,7 +10,7 @@ use eh_bus::bus::Bus;
 use eh_cxa::{CxaFault, allocate, begin_catch, end_catch, free};
 use thumb_core::ends::{Cause, End, TrapKind};
 
-/// How a refused call ends the run, by what the call was given and the address of the gate.
+/// How a refused call ends the run, from the call's argument and the address of the gate.
 pub(crate) fn fault_end(fault: CxaFault, given: u32, pc: u32) -> End
     ensures { result ≡ fault_end fault given pc }
 {
@@ -26,7 +26,7 @@ pub(crate) fn fault_end(fault: CxaFault, given: u32, pc: u32) -> End
     }
 }
 
-/// r0 becomes the object of a new exception of r0 bytes. `TooBig` with r0; terminates by `PoolFull`.
+/// Allocates an exception of r0 bytes; r0 becomes its object's address. Trap `TooBig` with r0; terminates with `PoolFull`.
 pub(crate) fn allocate_gate<B: Bus>(next: u32, core: &mut Core, bus: &mut B) -> Turned
     ensures { (events : Trace) → (result, state_of core.new (B.memory bus.new) events) ≡ allocate_gate next (state_of core.old (B.memory bus.old) events) }
 {
@@ -41,7 +41,7 @@ pub(crate) fn allocate_gate<B: Bus>(next: u32, core: &mut Core, bus: &mut B) -> 
     }
 }
 
-/// The exception whose object is at r0 is given back. `BadObject` with r0.
+/// Frees the exception whose object is at r0. Trap `BadObject` with r0.
 pub(crate) fn free_gate<B: Bus>(next: u32, core: &mut Core, bus: &mut B) -> Turned
     ensures { (events : Trace) → (result, state_of core.new (B.memory bus.new) events) ≡ free_gate next (state_of core.old (B.memory bus.old) events) }
 {
@@ -55,7 +55,8 @@ pub(crate) fn free_gate<B: Bus>(next: u32, core: &mut Core, bus: &mut B) -> Turn
     }
 }
 
-/// A handler begins its catch of the control block at r0; r0 becomes the object that it is given. `BadUcb` and `CaughtOrder` with r0.
+/// Begins the catch of the exception whose control block is at r0; r0 becomes the address that the handler is given. Traps `BadUcb` and
+/// `CaughtOrder` with r0.
 pub(crate) fn begin_catch_gate<B: Bus>(next: u32, core: &mut Core, bus: &mut B) -> Turned
     ensures { (events : Trace) → (result, state_of core.new (B.memory bus.new) events) ≡ begin_catch_gate next (state_of core.old (B.memory bus.old) events) }
 {
@@ -70,8 +71,8 @@ pub(crate) fn begin_catch_gate<B: Bus>(next: u32, core: &mut Core, bus: &mut B) 
     }
 }
 
-/// The handler of the top of the caught stack ends; r0 and r1 become an object to be destroyed and its destructor, or zeros. `NoCaught`
-/// with 0.
+/// Ends the handler of the exception on top of the caught stack. r0 and r1 become an object to destroy and its destructor, or zeros.
+/// Trap `NoCaught` with 0.
 pub(crate) fn end_catch_gate<B: Bus>(next: u32, core: &mut Core, bus: &mut B) -> Turned
     ensures { (events : Trace) → (result, state_of core.new (B.memory bus.new) events) ≡ end_catch_gate next (state_of core.old (B.memory bus.old) events) }
 {

@@ -1,7 +1,7 @@
-//! The gates of exceptions by their numbers (docs/machine.md, "Gates").
+//! The numbers of the exception gates (docs/rules/machine.md, "Gates").
 ghost use Rattle.std.specs.Prelude.{◌≡◌, false};
 ghost use Rattle.eh_bus.specs.Map.{SameMap};
-ghost use Rattle.guest_gates.specs.Ends.{is_fault};
+ghost use Rattle.eh_phase.specs.run_gates.Ends.{is_fault};
 ghost use Rattle.thumb_core.specs.declared.ends.End.{End as TheEnd};
 ghost use Rattle.eh_gates.specs.State.{state_of, tables_of};
 ghost use Rattle.eh_gates.specs.Gates.{gate_of};
@@ -15,30 +15,30 @@ use eh_phase::Tables;
 use eh_trace::Events;
 use thumb_core::ends::{Cause, End, TrapKind};
 
-/// r0 becomes a new exception of r0 bytes.
+/// Allocates an exception of r0 bytes; r0 becomes its object's address.
 pub const ALLOCATE_GATE: u8 = 16;
-/// The exception at r0 is given back.
+/// Frees the exception whose object is at r0.
 pub const FREE_GATE: u8 = 17;
-/// Throws r0, of the type r1, with the destructor r2.
+/// Throws the object at r0, of the type at r1, with the destructor at r2.
 pub const THROW_GATE: u8 = 18;
-/// A handler begins.
+/// Begins a catch: a handler calls it first.
 pub const BEGIN_CATCH_GATE: u8 = 19;
-/// A handler ends.
+/// Ends a catch: a handler calls it last.
 pub const END_CATCH_GATE: u8 = 20;
-/// The caught exception is thrown again.
+/// Throws the exception on top of the caught stack again.
 pub const RETHROW_GATE: u8 = 21;
-/// A cleanup ends.
+/// Ends a cleanup; the throw goes on.
 pub const END_CLEANUP_GATE: u8 = 22;
-/// Terminates: a specification is violated.
+/// Terminates, because a specification was violated.
 pub const UNEXPECTED_GATE: u8 = 23;
 /// Terminates.
 pub const TERMINATE_GATE: u8 = 24;
 /// r0 becomes the number of uncaught exceptions.
 pub const UNCAUGHT_GATE: u8 = 25;
 
-/// What the gate with a number does.
+/// Does the gate with a number.
 #[tactic(auto, unfolding(crate::specs::Gates::gate_of))]
-fn perform<B: Bus>(
+fn do_gate<B: Bus>(
     t: &Tables,
     number: u8,
     next: u32,
@@ -63,8 +63,9 @@ fn perform<B: Bus>(
     }
 }
 
-/// Does the gate with a number. The registers are those before its instruction, and the next instruction is at `next`. Any other number is
-/// the trap `UnknownGate`. No end is a fault of the outside, and segments stay as they are but for the bytes of those that may be written.
+/// Does the gate with a number. The registers are those before its instruction; `next` is the address of the instruction after it. Any
+/// number that isn't an exception gate's is the trap `UnknownGate`. The run never ends by a fault of the outside. Segments only change
+/// in the bytes of writable ones.
 pub fn gate<B: Bus>(
     t: &Tables,
     number: u8,
@@ -77,5 +78,5 @@ pub fn gate<B: Bus>(
     ensures inside { (end : TheEnd) → result ≡ Turned.Ended end → is_fault end ≡ false }
     ensures map { SameMap (B.memory bus.old).segments (B.memory bus.new).segments }
 {
-    perform(t, number, next, core, bus, events)
+    do_gate(t, number, next, core, bus, events)
 }

@@ -1,10 +1,10 @@
-//! A landing pad is entered (IHI 0038, "Phase 2 unwinding"; docs/machine.md, "Landing").
+//! A landing pad is entered (IHI 0038, "Phase 2 unwinding"; docs/rules/machine.md, "Landing").
 ghost use Rattle.std.specs.Prelude.{◌≡◌, IsSome};
 ghost use Rattle.eh_cxa.specs.Words.{block_slot};
 ghost use Rattle.eh_phase.specs.Calls.{frame_at};
-ghost use Rattle.eh_phase.specs.Landings.{lands};
+ghost use Rattle.eh_phase.specs.Landings.{landing_in_frame};
 ghost use Rattle.eh_gates.specs.State.{state_of};
-ghost use Rattle.eh_gates.specs.Landing.{landed, pad_event, words_of, enter_cleanup, enter_handler, entered};
+ghost use Rattle.eh_gates.specs.Landing.{landing_registers, pad_event, words_of, enter_cleanup, enter_handler, enter_landing};
 
 use crate::state::{Core, Turned};
 use eh_bus::bus::Bus;
@@ -16,9 +16,10 @@ use eh_trace::{Event, EventKind, Events};
 use thumb_core::ends::{Cause, End};
 use thumb_core::regs::{Regs, SP};
 
-/// The registers at a pad: sp and r4 to r11 of the frame that is entered, `first` in r0, zeros else, and the flags as they are.
-fn landed(regs: &Regs, vrs: &Vrs, pad: u32, first: u32) -> Regs
-    ensures { result ≡ landed regs.now vrs.now.r pad first }
+/// The registers at a landing pad: sp and r4 to r11 of the frame that is entered, `first` in r0, 0 in the others, and the flags
+/// unchanged.
+fn landing_registers(regs: &Regs, vrs: &Vrs, pad: u32, first: u32) -> Regs
+    ensures { result ≡ landing_registers regs.now vrs.now.r pad first }
 {
     let r = &vrs.r;
     Regs {
@@ -47,7 +48,7 @@ fn landed(regs: &Regs, vrs: &Vrs, pad: u32, first: u32) -> Regs
     }
 }
 
-/// The event of a pad that is entered with this sp.
+/// The event of a landing pad that is entered with this `sp`.
 fn pad_event(kind: EventKind, pad: u32, sp: u32, object: u32) -> Event
     ensures { result ≡ pad_event kind pad sp object }
 {
@@ -61,7 +62,7 @@ fn pad_event(kind: EventKind, pad: u32, sp: u32, object: u32) -> Event
     }
 }
 
-/// What a cleanup in progress keeps.
+/// What is recorded of a cleanup in progress.
 fn words_of(vrs: &Vrs, next: u32, site: u32) -> CleanupWords
     ensures { result ≡ words_of vrs.now.r next site }
 {
@@ -72,7 +73,7 @@ fn words_of(vrs: &Vrs, next: u32, site: u32) -> CleanupWords
     }
 }
 
-/// A cleanup is entered, in the frame with these registers: it is the innermost in progress.
+/// Enters a cleanup in the frame with these registers; it becomes the innermost in progress.
 fn enter_cleanup<B: Bus>(
     core: &mut Core,
     bus: &mut B,
@@ -87,12 +88,12 @@ fn enter_cleanup<B: Bus>(
 {
     let sp = vrs.r[SP as usize];
     begin_cleanup(bus, &mut core.globals, block, words);
-    core.regs = landed(&core.regs, vrs, pad, 0);
+    core.regs = landing_registers(&core.regs, vrs, pad, 0);
     bus.release_below(sp);
     events.push(pad_event(EventKind::Cleanup, pad, sp, 0));
 }
 
-/// A handler of the exception is entered, in the frame with these registers, with its event.
+/// Enters a handler of the exception in the frame with these registers, and records the event.
 fn enter_handler<B: Bus>(
     core: &mut Core,
     bus: &mut B,
@@ -107,13 +108,13 @@ fn enter_handler<B: Bus>(
     ensures { state_of core.new (B.memory bus.new) events.new ≡ enter_handler (state_of core.old (B.memory bus.old) events.old) block vrs.now.r pad event }
 {
     land(bus, block);
-    core.regs = landed(&core.regs, vrs, pad, block);
+    core.regs = landing_registers(&core.regs, vrs, pad, block);
     bus.release_below(vrs.r[SP as usize]);
     events.push(event);
 }
 
-/// Does what phase 2 enters in a frame, for the exception of a control block; the handler of a catch is given `object`.
-pub(crate) fn entered<B: Bus>(
+/// Enters what phase 2 found in a frame, for the exception of a control block. The handler of a catch is given `object`.
+pub(crate) fn enter_landing<B: Bus>(
     core: &mut Core,
     bus: &mut B,
     events: &mut Events,
@@ -123,7 +124,7 @@ pub(crate) fn entered<B: Bus>(
     landing: Landing,
 ) -> Turned
     requires { IsSome (block_slot block) }
-    ensures { (result, state_of core.new (B.memory bus.new) events.new) ≡ entered (state_of core.old (B.memory bus.old) events.old) block object (lands (frame_at frame.now) landing) }
+    ensures { (result, state_of core.new (B.memory bus.new) events.new) ≡ enter_landing (state_of core.old (B.memory bus.old) events.old) block object (landing_in_frame (frame_at frame.now) landing) }
 {
     let vrs = &frame.vrs;
     let sp = vrs.r[SP as usize];

@@ -1,5 +1,5 @@
-//! The gates by which a program allocates, throws, catches and cleans up (IHI 0038, IHI 0041; docs/machine.md): what each does to
-//! registers, memory, the globals and the events of a state. The gates 0 to 2, which every machine has, are those of guest_gates.
+//! The gates by which a program allocates, throws, catches and cleans up (IHI 0038, IHI 0041; docs/rules/machine.md): their effect on
+//! registers, memory, globals and events. The gates 0 to 2, which every machine has, are those of run_gates.
 #![tactic(auto)]
 
 pub mod calls;

@@ -1,10 +1,10 @@
-//! A cleanup ends and its throw goes on (IHI 0038, "Phase 2 unwinding"; docs/machine.md, "The end of a cleanup").
+//! A cleanup ends and its throw goes on (IHI 0038, "Phase 2 unwinding"; docs/rules/machine.md, "The end of a cleanup").
 ghost use Rattle.std.specs.Prelude.{◌≡◌};
 ghost use Rattle.eh_gates.specs.State.{state_of, tables_of};
 ghost use Rattle.eh_gates.specs.Resuming.{goal_in, end_cleanup_gate};
 
 use crate::calls::fault_end;
-use crate::landing::entered;
+use crate::landing::enter_landing;
 use crate::state::{Core, Turned};
 use crate::throwing::frame_of;
 use eh_bus::bus::Bus;
@@ -13,7 +13,7 @@ use eh_phase::{Cursor, Goal, Tables, find_landing, to_caller};
 use eh_trace::Events;
 use thumb_core::regs::SP;
 
-/// The barrier as phase 2 knows it.
+/// The barrier as phase 2 needs it.
 fn goal_in(b: &BarrierWords) -> Goal
     ensures { result ≡ goal_in b.now }
 {
@@ -23,9 +23,9 @@ fn goal_in(b: &BarrierWords) -> Goal
     }
 }
 
-/// The function that a cleanup calls at its end: its frame is unwound, the cleanup ends in the caller, and phase 2 goes on from the
-/// cleanup's site and next descriptor. `NoCleanup` with 0 where none is in progress; `CleanupElsewhere` with the sp of the caller where the
-/// cleanup was entered with another, and with 0 where the gate's frame can't be unwound. A terminate leaves the registers.
+/// Ends a cleanup. The frame of the function that has this gate is unwound, the cleanup ends in the caller, and phase 2 goes on from
+/// the cleanup's site and next descriptor. Trap `NoCleanup` with 0 if none is in progress. Trap `CleanupElsewhere` with the caller's sp
+/// if the cleanup was entered with another, or with 0 if the gate's frame can't be unwound.
 pub(crate) fn end_cleanup_gate<B: Bus>(
     t: &Tables,
     core: &mut Core,
@@ -43,7 +43,7 @@ pub(crate) fn end_cleanup_gate<B: Bus>(
         site: pc,
         innermost: true,
     };
-    let mut near = events.near();
+    let mut near = events.near_rows();
     if !to_caller(t, bus, &mut cursor.vrs, pc, &mut near.gate) {
         return Turned::Ended(fault_end(CxaFault::CleanupElsewhere, 0, pc));
     }
@@ -55,8 +55,8 @@ pub(crate) fn end_cleanup_gate<B: Bus>(
             cursor.site = words.site;
             let goal = goal_in(&b);
             let landing = find_landing(t, bus, &mut cursor, words.next, &goal, &mut near.frame);
-            events.keep_near(near);
-            entered(core, bus, events, block, b.object, &cursor, landing)
+            events.keep_rows(near);
+            enter_landing(core, bus, events, block, b.object, &cursor, landing)
         }
     }
 }

@@ -1,12 +1,12 @@
-//! A throw and a rethrow (IHI 0038, "Phase 1 unwinding", "Phase 2 unwinding"; docs/machine.md, "A throw").
+//! A throw and a rethrow (IHI 0038, "Phase 1 unwinding", "Phase 2 unwinding"; docs/rules/machine.md, "A throw").
 ghost use Rattle.std.specs.Prelude.{◌≡◌, ◌<◌, ◌≤◌, IsSome};
 ghost use Rattle.eh_cxa.specs.Words.{block_slot, object_slot};
 ghost use Rattle.thumb_core.specs.Registers.{all_of};
 ghost use Rattle.eh_gates.specs.State.{state_of, tables_of};
-ghost use Rattle.eh_gates.specs.Throwing.{barrier_words, handed, pointed, throw_to, byte_of, throw_event, barrier_in, sought, throw_gate, rethrow_end, rethrow_gate};
+ghost use Rattle.eh_gates.specs.Throwing.{barrier_words, handler_object, handler_pointer, throw_to, byte_of, throw_event, barrier_in, find_barrier, throw_gate, rethrow_end, rethrow_gate};
 
 use crate::calls::fault_end;
-use crate::landing::entered;
+use crate::landing::enter_landing;
 use crate::state::{Core, Turned};
 use eh_bus::bus::Bus;
 use eh_bytecode::Vrs;
@@ -22,10 +22,10 @@ use eh_trace::{Event, EventKind, Events};
 use thumb_core::ends::{Cause, End, TrapKind};
 use thumb_core::regs::Regs;
 
-/// Where the pointer that a handler of a pointer to a base is given stands, in bytes from the start of the control block.
+/// Offset of the pointer that a handler of a pointer type is given, in bytes from the start of the control block.
 pub const POINTER_AT: u32 = 4 * BARRIER_POINTER - BLOCK;
 
-/// The registers as those of a frame; pc is the last of them.
+/// The registers as those of a frame, r0 to pc.
 pub(crate) fn frame_of(regs: &Regs) -> Vrs
     ensures { result.r ≡ all_of regs.now }
 {
@@ -38,9 +38,9 @@ pub(crate) fn frame_of(regs: &Regs) -> Vrs
     }
 }
 
-/// What the handler is given, by the match: the object, or the place of the pointer to its base.
-fn handed(block: u32, hit: Match) -> u32
-    ensures { result ≡ handed block hit }
+/// The address that the handler is given: the object, or the place of the pointer to its base.
+fn handler_object(block: u32, hit: Match) -> u32
+    ensures { result ≡ handler_object block hit }
 {
     match hit {
         Match::Object(object) => object,
@@ -49,8 +49,8 @@ fn handed(block: u32, hit: Match) -> u32
     }
 }
 
-fn pointed(hit: Match) -> u32
-    ensures { result ≡ pointed hit }
+fn handler_pointer(hit: Match) -> u32
+    ensures { result ≡ handler_pointer hit }
 {
     match hit {
         Match::PointerToBase(pointer) => pointer,
@@ -63,14 +63,14 @@ fn barrier_words(block: u32, b: &Barrier) -> BarrierWords
 {
     BarrierWords {
         sp: b.sp,
-        object: handed(block, b.hit),
+        object: handler_object(block, b.hit),
         desc: b.desc,
-        pointer: pointed(b.hit),
+        pointer: handler_pointer(b.hit),
     }
 }
 
-/// What a throw and a rethrow do once the exception flies: its barrier is written, phase 2 goes from the registers as they are and a site
-/// to it, and what it enters is entered, with its event, or the run terminates. A terminate leaves the registers.
+/// Goes on with a throw or rethrow whose exception is flying. Records its barrier, runs phase 2 from the current registers and `site`,
+/// and enters what it finds, with its event; or terminates, and then leaves the registers.
 #[tactic(auto, unfolding(crate::specs::Throwing::throw_to))]
 pub fn throw_to<B: Bus>(
     t: &Tables,
@@ -95,13 +95,13 @@ pub fn throw_to<B: Bus>(
         site,
         innermost: true,
     };
-    let mut near = events.near();
+    let mut near = events.near_rows();
     let landing = find_landing(t, bus, &mut cursor, 0, &goal, &mut near.frame);
-    events.keep_near(near);
-    entered(core, bus, events, block, words.object, &cursor, landing)
+    events.keep_rows(near);
+    enter_landing(core, bus, events, block, words.object, &cursor, landing)
 }
 
-/// One of the first `count` bytes of an object, and 0 after them.
+/// Byte `k` of an object of `count` bytes; 0 past its end.
 fn byte_of<B: Bus>(bus: &B, at: u32, count: u32, k: u32) -> u8
     ensures { result ≡ byte_of (B.memory bus.now) at count k }
 {
@@ -112,7 +112,7 @@ fn byte_of<B: Bus>(bus: &B, at: u32, count: u32, k: u32) -> u8
     }
 }
 
-/// The event of a throw, with the first bytes of the object.
+/// The event of a throw or rethrow, with the first bytes of the object.
 fn throw_event<B: Bus>(bus: &B, kind: EventKind, what: &Thrown, size: u32) -> Event
     ensures is { result ≡ throw_event kind (B.memory bus.now) what.now size }
     ensures count { result.count ≤ MAX_BYTES }
@@ -146,7 +146,7 @@ fn throw_event<B: Bus>(bus: &B, kind: EventKind, what: &Thrown, size: u32) -> Ev
     }
 }
 
-/// The barrier that a search found; without one the run ends.
+/// The barrier that phase 1 found; without one, how the run ends.
 fn barrier_in(pc: u32, found: Found) -> Result<Barrier, End>
     ensures { result ≡ barrier_in pc found }
 {
@@ -157,9 +157,9 @@ fn barrier_in(pc: u32, found: Found) -> Result<Barrier, End>
     }
 }
 
-/// The barrier of a throw, after its event, or how the run ends. `BadType` where the graph doesn't hold the type, and then there is no
-/// event.
-#[tactic(auto, unfolding(crate::specs::Throwing::sought))]
+/// Finds the barrier of a throw, after adding its event; else how the run ends. Trap `BadType`, without an event, if the graph doesn't
+/// have the type.
+#[tactic(auto, unfolding(crate::specs::Throwing::find_barrier))]
 fn sought<B: Bus>(
     t: &Tables,
     core: &Core,
@@ -169,7 +169,7 @@ fn sought<B: Bus>(
     what: &Thrown,
 ) -> Result<Barrier, End>
     requires { IsSome (object_slot what.now.object) }
-    ensures { (result, state_of core.now (B.memory bus.now) events.new) ≡ sought (tables_of t.now.index t.now.types.now) (state_of core.now (B.memory bus.now) events.old) kind what.now }
+    ensures { (result, state_of core.now (B.memory bus.now) events.new) ≡ find_barrier (tables_of t.now.index t.now.types.now) (state_of core.now (B.memory bus.now) events.old) kind what.now }
 {
     let pc = core.regs.pc;
     if !t.types.holds(what.ty) {
@@ -181,8 +181,8 @@ fn sought<B: Bus>(
     barrier_in(pc, found)
 }
 
-/// The object at r0 is thrown, of the type at r1, with the destructor at r2. Traps: `BadObject` with r0, `BadType` with r1, `ObjectRead` with
-/// the address that can't be read; without a barrier the run terminates. Each leaves registers, globals and memory.
+/// Throws the object at r0, of the type at r1, with the destructor at r2. Traps: `BadObject` with r0, `BadType` with r1, `ObjectRead`
+/// with the address that can't be read. Terminates if there is no barrier. In all these cases registers, globals and memory stay.
 pub(crate) fn throw_gate<B: Bus>(
     t: &Tables,
     core: &mut Core,
@@ -212,7 +212,7 @@ pub(crate) fn throw_gate<B: Bus>(
     }
 }
 
-/// How a refused rethrow ends the run: it terminates where nothing is caught.
+/// How a refused rethrow ends the run: it terminates if nothing is caught.
 fn rethrow_end(fault: CxaFault, given: u32, pc: u32) -> End
     ensures { result ≡ rethrow_end fault given pc }
 {
@@ -228,7 +228,8 @@ fn rethrow_end(fault: CxaFault, given: u32, pc: u32) -> End
     }
 }
 
-/// The top of the caught stack is thrown again. Terminates by `NothingCaught`; `CaughtOrder` with its control block; then as a throw.
+/// Throws the exception on top of the caught stack again. Terminates with `NothingCaught` if the stack is empty; trap `CaughtOrder`
+/// with the control block of a top that isn't caught; else as a throw.
 pub(crate) fn rethrow_gate<B: Bus>(
     t: &Tables,
     core: &mut Core,

@@ -5,10 +5,10 @@ use Rattle.std.specs.List.{range_with_len, All}
 use Rattle.std.proofs.lemmas.List.Elements.{All-weaker, All-get_or}
 use Rattle.std.proofs.lemmas.Option.{get_or_from_slice_get, slice_get_within}
 use Rattle.elf_image.specs.Image.{Image}
-use Rattle.unwind_codes.specs.declared.row.Entry.{Entry}
-use Rattle.unwind_codes.specs.declared.row.TheConstants.{ROW_SIZE}
-use Rattle.unwind_codes.specs.Laws.{IsLow, SaysRow, HasRows}
-use Rattle.unwind_codes.proofs.RowBytes.{law_of_saying, law_of_reading}
+use Rattle.eh_codes.specs.declared.row.Entry.{Entry}
+use Rattle.eh_codes.specs.declared.row.TheConstants.{ROW_SIZE}
+use Rattle.eh_codes.specs.Laws.{IsLow, SaysRow, HasRows}
+use Rattle.eh_codes.proofs.RowBytes.{law_of_saying, law_of_reading}
 use Rattle.eh_index.specs.Rows.{entry_at, entry_count, entries_of}
 use Rattle.eh_index.specs.Laws.{IsRow, RowsAreRead}
 

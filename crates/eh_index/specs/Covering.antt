@@ -1,12 +1,12 @@
--- The entry that covers an address (IHI 0038, "Index table entries"; docs/unwind-index.md).
+-- The entry that covers an address (IHI 0038, "Index table entries"; docs/rules/unwind-tables.md).
 use Rattle.std.specs.Prelude.{◌≡◌, ℕ, ◌<◌, ◌≤◌, nat_le, if◌then◌else◌, List, ◌∷◌, ◌++◌, fold, All, Option, Some, None}
-use Rattle.unwind_codes.specs.declared.row.Entry.{Entry}
+use Rattle.eh_codes.specs.declared.row.Entry.{Entry}
 
--- the last of the entries, from the front, whose start is at most the address
+-- the last of the entries whose start is at or below the address
 abbrev pub covering : List Entry → ℕ → Option Entry
 covering entries site = fold (λ found e. if nat_le e.start site then Some e else found) None entries
 
--- the entry begins at the address or below it, and every entry after it begins above it
+-- the entry starts at or below the address, and every entry after it starts above it
 pub record Covers (entries : List Entry) (site : ℕ) (e : Entry) : Type 0 where
   pub before : List Entry
   pub after : List Entry
@@ -14,7 +14,7 @@ pub record Covers (entries : List Entry) (site : ℕ) (e : Entry) : Type 0 where
   pub begins : e.start ≤ site
   pub later : All (λ f. site < f.start) after
 
--- it is that entry; there is none exactly where every entry begins above the address
+-- it is that entry; None if and only if every entry starts above the address
 abbrev pub IsCovering : List Entry → ℕ → Option Entry → Type 0
 IsCovering entries site None = All (λ f. site < f.start) entries
 IsCovering entries site (Some e) = Covers entries site e

@@ -1,4 +1,4 @@
--- The names of the refusals of an index, as a line of a report has them (docs/unwind-index.md).
+-- The names of index faults, as they are written in reports (docs/rules/unwind-tables.md).
 use Rattle.std.specs.Prelude.{ℕ, List, codes}
 use Rattle.eh_index.specs.declared.fault.IndexFault.{IndexFault}
 use Rattle.eh_index.specs.declared.fault.IndexFault.TheVariants.{Length, OutsideImage, Unsorted}

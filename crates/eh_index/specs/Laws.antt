@@ -1,18 +1,18 @@
--- What an index that is read tells, in the words of the standard: laws above the list of its rows (docs/unwind-index.md).
-use Rattle.unwind_codes.specs.declared.row.TheConstants.{ROW_SIZE, PREL31_LIMIT}
-use Rattle.unwind_codes.specs.Laws.{IsTold, IsLow}
-use Rattle.unwind_codes.specs.Rows.{rows_bytes}
+-- What an index that was read tells, in the terms of the standard: laws of the list of its rows (docs/rules/unwind-tables.md).
+use Rattle.eh_codes.specs.declared.row.TheConstants.{ROW_SIZE, PREL31_LIMIT}
+use Rattle.eh_codes.specs.Laws.{IsTold, IsLow}
+use Rattle.eh_codes.specs.Rows.{rows_bytes}
 use Rattle.std.specs.Prelude.{◌*◌, ◌%◌, ◌^◌, ◌≡◌, ℕ, ◌+◌, ◌<◌, ◌≤◌, true, List, length, All, Some, None}
 use Rattle.elf_image.specs.Segments.{Segment}
 use Rattle.elf_image.specs.Image.{Image}
-use Rattle.unwind_codes.specs.declared.row.Entry.{Entry}
-use Rattle.unwind_codes.specs.declared.row.EntryBody.TheVariants.{Table}
+use Rattle.eh_codes.specs.declared.row.Entry.{Entry}
+use Rattle.eh_codes.specs.declared.row.EntryBody.TheVariants.{Table}
 use Rattle.eh_index.specs.Rows.{first_word, entry_at, entry_count, entries_of}
 use Rattle.eh_index.specs.Places.{is_code_bound, is_table_place, bytes_at}
 use Rattle.eh_index.specs.Refusal.{index_refusal}
 use Rattle.eh_index.specs.Covering.{covering}
 
--- the entry begins in code or at its end, and a table of its stands at a multiple of 4 in the file's bytes of a read-only segment
+-- the entry starts in code or at its end, and its table, if it has one, is at a multiple of 4 in the file bytes of a read-only segment
 pub record IsEntry (image : Image) (e : Entry) : Type 0 where
   pub code : is_code_bound image.segments e.start ≡ true
   pub table : is_table_place image.segments e.body ≡ true
@@ -38,13 +38,14 @@ TablesAreThere =
 
 -- ---- rows as they are written
 
--- what a row can say: an even start below 2 ^ 30, and one of its three bodies, a word or at a multiple of 4 below 2 ^ 30
+-- a row that can be written: an even start below 2 ^ 30, and one of three bodies, an inline word or a table at a multiple of 4 below 2
+-- ^ 30
 pub record IsRow (e : Entry) : Type 0 where
   pub even : e.start % 2 ≡ 0
   pub low : IsLow e
   pub body : IsTold e.body
 
--- an index that is written row by row at a multiple of 4 is read as these entries, in this order
+-- an index that is written row by row, at a multiple of 4, is read as these entries in this order
 abbrev pub RowsAreRead : Type 0
 RowsAreRead =
     (image : Image) (entries : List Entry) → All IsRow entries → image.index_start % 4 ≡ 0 → image.index_start + ROW_SIZE * length entries < 2 ^ 30

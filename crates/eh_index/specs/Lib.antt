@@ -4,3 +4,5 @@ pub mod Refusal
 pub mod Covering
 pub mod Laws
 pub mod FaultNames
+pub mod eh_codes
+pub mod elf_image

@@ -1,14 +1,15 @@
--- Which indexes aren't read: the lowest row that is refused, and there the first reason (docs/unwind-index.md).
+-- Which index tables can't be read: the lowest row with a fault, and its first fault (docs/rules/unwind-tables.md).
 use Rattle.std.specs.Prelude.{ℕ, ◌-◌, ◌%◌, ◌==◌, not, ◌&&◌, ◌||◌, nat_le, nat_lt, Bool, if◌then◌else◌, List, [], ◌∷◌, length, map, Option, Some, None, Result, Ok, Err}
 use Rattle.std.specs.List.{range_with_len}
 use Rattle.elf_image.specs.Image.{Image}
-use Rattle.unwind_codes.specs.declared.row.TheConstants.{ROW_SIZE, PREL31_LIMIT}
+use Rattle.eh_codes.specs.declared.row.TheConstants.{ROW_SIZE, PREL31_LIMIT}
 use Rattle.eh_index.specs.declared.fault.IndexFault.{IndexFault}
 use Rattle.eh_index.specs.declared.fault.IndexFault.TheVariants.{Length, OutsideImage, Unsorted}
 use Rattle.eh_index.specs.Rows.{first_word, entry_at, entry_count}
 use Rattle.eh_index.specs.Places.{is_code_bound, is_table_place}
 
--- row k leads out of the image: bit 31 of its first word is set, it begins at no bound of code, or its table stands at no place for one
+-- row k points outside the image: bit 31 of its first word is set, its start isn't in code or at its end, or its table is at a wrong
+-- place
 abbrev pub is_outside : Image → ℕ → Bool
 is_outside image k =
     nat_le PREL31_LIMIT (first_word image k) || not (is_code_bound image.segments (entry_at image k).start)
@@ -36,5 +37,5 @@ unless_refused None x = Ok x
 unless_refused (Some fault) x = Err fault
 
 -- the image whose index is read, or why it isn't
-abbrev pub read_of : Image → Result Image IndexFault
-read_of image = unless_refused (index_refusal image) image
+abbrev pub index_or_fault : Image → Result Image IndexFault
+index_or_fault image = unless_refused (index_refusal image) image

@@ -1,11 +1,11 @@
--- The rows of an image's index as a list of entries (IHI 0038, "Index table entries"; docs/unwind-index.md): eight bytes for each.
+-- The rows of an image's index as a list of entries (IHI 0038, "Index table entries"; docs/rules/unwind-tables.md): eight bytes for each.
 use Rattle.std.specs.Prelude.{ℕ, ◌+◌, ◌*◌, ◌/◌, List, length, map}
 use Rattle.std.specs.List.{range_with_len}
 use Rattle.elf_image.specs.Format.{field}
 use Rattle.elf_image.specs.Image.{Image}
-use Rattle.unwind_codes.specs.Rows.{entry_of}
-use Rattle.unwind_codes.specs.declared.row.Entry.{Entry}
-use Rattle.unwind_codes.specs.declared.row.TheConstants.{ROW_SIZE}
+use Rattle.eh_codes.specs.Rows.{entry_of}
+use Rattle.eh_codes.specs.declared.row.Entry.{Entry}
+use Rattle.eh_codes.specs.declared.row.TheConstants.{ROW_SIZE}
 
 abbrev pub first_word : Image → ℕ → ℕ
 first_word image k = field 4 image.index_bytes (ROW_SIZE * k)

@@ -1,24 +1,24 @@
-//! The index of an image: read once, and searched by halving (docs/unwind-index.md).
+//! The index table of an image: read once, and looked up by binary search (docs/rules/unwind-tables.md).
 ghost use Rattle.eh_index.specs.Laws.{IsEntry};
 ghost use Rattle.std.specs.List.{range_with_len};
 ghost use Rattle.std.specs.Prelude.{ℕ, None, map, ◌==◌, ◌≡◌, ◌+◌, ◌*◌, ◌<◌, ◌≤◌, length, IfSome, option_copied};
-ghost use Rattle.unwind_codes.specs.declared.row.TheConstants.{ROW_SIZE};
+ghost use Rattle.eh_codes.specs.declared.row.TheConstants.{ROW_SIZE};
 ghost use Rattle.eh_index.specs.Rows.{entry_at, entry_count, entries_of};
 ghost use Rattle.eh_index.specs.Places.{is_table_place, table_of};
-ghost use Rattle.eh_index.specs.Refusal.{first_of, entry_refusal, index_refusal, read_of};
+ghost use Rattle.eh_index.specs.Refusal.{first_of, entry_refusal, index_refusal, index_or_fault};
 ghost use Rattle.eh_index.specs.Covering.{covering, IsCovering};
 
 use crate::fault::IndexFault;
 use crate::place::{bounds_code, bytes_at, has_bytes};
 use crate::row::{entry_at, first_word, start_at};
+use eh_codes::row::{Entry, EntryBody, PREL31_LIMIT, ROW_SIZE};
 use elf_image::image::Image;
 use std::marker::Model;
-use unwind_codes::row::{Entry, EntryBody, PREL31_LIMIT, ROW_SIZE};
 
-/// How many times longer each step of a search from a row outwards is than the one before it.
+/// By which factor each step of a search outwards from a row is longer than the step before.
 const STEP_GROWTH: u32 = 16;
 
-/// The exception index of an image, which contracts see as that image: its rows are accepted, and rise.
+/// The index table of an image. In contracts, an `Index` is that image; its rows are valid, and their starts are in ascending order.
 #[derive(Drop)]
 pub struct Index<'i, 'a> {
     image: &'i Image<'a>,
@@ -36,7 +36,7 @@ impl<'i, 'a> Model for Index<'i, 'a> {
     ghost invariant = { λ i. index_refusal i.image.now ≡ None };
 }
 
-/// Whether a table has a place for one; an entry without a table has.
+/// Whether an entry's table is at a valid place; true for an entry without a table.
 fn is_table_place(image: &Image, body: EntryBody) -> bool
     ensures { result ≡ is_table_place image.now.segments body }
 {
@@ -46,7 +46,7 @@ fn is_table_place(image: &Image, body: EntryBody) -> bool
     }
 }
 
-/// What is refused of a row.
+/// The fault of row `k`; None if it is valid.
 #[tactic(auto, unfolding(crate::specs::Refusal::entry_refusal))]
 fn entry_refusal(image: &Image, k: u32) -> Option<IndexFault>
     requires { ROW_SIZE * k + ROW_SIZE ≤ length image.now.index_bytes }
@@ -65,7 +65,7 @@ fn entry_refusal(image: &Image, k: u32) -> Option<IndexFault>
     None
 }
 
-/// What is refused of the rows.
+/// The fault of the lowest row that has one; None if all `count` rows are valid.
 #[tactic(auto, using(crate::proofs::Search::refusals))]
 fn rows_refusal(image: &Image, count: u32) -> Option<IndexFault>
     requires { count ≡ entry_count image.now }
@@ -79,7 +79,7 @@ fn rows_refusal(image: &Image, count: u32) -> Option<IndexFault>
     None
 }
 
-/// How many rows there are.
+/// The number of rows.
 #[tactic(auto, using(crate::proofs::Places::places))]
 fn count(image: &Image) -> u32
     ensures { result ≡ entry_count image.now }
@@ -88,8 +88,7 @@ fn count(image: &Image) -> u32
     (bytes.len() / ROW_SIZE as usize) as u32
 }
 
-/// How many of the rows begin at the address or below it, by halving those from `low` to below `high`: the ones before them do, and
-/// the ones after them don't.
+/// How many rows start at or below `site`, by binary search. Every row below `low` must, and no row from `high` on may.
 #[tactic(auto, using(crate::proofs::Search::rises))]
 fn rows_between(image: &Image, mut low: u32, mut high: u32, site: u32) -> u32
     requires accepted { index_refusal image.now ≡ None }
@@ -112,7 +111,7 @@ fn rows_between(image: &Image, mut low: u32, mut high: u32, site: u32) -> u32
     low
 }
 
-/// How many of the rows begin at the address or below it, by halving.
+/// How many of the rows start at or below `site`, by binary search.
 fn rows_up_to(image: &Image, count: u32, site: u32) -> u32
     requires count { count ≡ entry_count image.now }
     requires accepted { index_refusal image.now ≡ None }
@@ -123,8 +122,8 @@ fn rows_up_to(image: &Image, count: u32, site: u32) -> u32
     rows_between(image, 0, count, site)
 }
 
-/// How many of the rows begin at the address or below it. Looks at a row and at rows on one side of it, in steps that grow, until
-/// rows on both sides of the address are known, and halves those between.
+/// How many of the rows start at or below `site`, by a search from the row `near`. It looks at rows on one side of `near`, in growing
+/// steps, until it has passed `site`; then it searches between the last two by halving.
 #[tactic(auto, using(crate::proofs::Search::rises))]
 fn rows_near(image: &Image, count: u32, site: u32, near: u32) -> u32
     requires count { count ≡ entry_count image.now }
@@ -151,11 +150,11 @@ fn rows_near(image: &Image, count: u32, site: u32, near: u32) -> u32
 }
 
 impl<'i, 'a> Index<'i, 'a> {
-    /// The index of an image; of one without an index, one without entries. Refused is the lowest row with a fault, by the
-    /// first fault that `IndexFault` has.
+    /// Reads the index table of an image; an image without one has an index without entries. Err with the lowest row that has a fault,
+    /// and its first fault in the order of `IndexFault`.
     #[tactic(auto, unfolding(crate::specs::Refusal::index_refusal))]
     pub fn read(image: &'i Image<'a>) -> Result<Index<'i, 'a>, IndexFault>
-        ensures { result ≡ read_of image.now }
+        ensures { result ≡ index_or_fault image.now }
     {
         if image.index_bytes().len() % ROW_SIZE as usize != 0 {
             return Err(IndexFault::Length);
@@ -166,7 +165,7 @@ impl<'i, 'a> Index<'i, 'a> {
         }
     }
 
-    /// The index of an image whose index is read. It takes no time.
+    /// The index of an image whose index was read already, at no cost.
     pub fn of(image: &'i Image<'a>) -> Index<'i, 'a>
         requires { index_refusal image.now ≡ None }
         ensures { result ≡ image.entry.now }
@@ -174,28 +173,29 @@ impl<'i, 'a> Index<'i, 'a> {
         Index { image }
     }
 
-    /// The image whose index it is.
+    /// The image that the index belongs to.
     pub fn image(&self) -> &'i Image<'a>
         ensures { result.now ≡ self.now }
     {
         self.image
     }
 
-    /// How many entries there are.
+    /// The number of entries.
     pub fn len(&self) -> usize
         ensures { result ≡ length (entries_of self.now) }
     {
         count(self.image) as usize
     }
 
-    /// Whether there is no entry.
+    /// Whether there are no entries.
     pub fn is_empty(&self) -> bool
         ensures { result ≡ (length (entries_of self.now) == 0) }
     {
         count(self.image) == 0
     }
 
-    /// The last entry whose start is at most the address; None exactly where there is none. Halves.
+    /// The unwind entry that covers an address: the last whose start is at or below it. None if and only if there is none. A binary
+    /// search.
     pub fn find(&self, site: u32) -> Option<Entry>
         ensures covering { result ≡ covering (entries_of self.now) site }
         ensures last { IsCovering (entries_of self.now) site result }
@@ -209,9 +209,8 @@ impl<'i, 'a> Index<'i, 'a> {
         }
     }
 
-    /// The same entry, sought from a row outwards: two rows are read where its row is that one or the one before it, and in the worst
-    /// case a few more than `find` reads. `near` is any number; best is the row of the entry that was found last. The second of the
-    /// result is the row of this one.
+    /// As `find`, but the search begins at the row `near`; also returns the row found. It reads two rows if the entry is in row `near`
+    /// or in the one before it, and at worst a few rows more than `find`. Any `near` is allowed; the row found last is fastest.
     #[inline(always)]
     pub fn find_near(&self, site: u32, near: u32) -> (Option<Entry>, u32)
         ensures covering { result.0 ≡ covering (entries_of self.now) site }
@@ -225,8 +224,8 @@ impl<'i, 'a> Index<'i, 'a> {
         }
     }
 
-    /// The bytes of an entry's table, to the end of those of the read-only segment that holds it. None exactly where the entry
-    /// has no table, or no such bytes are there; of the entries of this index each table has.
+    /// The bytes of an entry's table, up to the end of the file bytes of its read-only segment. None if and only if the entry has no
+    /// table or there are no such bytes. Each entry of this index with a table has them.
     pub fn table(&self, e: &Entry) -> Option<&'a [u8]>
         ensures { option_copied result ≡ table_of self.now e.now }
     {

@@ -1,5 +1,5 @@
-//! The exception index of an image (IHI 0038, "Index table entries"): reading it, and the entry that covers an address.
-//! docs/unwind-index.md states the rules.
+//! The exception index table of an image (IHI 0038, "Index table entries"): reads it, and finds the entry that covers an address.
+//! docs/rules/unwind-tables.md states the rules.
 #![tactic(auto)]
 
 pub mod fault;
@@ -8,6 +8,6 @@ pub mod laws;
 mod place;
 mod row;
 
+pub use eh_codes::{Entry, EntryBody};
 pub use fault::IndexFault;
 pub use index::Index;
-pub use unwind_codes::{Entry, EntryBody};

@@ -1,4 +1,4 @@
-//! Where rows may lead: to code, and to tables in read-only bytes (docs/unwind-index.md).
+//! The places that rows may point to: code, and tables in read-only bytes (docs/rules/unwind-tables.md).
 ghost use Rattle.elf_image.specs.Image.{IsSound};
 ghost use Rattle.std.specs.Prelude.{drop, ◌-◌, Some, None, if◌then◌else◌, ◌≡◌, ◌&&◌, option_copied};
 ghost use Rattle.std.specs.List.{list_any};
@@ -8,7 +8,7 @@ ghost use Rattle.eh_index.specs.Places.{holds_byte, is_code_bound, bytes_at};
 use elf_image::image::Image;
 use elf_image::segment::Segment;
 
-/// Whether a segment that may be executed holds the address.
+/// Whether an executable segment contains the address.
 #[tactic(auto, using(crate::proofs::Places::executing))]
 fn executes(image: &Image, a: u32) -> bool
     ensures executes { result ≡ list_any (λ s. holds a s && s.exec) image.now.segments }
@@ -20,14 +20,14 @@ fn executes(image: &Image, a: u32) -> bool
     }
 }
 
-/// Whether the address lies in a segment that may be executed, or at the end of one.
+/// Whether the address lies in an executable segment, or at the end of one.
 pub(crate) fn bounds_code(image: &Image, a: u32) -> bool
     ensures { result ≡ is_code_bound image.now.segments a }
 {
     executes(image, a) || (a > 0 && executes(image, a - 1))
 }
 
-/// The bytes of a read-only segment from an address on.
+/// The file bytes of a read-only segment from an address on; None if it has none there.
 #[inline(always)]
 fn bytes_in<'a>(segment: &Segment<'a>, a: u32) -> Option<&'a [u8]>
     ensures { option_copied result ≡ (if holds_byte a segment.now then Some (drop (a - segment.now.start) segment.now.bytes) else None) }
@@ -44,8 +44,8 @@ fn bytes_in<'a>(segment: &Segment<'a>, a: u32) -> Option<&'a [u8]>
     }
 }
 
-/// The file's bytes from an address on, to their end in the read-only segment that holds it. Looks at the first segment, where tables
-/// mostly stand, before it halves among all.
+/// The file bytes from an address on, up to the end of those of the read-only segment that contains it. Tries the first segment, which
+/// mostly has the tables, before a binary search over all.
 #[tactic(auto, using(crate::proofs::Places::reading))]
 pub(crate) fn bytes_at<'a>(image: &Image<'a>, a: u32) -> Option<&'a [u8]>
     ensures { option_copied result ≡ bytes_at image.now.segments a }
@@ -59,7 +59,7 @@ pub(crate) fn bytes_at<'a>(image: &Image<'a>, a: u32) -> Option<&'a [u8]>
     bytes_in(segment, a)
 }
 
-/// Whether there are such bytes.
+/// Whether a read-only segment has file bytes at the address.
 pub(crate) fn has_bytes(image: &Image, a: u32) -> bool
     ensures { result ≡ list_any (holds_byte a) image.now.segments }
 {

@@ -4,11 +4,11 @@ use Rattle.std.specs.Prelude.{OnOk, codes, flat_map, is_ok}
 use Rattle.std.specs.List.{range_with_len}
 use Rattle.std.proofs.lemmas.List.Concat.{flat_map-append}
 use Rattle.std.proofs.lemmas.List.FromFn.{map-range_with_len_more}
-use Rattle.eh_kit.specs.declared.program.Name.{Name}
-use Rattle.eh_kit.specs.declared.program.Name.TheVariants.{Numbered}
-use Rattle.eh_kit.specs.declared.program.Kind.{Kind}
+use Rattle.eh_kit.specs.declared.program.FunctionName.{FunctionName}
+use Rattle.eh_kit.specs.declared.program.FunctionName.TheVariants.{Numbered}
+use Rattle.eh_kit.specs.declared.program.FunctionKind.{FunctionKind}
 use Rattle.eh_kit.specs.declared.program.Caller.{Caller}
-use Rattle.eh_kit.specs.Program.{drawn, next_number, numbered, kind_of, callee_of, main_function, callers}
+use Rattle.eh_kit.specs.Program.{random_number, next_number, nth_caller, kind_of, callee_of, main_function, callers}
 use Rattle.eh_kit.specs.ProgramText.{line_text, caller_lines, boom_lines, generated_text, name_text, lines_text, call_lines, after_catch, caught_lines, scope_lines}
 
 call_shape : (out n m nl typed isfun start save push at call after pops : List ℕ)
@@ -16,7 +16,7 @@ call_shape : (out n m nl typed isfun start save push at call after pops : List �
     ≡ out ++ flat_map (λ (line : List ℕ). line ++ nl) ((typed ++ n ++ isfun) ∷ (n ++ start) ∷ save ∷ push ∷ (at ++ n ++ call ++ m) ∷ (after ++ n ++ pops) ∷ [])
 call_shape out n m nl typed isfun start save push at call after pops = simp (append_assoc, append-nil)
 
-call_joined : (out : List ℕ) (name callee : Name)
+call_joined : (out : List ℕ) (name callee : FunctionName)
     → (((((((((((out ++ codes ".type ") ++ name_text name) ++ codes ", %function\n") ++ name_text name) ++ codes ": .fnstart\n.save {r4, lr}\npush {r4, lr}\n.Lb") ++ name_text name) ++ codes ": bl ") ++ name_text callee) ++ codes "\n.Le") ++ name_text name) ++ codes ": pop {r4, pc}\n")
     ≡ out ++ lines_text (call_lines name callee)
 unfolding call_lines
@@ -24,7 +24,7 @@ call_joined out name callee =
     call_shape out (name_text name) (name_text callee) (codes "\n") (codes ".type ") (codes ", %function") (codes ": .fnstart") (codes ".save {r4, lr}") (codes "push {r4, lr}")
     (codes ".Lb") (codes ": bl ") (codes ".Le") (codes ": pop {r4, pc}")
 
-pub called : {E : Type 0} (r : Result (Unit {0}) E) (name callee : Name) (out a b c d e f : List ℕ)
+pub called : {E : Type 0} (r : Result (Unit {0}) E) (name callee : FunctionName) (out a b c d e f : List ℕ)
     → a ≡ out ++ codes ".type " ++ name_text name
     → b ≡ a ++ codes ", %function\n" ++ name_text name
     → c ≡ b ++ codes ": .fnstart\n.save {r4, lr}\npush {r4, lr}\n.Lb" ++ name_text name
@@ -40,12 +40,12 @@ caught_shape : (out n nl pad begins ends : List ℕ) (after : List (List ℕ))
     ≡ out ++ flat_map (λ (line : List ℕ). line ++ nl) ((pad ++ n ++ begins) ∷ ends ∷ after)
 caught_shape out n nl pad begins ends after = simp append_assoc
 
-caught_joined : (out : List ℕ) (name : Name)
+caught_joined : (out : List ℕ) (name : FunctionName)
     → (((out ++ codes ".Lp") ++ name_text name) ++ codes ": bl __cxa_begin_catch\nbl __cxa_end_catch\n") ++ lines_text (after_catch name) ≡ out ++ lines_text (caught_lines name)
 unfolding caught_lines
 caught_joined out name = caught_shape out (name_text name) (codes "\n") (codes ".Lp") (codes ": bl __cxa_begin_catch") (codes "bl __cxa_end_catch") (after_catch name)
 
-pub caught : {E : Type 0} (r : Result (Unit {0}) E) (name : Name) (out a b c after : List ℕ)
+pub caught : {E : Type 0} (r : Result (Unit {0}) E) (name : FunctionName) (out a b c after : List ℕ)
     → after ≡ lines_text (after_catch name)
     → a ≡ out ++ codes ".Lp" ++ name_text name
     → b ≡ a ++ codes ": bl __cxa_begin_catch\nbl __cxa_end_catch\n"
@@ -59,7 +59,7 @@ scope_shape : (out n nl index handler half begin mark comma minus word prel what
     ≡ out ++ flat_map (λ (line : List ℕ). line ++ nl) (index ∷ handler ∷ (half ++ n ++ begin ++ n ++ mark ++ comma ++ n ++ minus ++ n) ∷ (word ++ n ++ prel ++ what) ∷ [])
 scope_shape out n nl index handler half begin mark comma minus word prel what = simp (append_assoc, append-nil)
 
-scope_joined : (out : List ℕ) (name : Name) (mark what : List ℕ)
+scope_joined : (out : List ℕ) (name : FunctionName) (mark what : List ℕ)
     → ((((((((((((((out ++ codes ".personalityindex 0\n.handlerdata\n.half .Le") ++ name_text name) ++ codes "-.Lb") ++ name_text name) ++ mark) ++ codes ", .Lb") ++ name_text name) ++ codes "-") ++ name_text name) ++ codes "\n.word .Lp") ++ name_text name) ++ codes "(prel31), ") ++ what) ++ codes "\n")
     ≡ out ++ lines_text (scope_lines name mark what)
 unfolding scope_lines
@@ -67,7 +67,7 @@ scope_joined out name mark what =
     scope_shape out (name_text name) (codes "\n") (codes ".personalityindex 0") (codes ".handlerdata") (codes ".half .Le") (codes "-.Lb") mark (codes ", .Lb") (codes "-")
     (codes ".word .Lp") (codes "(prel31), ") what
 
-pub scope_told : {E : Type 0} (r : Result (Unit {0}) E) (name : Name) (mark what out a b c d e f g h i : List ℕ)
+pub scope_told : {E : Type 0} (r : Result (Unit {0}) E) (name : FunctionName) (mark what out a b c d e f g h i : List ℕ)
     → a ≡ out ++ codes ".personalityindex 0\n.handlerdata\n.half .Le" ++ name_text name
     → b ≡ a ++ codes "-.Lb" ++ name_text name
     → c ≡ b ++ mark
@@ -94,7 +94,7 @@ after_lines (Err x) out a b p q ea eb = tt
 
 -- what stands in the text before the function of number i
 unfoldable pub before : ℕ → ℕ → ℕ → List ℕ
-before number functions i = lines_text (codes ".global main" ∷ flat_map caller_lines (main_function ∷ map (numbered number functions) (range_with_len 0 i)))
+before number functions i = lines_text (codes ".global main" ∷ flat_map caller_lines (main_function ∷ map (nth_caller number functions) (range_with_len 0 i)))
 
 pub before_first : (number functions : ℕ) (out a b : List ℕ) → out ≡ [] → a ≡ out ++ codes ".global main\n" → b ≡ a ++ lines_text (caller_lines main_function)
     → b ≡ before number functions 0
@@ -102,24 +102,24 @@ unfolding before
 before_first number functions out a b eo ea eb = rw (eb, ea, eo, append-nil (caller_lines main_function)) refl
 
 more_callers : (number functions i : ℕ)
-    → flat_map caller_lines (main_function ∷ map (numbered number functions) (range_with_len 0 (i + 1)))
-    ≡ flat_map caller_lines (main_function ∷ map (numbered number functions) (range_with_len 0 i)) ++ caller_lines (numbered number functions i)
+    → flat_map caller_lines (main_function ∷ map (nth_caller number functions) (range_with_len 0 (i + 1)))
+    ≡ flat_map caller_lines (main_function ∷ map (nth_caller number functions) (range_with_len 0 i)) ++ caller_lines (nth_caller number functions i)
 more_callers number functions i =
-    ap (λ (fs : List Caller). flat_map caller_lines (main_function ∷ fs)) (map-range_with_len_more (numbered number functions) 0 i i (zero-add i))
-    ∙ (flat_map-append caller_lines (main_function ∷ map (numbered number functions) (range_with_len 0 i)) (numbered number functions i ∷ [])
-    ∙ ap (λ (l : List (List ℕ)). flat_map caller_lines (main_function ∷ map (numbered number functions) (range_with_len 0 i)) ++ l) (append-nil (caller_lines (numbered number functions i))))
+    ap (λ (fs : List Caller). flat_map caller_lines (main_function ∷ fs)) (map-range_with_len_more (nth_caller number functions) 0 i i (zero-add i))
+    ∙ (flat_map-append caller_lines (main_function ∷ map (nth_caller number functions) (range_with_len 0 i)) (nth_caller number functions i ∷ [])
+    ∙ ap (λ (l : List (List ℕ)). flat_map caller_lines (main_function ∷ map (nth_caller number functions) (range_with_len 0 i)) ++ l) (append-nil (caller_lines (nth_caller number functions i))))
 
-pub drawn_more : (number i x : ℕ) → x ≡ drawn number i → next_number x ≡ drawn number (i + 1)
-unfolding drawn
+pub drawn_more : (number i x : ℕ) → x ≡ random_number number i → next_number x ≡ random_number number (i + 1)
+unfolding random_number
 drawn_more number i x e = rw (add-one i, e) refl
 
-next_joined : (number functions i : ℕ) → before number functions i ++ lines_text (caller_lines (numbered number functions i)) ≡ before number functions (i + 1)
+next_joined : (number functions i : ℕ) → before number functions i ++ lines_text (caller_lines (nth_caller number functions i)) ≡ before number functions (i + 1)
 unfolding before
 next_joined number functions i =
     sym (ap (λ (l : List (List ℕ)). lines_text (codes ".global main" ∷ l)) (more_callers number functions i)
-    ∙ lines-append (codes ".global main" ∷ flat_map caller_lines (main_function ∷ map (numbered number functions) (range_with_len 0 i))) (caller_lines (numbered number functions i)))
+    ∙ lines-append (codes ".global main" ∷ flat_map caller_lines (main_function ∷ map (nth_caller number functions) (range_with_len 0 i))) (caller_lines (nth_caller number functions i)))
 
-pub before_next : (number functions i x : ℕ) (callee : Name) (kind : Kind) (out next : List ℕ) → out ≡ before number functions i → x ≡ drawn number (i + 1)
+pub before_next : (number functions i x : ℕ) (callee : FunctionName) (kind : FunctionKind) (out next : List ℕ) → out ≡ before number functions i → x ≡ random_number number (i + 1)
     → callee ≡ callee_of functions i → kind ≡ kind_of x
     → next ≡ out ++ lines_text (caller_lines (record { name = Numbered i; callee = callee; kind = kind })) → next ≡ before number functions (i + 1)
 before_next number functions i x callee kind out next eo ex ec ek en = rw (en, eo, ek, ec, ex) (next_joined number functions i)

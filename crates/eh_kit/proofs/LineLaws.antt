@@ -8,13 +8,13 @@ use Rattle.std.proofs.lemmas.Fmt.{decimal_by_steps}
 use Rattle.std.proofs.lemmas.List.Elements.{All-cons}
 use Rattle.std.proofs.lemmas.List.Folds.{list_all-append}
 use Rattle.std.proofs.lemmas.List.Splits.{slice_split_at}
-use Rattle.eh_kit.specs.declared.program.Name.{Name}
-use Rattle.eh_kit.specs.declared.program.Name.TheVariants.{Main, Numbered, Boom}
-use Rattle.eh_kit.specs.declared.program.Kind.{Kind}
-use Rattle.eh_kit.specs.declared.program.Kind.TheVariants.{Plain, Cleanup, CatchAll, CatchInt}
+use Rattle.eh_kit.specs.declared.program.FunctionName.{FunctionName}
+use Rattle.eh_kit.specs.declared.program.FunctionName.TheVariants.{Main, Numbered, Boom}
+use Rattle.eh_kit.specs.declared.program.FunctionKind.{FunctionKind}
+use Rattle.eh_kit.specs.declared.program.FunctionKind.TheVariants.{Plain, Cleanup, CatchAll, CatchInt}
 use Rattle.eh_kit.specs.declared.program.Caller.{Caller}
 use Rattle.eh_kit.specs.declared.program_text.TheConstants.{MAX_FUNCTIONS}
-use Rattle.eh_kit.specs.Program.{numbered, callee_of, callers, main_function}
+use Rattle.eh_kit.specs.Program.{nth_caller, callee_of, callers, main_function}
 use Rattle.eh_kit.specs.ProgramText.{name_text, lines_text, call_lines, after_catch, caught_lines, cleanup_lines, scope_lines, pad_lines, caller_lines, boom_lines, generated_lines, generated_text}
 use Rattle.eh_kit.specs.Laws.{is_printable, is_plain, LinesArePlain, LinesAreRead}
 
@@ -55,25 +55,25 @@ digits_print : (n : ℕ) → n < 2 ^ 64 → Prints (decimal n)
 digits_print n h =
     decimal_by_steps (λ _ ds. Prints ds) digit_prints (λ m ds ten e. both ds ((48 + m % 10) ∷ []) e (digit_prints (m % 10) (omega arith))) n h
 
-abbrev IsSmall : Name → Type 0
+abbrev IsSmall : FunctionName → Type 0
 IsSmall Main = Unit {0}
 IsSmall (Numbered i) = i < 2 ^ 64
 IsSmall Boom = Unit {0}
 
-name_prints : (n : Name) → IsSmall n → Prints (name_text n)
+name_prints : (n : FunctionName) → IsSmall n → Prints (name_text n)
 name_prints Main h = refl
 name_prints (Numbered i) h = digits_print i h
 name_prints Boom h = refl
 
 -- a line that begins with a name
-name_begins : (n : Name) (more : List ℕ) → IsSmall n → Prints more → is_plain (name_text n ++ more) ≡ true
+name_begins : (n : FunctionName) (more : List ℕ) → IsSmall n → Prints more → is_plain (name_text n ++ more) ≡ true
 name_begins Main more h e = e
 name_begins (Numbered i) more h e = both (decimal i) more (digits_print i h) e
 name_begins Boom more h e = e
 
 -- ---- the lines of a function
 
-call_plain : (n m : Name) → IsSmall n → Prints (name_text m) → ArePlain (call_lines n m)
+call_plain : (n m : FunctionName) → IsSmall n → Prints (name_text m) → ArePlain (call_lines n m)
 unfolding call_lines
 call_plain n m h e = and_true _ _ typed (and_true _ _ begun (and_true _ _ called after))
   where
@@ -89,16 +89,16 @@ call_plain n m h e = and_true _ _ typed (and_true _ _ begun (and_true _ _ called
     after : ArePlain ((codes ".Le" ++ name_text n ++ codes ": pop {r4, pc}") ∷ [])
     after = and_true _ _ (both (name_text n) (codes ": pop {r4, pc}") (name_prints n h) refl) refl
 
-after_plain : (n : Name) → ArePlain (after_catch n)
+after_plain : (n : FunctionName) → ArePlain (after_catch n)
 after_plain Main = refl
 after_plain (Numbered i) = refl
 after_plain Boom = refl
 
-caught_plain : (n : Name) → IsSmall n → ArePlain (caught_lines n)
+caught_plain : (n : FunctionName) → IsSmall n → ArePlain (caught_lines n)
 unfolding caught_lines
 caught_plain n h = and_true _ _ (both (name_text n) (codes ": bl __cxa_begin_catch") (name_prints n h) refl) (after_plain n)
 
-cleanup_plain : (n : Name) → IsSmall n → ArePlain (cleanup_lines n)
+cleanup_plain : (n : FunctionName) → IsSmall n → ArePlain (cleanup_lines n)
 unfolding cleanup_lines
 cleanup_plain n h = and_true _ _ (both (name_text n) (codes ": bl __cxa_end_cleanup") (name_prints n h) refl) refl
 
@@ -112,14 +112,14 @@ half_prints n mark e f =
     let i = both (n ++ codes "-.Lb" ++ n ++ mark ++ codes ", .Lb" ++ n) (codes "-") g refl in
     both (n ++ codes "-.Lb" ++ n ++ mark ++ codes ", .Lb" ++ n ++ codes "-") n i e
 
-scope_plain : (n : Name) (mark what : List ℕ) → IsSmall n → Prints mark → Prints what → ArePlain (scope_lines n mark what)
+scope_plain : (n : FunctionName) (mark what : List ℕ) → IsSmall n → Prints mark → Prints what → ArePlain (scope_lines n mark what)
 unfolding scope_lines
 scope_plain n mark what h e f = and_true _ _ (half_prints (name_text n) mark (name_prints n h) e) word
   where
     word : ArePlain ((codes ".word .Lp" ++ name_text n ++ codes "(prel31), " ++ what) ∷ [])
     word = and_true _ _ (both (name_text n ++ codes "(prel31), ") what (both (name_text n) (codes "(prel31), ") (name_prints n h) refl) f) refl
 
-pad_plain : (n : Name) (kind : Kind) → IsSmall n → ArePlain (pad_lines n kind)
+pad_plain : (n : FunctionName) (kind : FunctionKind) → IsSmall n → ArePlain (pad_lines n kind)
 unfolding pad_lines
 pad_plain n Plain h = refl
 pad_plain n Cleanup h = plain_both (cleanup_lines n) (scope_lines n [] (codes "0")) (cleanup_plain n h) (scope_plain n [] (codes "0") h refl refl)
@@ -143,17 +143,17 @@ callee_prints functions i h = by (nat_lt (i + 1) functions)
     by true = digits_print (i + 1) h
     by false = refl
 
-numbered_plain : (number functions a k : ℕ) → a + k ≤ MAX_FUNCTIONS → ArePlain (flat_map caller_lines (map (numbered number functions) (range_with_len a k)))
+numbered_plain : (number functions a k : ℕ) → a + k ≤ MAX_FUNCTIONS → ArePlain (flat_map caller_lines (map (nth_caller number functions) (range_with_len a k)))
 numbered_plain number functions a zero h = refl
 numbered_plain number functions a (suc k) h =
-    plain_both (caller_lines (numbered number functions a)) (flat_map caller_lines (map (numbered number functions) (range_with_len (a + 1) k)))
-    (caller_plain (numbered number functions a) (omega arith) (callee_prints functions a (omega arith)))
+    plain_both (caller_lines (nth_caller number functions a)) (flat_map caller_lines (map (nth_caller number functions) (range_with_len (a + 1) k)))
+    (caller_plain (nth_caller number functions a) (omega arith) (callee_prints functions a (omega arith)))
     (numbered_plain number functions (a + 1) k (omega arith))
 
 pub lines_are_plain : LinesArePlain
 lines_are_plain number functions h =
     plain_both (flat_map caller_lines (callers number functions)) boom_lines
-    (plain_both (caller_lines main_function) (flat_map caller_lines (map (numbered number functions) (range_with_len 0 functions)))
+    (plain_both (caller_lines main_function) (flat_map caller_lines (map (nth_caller number functions) (range_with_len 0 functions)))
     (caller_plain main_function tt (digits_print 0 (omega arith))) (numbered_plain number functions 0 functions (omega arith)))
     refl
 

@@ -1,5 +1,5 @@
-//! Sources that no user writes: the stubs that each program is linked with (docs/stubs.md), and generated programs of any
-//! size (docs/generated-programs.md).
+//! Sources that come with the program: the stubs that each program is linked with (docs/rules/linking.md), and generated
+//! programs of any size (docs/guide/command-line.md).
 #![tactic(auto)]
 
 ghost use Rattle.std.specs.Prelude.{◌≡◌};
@@ -11,8 +11,9 @@ mod program_text;
 
 pub use program_text::{KitMemory, MAX_FUNCTIONS, generate};
 
-/// The functions run the gates (SVC); `_start` is the entry of a program. Read-only data holds the vtables by whose
-/// addresses a type's kind is told, and the types `int` and `void` (Itanium C++ ABI, "Run-Time Type Information").
+/// The source of the stubs. The functions perform the gates (SVC), and `_start` is the entry of a program. The
+/// read-only data has the vtables by whose addresses the kind of a type is told, and the types `int` and `void`
+/// (Itanium C++ ABI, "Run-Time Type Information").
 const STUBS: &str = "\
 .text
 .global _start
@@ -123,7 +124,7 @@ _ZTIv: .word _ZTVN10__cxxabiv123__fundamental_type_infoE+8, .Lnv
 .Lnv: .asciz \"v\"
 ";
 
-/// The source text of the stubs, to be linked last.
+/// The source text of the stubs. It is linked last.
 #[tactic(auto, unfolding(crate::specs::Stubs::stubs_text))]
 pub fn stubs() -> &'static [u8]
     ensures { result.now ≡ stubs_text }

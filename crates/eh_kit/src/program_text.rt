@@ -1,18 +1,19 @@
-//! The source text of a generated program (docs/generated-programs.md).
+//! The source text of a generated program (docs/guide/command-line.md).
 ghost use Rattle.std.specs.Prelude.{◌≡◌, ◌<◌, ◌≤◌, ◌++◌, OnOk, IfOk};
 ghost use Rattle.eh_kit.specs.declared.program_text.KitMemory.TheVariants.{OutOfMemory};
 ghost use Rattle.eh_kit.specs.ProgramText.{name_text, call_lines, after_catch, caught_lines, scope_lines, pad_lines, caller_lines, boom_lines, lines_text, generated_text};
 
-use crate::program::{Caller, Kind, Name, callee_of, kind_of, next_number};
+use crate::program::{Caller, FunctionKind, FunctionName, callee_of, kind_of, next_number};
 use itoa::Buffer;
 use std::alloc::{AllocError, Global};
 
-/// The most functions that a program is asked for.
+/// The most functions that a generated program may have.
 pub const MAX_FUNCTIONS: u32 = 4_000;
 
-/// There was no memory for a text.
+/// Why a text can't be made.
 #[derive(Clone, Copy)]
 pub enum KitMemory {
+    /// There was no memory for it.
     OutOfMemory,
 }
 
@@ -38,30 +39,31 @@ bl __cxa_throw
 .fnend
 ";
 
-fn push_name(out: &mut Vec<u8>, name: Name) -> Result<(), AllocError>
+/// Appends the name of a function.
+fn push_name(out: &mut Vec<u8>, name: FunctionName) -> Result<(), AllocError>
     ensures { OnOk result (out.new.items ≡ out.old.items ++ name_text name) }
 {
     match name {
-        Name::Main => out.extend_from_slice(b"main"),
-        Name::Numbered(number) => {
+        FunctionName::Main => out.extend_from_slice(b"main"),
+        FunctionName::Numbered(number) => {
             out.extend_from_slice(b"f")?;
             out.extend_from_slice(Buffer::new().format(number).as_bytes())
         }
-        Name::Boom => out.extend_from_slice(b"boom"),
+        FunctionName::Boom => out.extend_from_slice(b"boom"),
     }
 }
 
-/// Adds a text and a name after it.
-fn push_named(out: &mut Vec<u8>, text: &[u8], name: Name) -> Result<(), AllocError>
+/// Appends a text and then a name.
+fn push_named(out: &mut Vec<u8>, text: &[u8], name: FunctionName) -> Result<(), AllocError>
     ensures { OnOk result (out.new.items ≡ out.old.items ++ text.now ++ name_text name) }
 {
     out.extend_from_slice(text)?;
     push_name(out, name)
 }
 
-/// Adds the lines in which a function begins, makes its call and returns.
+/// Appends the lines in which a function begins, calls its callee and returns.
 #[tactic(auto, unfolding(crate::specs::ProgramText::call_lines))]
-fn push_call(out: &mut Vec<u8>, name: Name, callee: Name) -> Result<(), AllocError>
+fn push_call(out: &mut Vec<u8>, name: FunctionName, callee: FunctionName) -> Result<(), AllocError>
     ensures { OnOk result (out.new.items ≡ out.old.items ++ lines_text (call_lines name callee)) }
 {
     push_named(out, b".type ", name)?;
@@ -72,19 +74,19 @@ fn push_call(out: &mut Vec<u8>, name: Name, callee: Name) -> Result<(), AllocErr
     out.extend_from_slice(b": pop {r4, pc}\n")
 }
 
-/// The lines after a catch: `main` returns 0, every other function throws again.
-fn after_catch(name: Name) -> &'static [u8]
+/// The lines after a catch: `main` returns 0, any other function rethrows.
+fn after_catch(name: FunctionName) -> &'static [u8]
     ensures { result.now ≡ lines_text (after_catch name) }
 {
     match name {
-        Name::Main => b"movs r0, #0\npop {r4, pc}\n",
-        Name::Numbered(_) | Name::Boom => b"bl boom\n",
+        FunctionName::Main => b"movs r0, #0\npop {r4, pc}\n",
+        FunctionName::Numbered(_) | FunctionName::Boom => b"bl boom\n",
     }
 }
 
-/// Adds the lines of a pad that catches.
+/// Appends the lines of a landing pad that catches.
 #[tactic(auto, unfolding(crate::specs::ProgramText::caught_lines))]
-fn push_caught(out: &mut Vec<u8>, name: Name) -> Result<(), AllocError>
+fn push_caught(out: &mut Vec<u8>, name: FunctionName) -> Result<(), AllocError>
     ensures { OnOk result (out.new.items ≡ out.old.items ++ lines_text (caught_lines name)) }
 {
     push_named(out, b".Lp", name)?;
@@ -92,9 +94,15 @@ fn push_caught(out: &mut Vec<u8>, name: Name) -> Result<(), AllocError>
     out.extend_from_slice(after_catch(name))
 }
 
-/// Adds the lines of a descriptor that covers the call: `mark` is its low bit, `what` stands after the pad's address.
+/// Appends the lines of a descriptor that covers the call. `mark` is its low bit, `what` follows the landing pad's
+/// address.
 #[tactic(auto, unfolding(crate::specs::ProgramText::scope_lines))]
-fn push_scope(out: &mut Vec<u8>, name: Name, mark: &[u8], what: &[u8]) -> Result<(), AllocError>
+fn push_scope(
+    out: &mut Vec<u8>,
+    name: FunctionName,
+    mark: &[u8],
+    what: &[u8],
+) -> Result<(), AllocError>
     ensures { OnOk result (out.new.items ≡ out.old.items ++ lines_text (scope_lines name mark.now what.now)) }
 {
     push_named(out, b".personalityindex 0\n.handlerdata\n.half .Le", name)?;
@@ -108,30 +116,30 @@ fn push_scope(out: &mut Vec<u8>, name: Name, mark: &[u8], what: &[u8]) -> Result
     out.extend_from_slice(b"\n")
 }
 
-/// Adds the lines by which a function deals with an exception.
+/// Appends the landing pad and descriptor of a function, if its kind has them.
 #[tactic(auto, unfolding(crate::specs::ProgramText::pad_lines, crate::specs::ProgramText::cleanup_lines))]
-fn push_pad(out: &mut Vec<u8>, name: Name, kind: Kind) -> Result<(), AllocError>
+fn push_pad(out: &mut Vec<u8>, name: FunctionName, kind: FunctionKind) -> Result<(), AllocError>
     ensures { OnOk result (out.new.items ≡ out.old.items ++ lines_text (pad_lines name kind)) }
 {
     match kind {
-        Kind::Plain => Ok(()),
-        Kind::Cleanup => {
+        FunctionKind::Plain => Ok(()),
+        FunctionKind::Cleanup => {
             push_named(out, b".Lp", name)?;
             out.extend_from_slice(b": bl __cxa_end_cleanup\n")?;
             push_scope(out, name, b"", b"0")
         }
-        Kind::CatchAll => {
+        FunctionKind::CatchAll => {
             push_caught(out, name)?;
             push_scope(out, name, b"+1", b"0xFFFFFFFF, 0")
         }
-        Kind::CatchInt => {
+        FunctionKind::CatchInt => {
             push_caught(out, name)?;
             push_scope(out, name, b"+1", b"_ZTIi(target2), 0")
         }
     }
 }
 
-/// Adds the lines of a function that calls another one.
+/// Appends the lines of a function that calls another one.
 #[tactic(auto, unfolding(crate::specs::ProgramText::caller_lines))]
 fn push_caller(out: &mut Vec<u8>, caller: &Caller) -> Result<(), AllocError>
     ensures { OnOk result (out.new.items ≡ out.old.items ++ lines_text (caller_lines caller.now)) }
@@ -141,9 +149,9 @@ fn push_caller(out: &mut Vec<u8>, caller: &Caller) -> Result<(), AllocError>
     out.extend_from_slice(b".fnend\n")
 }
 
-/// The source text of the program of this number with so many functions, after `main` and before `boom`: `main` calls the
-/// first of them, each calls the next, and the last calls `boom`, which throws. What each does with the exception is drawn
-/// from the number, so the same number and the same functions give the same text.
+/// Generates the source of a program, with this many functions between `main` and `boom`. `main` calls the first, each
+/// calls the next, and the last calls `boom`, which throws. What each does with the exception is drawn from `number`,
+/// so equal arguments give the same text. Err if memory runs out.
 pub fn generate(alloc: Global, number: u32, functions: u32) -> Result<Vec<u8>, KitMemory>
     requires some { 0 < functions }
     requires most { functions ≤ MAX_FUNCTIONS }
@@ -154,9 +162,9 @@ pub fn generate(alloc: Global, number: u32, functions: u32) -> Result<Vec<u8>, K
     push_caller(
         &mut out,
         &Caller {
-            name: Name::Main,
-            callee: Name::Numbered(0),
-            kind: Kind::CatchAll,
+            name: FunctionName::Main,
+            callee: FunctionName::Numbered(0),
+            kind: FunctionKind::CatchAll,
         },
     )?;
     let mut drawn = number;
@@ -165,7 +173,7 @@ pub fn generate(alloc: Global, number: u32, functions: u32) -> Result<Vec<u8>, K
         push_caller(
             &mut out,
             &Caller {
-                name: Name::Numbered(function),
+                name: FunctionName::Numbered(function),
                 callee: callee_of(functions, function),
                 kind: kind_of(drawn),
             },

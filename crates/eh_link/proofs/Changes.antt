@@ -7,16 +7,16 @@ use Rattle.thumb_encode.specs.Codes.{with_field, refused_if, target_field}
 use Rattle.thumb_encode.specs.declared.code.Code.TheVariants as code
 use Rattle.thumb_isa.specs.declared.encode_fault.EncodeFault.{EncodeFault}
 use Rattle.thumb_isa.specs.declared.encode_fault.EncodeFault.TheVariants.{RegisterRange}
-use Rattle.relocatable_object.specs.declared.place.Section.{Section}
-use Rattle.relocatable_object.specs.declared.object.Reloc.{Reloc}
+use Rattle.asm_relocatable.specs.declared.place.Section.{Section}
+use Rattle.asm_relocatable.specs.declared.object.Reloc.{Reloc}
 use Rattle.eh_link.specs.declared.names.Meaning.{Meaning}
-use Rattle.relocatable_object.specs.declared.relocation.FieldKind.{FieldKind}
-use Rattle.relocatable_object.specs.declared.relocation.FieldKind.TheVariants.{Absolute, Relative, Prel31, Call, Jump, CondJump}
+use Rattle.asm_relocatable.specs.declared.relocation.FieldKind.{FieldKind}
+use Rattle.asm_relocatable.specs.declared.relocation.FieldKind.TheVariants.{Absolute, Relative, Prel31, Call, Jump, CondJump}
 use Rattle.eh_link.specs.declared.field.Change.{Change}
 use Rattle.eh_link.specs.declared.field.Change.TheVariants.{Keep, Half, Word, Unreachable}
 use Rattle.eh_link.specs.Layout.{address_at}
-use Rattle.eh_link.specs.Fields.{size_of, branch, distance, filling, change_by, change_of, changed, filled, unreachable_in, unreachable_at, lower}
-use Rattle.relocatable_object.specs.Relocations.{width}
+use Rattle.eh_link.specs.Fields.{size_of, branch, distance, filling, change_by, change_of, apply_change, fill_fields, unreachable_in, unreachable_at, lower}
+use Rattle.asm_relocatable.specs.Relocations.{width}
 
 size_le_4 : (c : Change) → size_of c ≤ 4
 size_le_4 Keep = omega arith
@@ -67,14 +67,14 @@ lower_assoc (Some a) (Some b) None = lower_none (lower (Some a) (Some b))
 lower_assoc (Some a) (Some b) (Some c) = let e : min (min a b) c ≡ min a (min b c) = omega arith in ap Some e
 
 pub filled_more : (means : List ℕ → Option Meaning) (section : Section) (start : ℕ) (bytes : List ℕ) (xs : List Reloc) (i : ℕ) (d : Reloc) → i < length xs
-    → filled means section start bytes (drop i xs)
-    ≡ filled means section start (changed (change_of means section start bytes (get_or xs i d)) (get_or xs i d).offset bytes) (drop (i + 1) xs)
-filled_more means section start bytes xs i d h = at_drop_more (filled means section start bytes) xs i d h
+    → fill_fields means section start bytes (drop i xs)
+    ≡ fill_fields means section start (apply_change (change_of means section start bytes (get_or xs i d)) (get_or xs i d).offset bytes) (drop (i + 1) xs)
+filled_more means section start bytes xs i d h = at_drop_more (fill_fields means section start bytes) xs i d h
 
 pub unreachable_more : (means : List ℕ → Option Meaning) (section : Section) (start : ℕ) (bytes : List ℕ) (xs : List Reloc) (i : ℕ) (d : Reloc) → i < length xs
     → unreachable_in means section start bytes (drop i xs)
     ≡ lower (unreachable_at (change_of means section start bytes (get_or xs i d)) (address_at start (get_or xs i d).offset))
-    (unreachable_in means section start (changed (change_of means section start bytes (get_or xs i d)) (get_or xs i d).offset bytes) (drop (i + 1) xs))
+    (unreachable_in means section start (apply_change (change_of means section start bytes (get_or xs i d)) (get_or xs i d).offset bytes) (drop (i + 1) xs))
 unreachable_more means section start bytes xs i d h = at_drop_more (unreachable_in means section start bytes) xs i d h
 
 pub ruleset fills = (filled_more, unreachable_more, lower_none, lower_assoc)

@@ -2,8 +2,8 @@
 use Rattle.std.proofs.Common.{◌≡◌, [], ◌∷◌, ◌++◌, length, All, arith, length-append}
 use Rattle.std.proofs.lemmas.List.Elements.{All-push}
 use Rattle.std.proofs.lemmas.List.Sorted.{All-permutation}
-use Rattle.unwind_codes.specs.Laws.{IsLow}
-use Rattle.unwind_codes.proofs.RowBytes.{law_of_saying}
+use Rattle.eh_codes.specs.Laws.{IsLow}
+use Rattle.eh_codes.proofs.RowBytes.{law_of_saying}
 use Rattle.eh_link.specs.Index.{closing}
 use Rattle.eh_link.specs.IndexLaw.{object_rows, index_rows, RowsAscend, RowsAreKept, SameStartsKeepTheirOrder, IndexReadsBack}
 use Rattle.eh_link.proofs.Sorting.{order_never_falls, order_moves, order_keeps_starts}

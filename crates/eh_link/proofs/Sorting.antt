@@ -7,8 +7,8 @@ use Rattle.std.specs.declared.cmp.Ordering.TheVariants.{Less, Equal, Greater}
 use Rattle.std.specs.List.Sorted.{ties, IsNonDecreasingBy, IsStableByKey, IsPermutation}
 use Rattle.std.proofs.lemmas.List.Sorted.{IsPermutation-refl, IsPermutation-sym, IsPermutation-cons, IsPermutation-trans, IsPermutation-middle, IsPermutation-append_left}
 use Rattle.std.proofs.lemmas.Bool.Decides.{nat_tests}
-use Rattle.unwind_codes.specs.declared.row.Entry.{Entry}
-use Rattle.unwind_codes.specs.declared.row.EntryBody.TheVariants.{CantUnwind}
+use Rattle.eh_codes.specs.declared.row.Entry.{Entry}
+use Rattle.eh_codes.specs.declared.row.EntryBody.TheVariants.{CantUnwind}
 use Rattle.eh_link.specs.Index.{row_among, in_order}
 
 -- the starts don't fall, from `low` on

@@ -4,28 +4,28 @@ use Rattle.std.proofs.lemmas.List.{append-nil, length-map}
 use Rattle.std.proofs.lemmas.List.Sums.{sum_by-cons}
 use Rattle.std.proofs.lemmas.List.Elements.{All-nil, All-cons}
 use Rattle.elf_write.specs.Layout.{word}
-use Rattle.eh_list.specs.Bytes.{zeros, length-zeros, gap}
-use Rattle.relocatable_object.specs.declared.place.Section.{Section}
-use Rattle.relocatable_object.specs.declared.place.Section.TheVariants.{Text, Rodata, Extab, Init, Bss}
-use Rattle.relocatable_object.specs.declared.object.Object.{Object}
+use Rattle.eh_word.specs.Bytes.{zeros, length-zeros, gap}
+use Rattle.asm_relocatable.specs.declared.place.Section.{Section}
+use Rattle.asm_relocatable.specs.declared.place.Section.TheVariants.{Text, Rodata, Extab, Init, Bss}
+use Rattle.asm_relocatable.specs.declared.object.Object.{Object}
 use Rattle.eh_link.specs.declared.places.Addresses.{Addresses}
 use Rattle.elf_write.specs.declared.parts.ImageParts.{ImageParts}
 use Rattle.eh_link.specs.declared.fault.LinkFault.{LinkFault}
 use Rattle.eh_link.specs.declared.fault.LinkFault.TheVariants.{Duplicate, Undefined, NoEntry, TooLarge, RelocationRange}
-use Rattle.eh_link.specs.declared.fill.Filled.{Filled}
-use Rattle.unwind_codes.specs.declared.row.Entry.{Entry}
-use Rattle.unwind_codes.specs.declared.row.TheConstants.{ROW_SIZE}
-use Rattle.unwind_codes.specs.Rows.{rows_bytes}
-use Rattle.unwind_codes.proofs.RowBytes.{length-rows}
+use Rattle.eh_link.specs.declared.fill.FilledSections.{FilledSections}
+use Rattle.eh_codes.specs.declared.row.Entry.{Entry}
+use Rattle.eh_codes.specs.declared.row.TheConstants.{ROW_SIZE}
+use Rattle.eh_codes.specs.Rows.{rows_bytes}
+use Rattle.eh_codes.proofs.RowBytes.{length-rows}
 use Rattle.eh_link.specs.declared.places.TheConstants.{CODE_START, PAGE}
-use Rattle.eh_link.specs.Placed.{Placed}
-use Rattle.eh_link.specs.Layout.{size_in, address_in, end_of, index_size, layout_of, is_too_large, firsts, all_aligned, ends, placed_from, placed_of, address_at, aligned}
-use Rattle.relocatable_object.specs.Fields.{bytes_at}
-use Rattle.eh_link.specs.Fields.{part_in, filled_in, filled_of, lowest_unreachable}
-use Rattle.eh_link.specs.Symbols.{meaning_of, duplicate_of, undefined_of, has_entry}
+use Rattle.eh_link.specs.Placed.{PlacedObject}
+use Rattle.eh_link.specs.Layout.{size_in, address_in, end_of, index_size, layout_of, is_too_large, firsts, align_all, part_ends, place_objects_from, place_objects, address_at, align_to_word}
+use Rattle.asm_relocatable.specs.Fields.{bytes_at}
+use Rattle.eh_link.specs.Fields.{part_in, fill_section, fill_object, lowest_unreachable}
+use Rattle.eh_link.specs.Symbols.{meaning_of, duplicate_of, first_undefined, has_entry}
 use Rattle.eh_link.specs.Index.{row_of, rows_in, row_among, in_order, closing, index_of}
-use Rattle.eh_link.specs.Linked.{joined, segments_of, parts_of, unless, unless_true, linked}
-use Rattle.eh_link.specs.LayoutLaw.{ImagesHaveTheseBytes, all_filled, linked_index, linked_code, linked_data, StandsAt, EachStands, SizesAreOfBytes, CodeStands, IndexStands, DataStands}
+use Rattle.eh_link.specs.Linked.{join_aligned, segments_of, parts_of, unless, unless_true, link_result}
+use Rattle.eh_link.specs.LayoutLaw.{ImagesHaveTheseBytes, fill_all_objects, linked_index, linked_code, linked_data, StandsAt, EachStands, SizesAreOfBytes, CodeStands, IndexStands, DataStands}
 use Rattle.eh_link.proofs.Holding.{filled_length, word_length}
 use Rattle.eh_link.proofs.Layouts.{ends_of, end_ge}
 use Rattle.eh_link.proofs.Steps.{joined_append}
@@ -40,13 +40,13 @@ zeros_before-is : (so_far : List ℕ) → zeros_before so_far ≡ zeros (gap (le
 unfolding zeros_before
 zeros_before-is so_far = refl
 
-zeros_before-length : (k : ℕ) (so_far : List ℕ) → 4 * k + length (so_far ++ zeros_before so_far) ≡ aligned (4 * k + length so_far)
+zeros_before-length : (k : ℕ) (so_far : List ℕ) → 4 * k + length (so_far ++ zeros_before so_far) ≡ align_to_word (4 * k + length so_far)
 zeros_before-length k so_far =
     let all = length-append so_far (zeros_before so_far) in
     let zeros_there : length (zeros_before so_far) ≡ gap (length so_far) 4 = ap length (zeros_before-is so_far) ∙ length-zeros (gap (length so_far) 4) in
     omega (arith, all, zeros_there)
 
-joined_one : (so_far part : List ℕ) (more : List (List ℕ)) → joined so_far (part ∷ more) ≡ joined ((so_far ++ zeros_before so_far) ++ part) more
+joined_one : (so_far part : List ℕ) (more : List (List ℕ)) → join_aligned so_far (part ∷ more) ≡ join_aligned ((so_far ++ zeros_before so_far) ++ part) more
 joined_one so_far part more = rw (zeros_before-is so_far) refl
 
 -- what is joined begins with what was there
@@ -54,7 +54,7 @@ record Begins (so_far bytes : List ℕ) : Type 0 where
   rest : List ℕ
   is : bytes ≡ so_far ++ rest
 
-begins : (so_far : List ℕ) (parts : List (List ℕ)) → Begins so_far (joined so_far parts)
+begins : (so_far : List ℕ) (parts : List (List ℕ)) → Begins so_far (join_aligned so_far parts)
 begins so_far [] = record { rest = []; is = sym (append-nil so_far) }
 begins so_far (part ∷ more) =
     let next = begins ((so_far ++ zeros_before so_far) ++ part) more in
@@ -63,8 +63,8 @@ begins so_far (part ∷ more) =
       is = joined_one so_far part more ∙ next.is ∙ append_assoc (so_far ++ zeros_before so_far) part next.rest ∙ append_assoc so_far (zeros_before so_far) (part ++ next.rest);
     }
 
-first_stands : (k address : ℕ) (so_far part : List ℕ) (more : List (List ℕ)) → address ≡ aligned (4 * k + length so_far)
-    → StandsAt address part (4 * k) (joined so_far (part ∷ more))
+first_stands : (k address : ℕ) (so_far part : List ℕ) (more : List (List ℕ)) → address ≡ align_to_word (4 * k + length so_far)
+    → StandsAt address part (4 * k) (join_aligned so_far (part ∷ more))
 first_stands k address so_far part more e =
     let next = begins ((so_far ++ zeros_before so_far) ++ part) more in
     record {
@@ -76,14 +76,14 @@ first_stands k address so_far part more e =
 
 -- ---- the parts of a section
 
-aligned_in : (section : Section) (at : Addresses) → address_in section (all_aligned at) ≡ aligned (address_in section at)
+aligned_in : (section : Section) (at : Addresses) → address_in section (align_all at) ≡ align_to_word (address_in section at)
 aligned_in Text at = refl
 aligned_in Rodata at = refl
 aligned_in Extab at = refl
 aligned_in Init at = refl
 aligned_in Bss at = refl
 
-ends_in : (section : Section) (at : Addresses) (x : Object) → address_in section (ends at x) ≡ address_in section at + size_in section x
+ends_in : (section : Section) (at : Addresses) (x : Object) → address_in section (part_ends at x) ≡ address_in section at + size_in section x
 ends_in Text at x = refl
 ends_in Rodata at x = refl
 ends_in Extab at x = refl
@@ -91,86 +91,86 @@ ends_in Init at x = refl
 ends_in Bss at x = refl
 
 -- the parts have the sizes of the objects' parts
-abbrev pub Sizes : Section → (Placed → Filled) → Type 0
-Sizes section f = (p : Placed) → length (part_in section (f p)) ≡ size_in section p.object
+abbrev pub Sizes : Section → (PlacedObject → FilledSections) → Type 0
+Sizes section f = (p : PlacedObject) → length (part_in section (f p)) ≡ size_in section p.object
 
-parts : Section → (Placed → Filled) → List Placed → List (List ℕ)
+parts : Section → (PlacedObject → FilledSections) → List PlacedObject → List (List ℕ)
 parts section f all = map (part_in section) (map f all)
 
-parts_is : (section : Section) (f : Placed → Filled) (all : List Placed) → parts section f all ≡ map (part_in section) (map f all)
+parts_is : (section : Section) (f : PlacedObject → FilledSections) (all : List PlacedObject) → parts section f all ≡ map (part_in section) (map f all)
 unfolding parts
 parts_is section f all = refl
 
-parts_cons : (section : Section) (f : Placed → Filled) (p : Placed) (all : List Placed) → parts section f (p ∷ all) ≡ part_in section (f p) ∷ parts section f all
+parts_cons : (section : Section) (f : PlacedObject → FilledSections) (p : PlacedObject) (all : List PlacedObject) → parts section f (p ∷ all) ≡ part_in section (f p) ∷ parts section f all
 unfolding parts
 parts_cons section f p all = refl
 
-parts_nil : (section : Section) (f : Placed → Filled) → parts section f [] ≡ []
+parts_nil : (section : Section) (f : PlacedObject → FilledSections) → parts section f [] ≡ []
 unfolding parts
 parts_nil section f = refl
 
-next_end : (k : ℕ) (section : Section) (f : Placed → Filled) → Sizes section f → (at : Addresses) (x : Object) (so_far : List ℕ)
+next_end : (k : ℕ) (section : Section) (f : PlacedObject → FilledSections) → Sizes section f → (at : Addresses) (x : Object) (so_far : List ℕ)
     → 4 * k + length so_far ≡ address_in section at
-    → 4 * k + length ((so_far ++ zeros_before so_far) ++ part_in section (f (record { object = x; at = all_aligned at }))) ≡ address_in section (ends (all_aligned at) x)
+    → 4 * k + length ((so_far ++ zeros_before so_far) ++ part_in section (f (record { object = x; at = align_all at }))) ≡ address_in section (part_ends (align_all at) x)
 next_end k section f sizes at x so_far e =
-    let p : Placed = record { object = x; at = all_aligned at } in
+    let p : PlacedObject = record { object = x; at = align_all at } in
     let size : length (part_in section (f p)) ≡ size_in section x = sizes p in
     let whole = length-append (so_far ++ zeros_before so_far) (part_in section (f p)) in
     let put = zeros_before-length k so_far in
-    let start : aligned (4 * k + length so_far) ≡ address_in section (all_aligned at) = ap aligned e ∙ sym (aligned_in section at) in
-    omega (arith, size, whole, put, start, ends_in section (all_aligned at) x)
+    let start : align_to_word (4 * k + length so_far) ≡ address_in section (align_all at) = ap align_to_word e ∙ sym (aligned_in section at) in
+    omega (arith, size, whole, put, start, ends_in section (align_all at) x)
 
-end_at : (k : ℕ) (section : Section) (f : Placed → Filled) → Sizes section f → (at : Addresses) (xs : List Object) (so_far : List ℕ)
+end_at : (k : ℕ) (section : Section) (f : PlacedObject → FilledSections) → Sizes section f → (at : Addresses) (xs : List Object) (so_far : List ℕ)
     → 4 * k + length so_far ≡ address_in section at
-    → 4 * k + length (joined so_far (parts section f (placed_from at xs))) ≡ end_of section (address_in section at) xs
-end_at k section f sizes at [] so_far e = ap (λ l. 4 * k + length (joined so_far l)) (parts_nil section f) ∙ e
+    → 4 * k + length (join_aligned so_far (parts section f (place_objects_from at xs))) ≡ end_of section (address_in section at) xs
+end_at k section f sizes at [] so_far e = ap (λ l. 4 * k + length (join_aligned so_far l)) (parts_nil section f) ∙ e
 end_at k section f sizes at (x ∷ xs) so_far e =
-    let p : Placed = record { object = x; at = all_aligned at } in
-    ap (λ l. 4 * k + length (joined so_far l)) (parts_cons section f p (placed_from (ends (all_aligned at) x) xs))
-    ∙ ap (λ l. 4 * k + length l) (joined_one so_far (part_in section (f p)) (parts section f (placed_from (ends (all_aligned at) x) xs)))
-    ∙ end_at k section f sizes (ends (all_aligned at) x) xs ((so_far ++ zeros_before so_far) ++ part_in section (f p)) (next_end k section f sizes at x so_far e)
-    ∙ ap (λ a. end_of section a xs) (ends_in section (all_aligned at) x ∙ ap (λ a. a + size_in section x) (aligned_in section at))
+    let p : PlacedObject = record { object = x; at = align_all at } in
+    ap (λ l. 4 * k + length (join_aligned so_far l)) (parts_cons section f p (place_objects_from (part_ends (align_all at) x) xs))
+    ∙ ap (λ l. 4 * k + length l) (joined_one so_far (part_in section (f p)) (parts section f (place_objects_from (part_ends (align_all at) x) xs)))
+    ∙ end_at k section f sizes (part_ends (align_all at) x) xs ((so_far ++ zeros_before so_far) ++ part_in section (f p)) (next_end k section f sizes at x so_far e)
+    ∙ ap (λ a. end_of section a xs) (ends_in section (align_all at) x ∙ ap (λ a. a + size_in section x) (aligned_in section at))
 
-abbrev Stand : ℕ → Section → (Placed → Filled) → List ℕ → List Placed → Type 0
-Stand start section f bytes all = All (λ (p : Placed). StandsAt (address_in section p.at) (part_in section (f p)) start bytes) all
+abbrev Stand : ℕ → Section → (PlacedObject → FilledSections) → List ℕ → List PlacedObject → Type 0
+Stand start section f bytes all = All (λ (p : PlacedObject). StandsAt (address_in section p.at) (part_in section (f p)) start bytes) all
 
-each_stands : (k : ℕ) (section : Section) (f : Placed → Filled) → Sizes section f → (at : Addresses) (xs : List Object) (so_far : List ℕ) (more : List (List ℕ))
+each_stands : (k : ℕ) (section : Section) (f : PlacedObject → FilledSections) → Sizes section f → (at : Addresses) (xs : List Object) (so_far : List ℕ) (more : List (List ℕ))
     → 4 * k + length so_far ≡ address_in section at
-    → Stand (4 * k) section f (joined so_far (parts section f (placed_from at xs) ++ more)) (placed_from at xs)
+    → Stand (4 * k) section f (join_aligned so_far (parts section f (place_objects_from at xs) ++ more)) (place_objects_from at xs)
 each_stands k section f sizes at [] so_far more e = All-nil _
 each_stands k section f sizes at (x ∷ xs) so_far more e =
-    let p : Placed = record { object = x; at = all_aligned at } in
-    let all = placed_from (ends (all_aligned at) x) xs in
+    let p : PlacedObject = record { object = x; at = align_all at } in
+    let all = place_objects_from (part_ends (align_all at) x) xs in
     let part = part_in section (f p) in
     let here : parts section f (p ∷ all) ++ more ≡ part ∷ (parts section f all ++ more) = ap (λ l. l ++ more) (parts_cons section f p all) in
-    let whole : joined so_far (parts section f (p ∷ all) ++ more) ≡ joined so_far (part ∷ (parts section f all ++ more)) = ap (joined so_far) here in
-    let first : StandsAt (address_in section p.at) part (4 * k) (joined so_far (part ∷ (parts section f all ++ more))) =
-    first_stands k (address_in section p.at) so_far part (parts section f all ++ more) (aligned_in section at ∙ ap aligned (sym e)) in
-    let rest : Stand (4 * k) section f (joined ((so_far ++ zeros_before so_far) ++ part) (parts section f all ++ more)) all =
-    each_stands k section f sizes (ends (all_aligned at) x) xs ((so_far ++ zeros_before so_far) ++ part) more (next_end k section f sizes at x so_far e) in
-    All-cons (λ (p : Placed). StandsAt (address_in section p.at) (part_in section (f p)) (4 * k) (joined so_far (parts section f (placed_from at (x ∷ xs)) ++ more)))
+    let whole : join_aligned so_far (parts section f (p ∷ all) ++ more) ≡ join_aligned so_far (part ∷ (parts section f all ++ more)) = ap (join_aligned so_far) here in
+    let first : StandsAt (address_in section p.at) part (4 * k) (join_aligned so_far (part ∷ (parts section f all ++ more))) =
+    first_stands k (address_in section p.at) so_far part (parts section f all ++ more) (aligned_in section at ∙ ap align_to_word (sym e)) in
+    let rest : Stand (4 * k) section f (join_aligned ((so_far ++ zeros_before so_far) ++ part) (parts section f all ++ more)) all =
+    each_stands k section f sizes (part_ends (align_all at) x) xs ((so_far ++ zeros_before so_far) ++ part) more (next_end k section f sizes at x so_far e) in
+    All-cons (λ (p : PlacedObject). StandsAt (address_in section p.at) (part_in section (f p)) (4 * k) (join_aligned so_far (parts section f (place_objects_from at (x ∷ xs)) ++ more)))
     p all (subst (StandsAt (address_in section p.at) part (4 * k)) (sym whole) first)
     (subst (λ bytes. Stand (4 * k) section f bytes all) (sym (whole ∙ joined_one so_far part (parts section f all ++ more))) rest)
 
 -- ---- the sizes of the objects' parts
 
-filled_sizes : (all : List Placed) (section : Section) → ((p : Placed) → size_in section p.object ≡ length (bytes_at section p.object)) → ((p : Placed) → part_in section (filled_of all p) ≡ filled_in (meaning_of all p) p section)
-    → Sizes section (filled_of all)
+filled_sizes : (all : List PlacedObject) (section : Section) → ((p : PlacedObject) → size_in section p.object ≡ length (bytes_at section p.object)) → ((p : PlacedObject) → part_in section (fill_object all p) ≡ fill_section (meaning_of all p) p section)
+    → Sizes section (fill_object all)
 filled_sizes all section size part p =
     ap length (part p)
     ∙ filled_length (meaning_of all p) section (address_in section p.at) (bytes_at section p.object) p.object.relocs
     ∙ sym (size p)
 
-pub text_sizes : (all : List Placed) → Sizes Text (filled_of all)
+pub text_sizes : (all : List PlacedObject) → Sizes Text (fill_object all)
 text_sizes all = filled_sizes all Text (λ p. refl) (λ p. refl)
 
-rodata_sizes : (all : List Placed) → Sizes Rodata (filled_of all)
+rodata_sizes : (all : List PlacedObject) → Sizes Rodata (fill_object all)
 rodata_sizes all = filled_sizes all Rodata (λ p. refl) (λ p. refl)
 
-pub extab_sizes : (all : List Placed) → Sizes Extab (filled_of all)
+pub extab_sizes : (all : List PlacedObject) → Sizes Extab (fill_object all)
 extab_sizes all = filled_sizes all Extab (λ p. refl) (λ p. refl)
 
-init_sizes : (all : List Placed) → Sizes Init (filled_of all)
+init_sizes : (all : List PlacedObject) → Sizes Init (fill_object all)
 init_sizes all = filled_sizes all Init (λ p. refl) (λ p. refl)
 
 -- ---- the size of the index
@@ -195,85 +195,85 @@ order_length rows = fold_length [] rows ∙ omega arith
 pub rows_length : (end place : ℕ) (rows : List Entry) → length (rows_bytes place (rows ++ closing end ∷ [])) ≡ ROW_SIZE * (length rows + 1)
 rows_length end place rows = length-rows place (rows ++ closing end ∷ []) ∙ omega (arith, length-append rows (closing end ∷ []))
 
-rows_of_placed : (at : Addresses) (xs : List Object) → length (flat_map rows_in (placed_from at xs)) ≡ sum_by (λ (object : Object). length object.rows) xs
+rows_of_placed : (at : Addresses) (xs : List Object) → length (flat_map rows_in (place_objects_from at xs)) ≡ sum_by (λ (object : Object). length object.rows) xs
 rows_of_placed at [] = refl
 rows_of_placed at (x ∷ xs) =
-    let p : Placed = record { object = x; at = all_aligned at } in
-    let all = placed_from (ends (all_aligned at) x) xs in
+    let p : PlacedObject = record { object = x; at = align_all at } in
+    let all = place_objects_from (part_ends (align_all at) x) xs in
     let one : length (rows_in p) ≡ length x.rows = length-map x.rows (row_of p.at) in
     length-append (rows_in p) (flat_map rows_in all)
-    ∙ omega (arith, one, rows_of_placed (ends (all_aligned at) x) xs, sum_by-cons (λ (object : Object). length object.rows) x xs)
+    ∙ omega (arith, one, rows_of_placed (part_ends (align_all at) x) xs, sum_by-cons (λ (object : Object). length object.rows) x xs)
 
-index_length : (end start : ℕ) (at : Addresses) (xs : List Object) → length (index_of end start (placed_from at xs)) ≡ index_size xs
+index_length : (end start : ℕ) (at : Addresses) (xs : List Object) → length (index_of end start (place_objects_from at xs)) ≡ index_size xs
 index_length end start at xs =
-    rows_length end start (in_order (flat_map rows_in (placed_from at xs)))
-    ∙ omega (arith, order_length (flat_map rows_in (placed_from at xs)), rows_of_placed at xs)
+    rows_length end start (in_order (flat_map rows_in (place_objects_from at xs)))
+    ∙ omega (arith, order_length (flat_map rows_in (place_objects_from at xs)), rows_of_placed at xs)
 
 -- ---- the first segment
 
 -- its bytes up to the end of each section
 texts : List Object → List ℕ
-texts objects = joined [] (parts Text (filled_of (placed_of objects)) (placed_of objects))
+texts objects = join_aligned [] (parts Text (fill_object (place_objects objects)) (place_objects objects))
 
 rodatas : List Object → List ℕ
-rodatas objects = joined (texts objects) (parts Rodata (filled_of (placed_of objects)) (placed_of objects))
+rodatas objects = join_aligned (texts objects) (parts Rodata (fill_object (place_objects objects)) (place_objects objects))
 
 extabs : List Object → List ℕ
-extabs objects = joined (rodatas objects) (parts Extab (filled_of (placed_of objects)) (placed_of objects))
+extabs objects = join_aligned (rodatas objects) (parts Extab (fill_object (place_objects objects)) (place_objects objects))
 
 texts_end : (objects : List Object) → 4 * (CODE_START / 4) + length (texts objects) ≡ (layout_of objects).text_end
 unfolding texts
 texts_end objects =
-    end_at (CODE_START / 4) Text (filled_of (placed_of objects)) (text_sizes (placed_of objects)) (firsts (layout_of objects)) objects [] refl
+    end_at (CODE_START / 4) Text (fill_object (place_objects objects)) (text_sizes (place_objects objects)) (firsts (layout_of objects)) objects [] refl
     ∙ sym (ends_of objects).text
 
 rodatas_end : (objects : List Object) → 4 * (CODE_START / 4) + length (rodatas objects) ≡ (layout_of objects).rodata_end
 unfolding rodatas
 rodatas_end objects =
-    end_at (CODE_START / 4) Rodata (filled_of (placed_of objects)) (rodata_sizes (placed_of objects)) (firsts (layout_of objects)) objects (texts objects) (texts_end objects)
+    end_at (CODE_START / 4) Rodata (fill_object (place_objects objects)) (rodata_sizes (place_objects objects)) (firsts (layout_of objects)) objects (texts objects) (texts_end objects)
     ∙ sym (ends_of objects).rodata
 
 extabs_end : (objects : List Object) → 4 * (CODE_START / 4) + length (extabs objects) ≡ (layout_of objects).extab_end
 unfolding extabs
 extabs_end objects =
-    end_at (CODE_START / 4) Extab (filled_of (placed_of objects)) (extab_sizes (placed_of objects)) (firsts (layout_of objects)) objects (rodatas objects) (rodatas_end objects)
+    end_at (CODE_START / 4) Extab (fill_object (place_objects objects)) (extab_sizes (place_objects objects)) (firsts (layout_of objects)) objects (rodatas objects) (rodatas_end objects)
     ∙ sym (ends_of objects).extab
 
 code_is : (objects : List Object)
     → linked_code objects
-    ≡ joined [] (parts Text (filled_of (placed_of objects)) (placed_of objects)
-    ++ parts Rodata (filled_of (placed_of objects)) (placed_of objects)
-    ++ parts Extab (filled_of (placed_of objects)) (placed_of objects)
+    ≡ join_aligned [] (parts Text (fill_object (place_objects objects)) (place_objects objects)
+    ++ parts Rodata (fill_object (place_objects objects)) (place_objects objects)
+    ++ parts Extab (fill_object (place_objects objects)) (place_objects objects)
     ++ linked_index objects ∷ [])
 unfolding parts
 code_is objects = refl
 
 code_from_start : (objects : List Object)
     → linked_code objects
-    ≡ joined [] (parts Text (filled_of (placed_of objects)) (placed_of objects)
-    ++ (parts Rodata (filled_of (placed_of objects)) (placed_of objects)
-    ++ (parts Extab (filled_of (placed_of objects)) (placed_of objects) ++ linked_index objects ∷ [])))
+    ≡ join_aligned [] (parts Text (fill_object (place_objects objects)) (place_objects objects)
+    ++ (parts Rodata (fill_object (place_objects objects)) (place_objects objects)
+    ++ (parts Extab (fill_object (place_objects objects)) (place_objects objects) ++ linked_index objects ∷ [])))
 code_from_start objects =
-    let text = parts Text (filled_of (placed_of objects)) (placed_of objects) in
-    let rodata = parts Rodata (filled_of (placed_of objects)) (placed_of objects) in
-    let extab = parts Extab (filled_of (placed_of objects)) (placed_of objects) in
-    code_is objects ∙ ap (joined []) (append_assoc (text ++ rodata) extab (linked_index objects ∷ []) ∙ append_assoc text rodata (extab ++ linked_index objects ∷ []))
+    let text = parts Text (fill_object (place_objects objects)) (place_objects objects) in
+    let rodata = parts Rodata (fill_object (place_objects objects)) (place_objects objects) in
+    let extab = parts Extab (fill_object (place_objects objects)) (place_objects objects) in
+    code_is objects ∙ ap (join_aligned []) (append_assoc (text ++ rodata) extab (linked_index objects ∷ []) ∙ append_assoc text rodata (extab ++ linked_index objects ∷ []))
 
 code_from_texts : (objects : List Object)
     → linked_code objects
-    ≡ joined (texts objects) (parts Rodata (filled_of (placed_of objects)) (placed_of objects)
-    ++ (parts Extab (filled_of (placed_of objects)) (placed_of objects) ++ linked_index objects ∷ []))
+    ≡ join_aligned (texts objects) (parts Rodata (fill_object (place_objects objects)) (place_objects objects)
+    ++ (parts Extab (fill_object (place_objects objects)) (place_objects objects) ++ linked_index objects ∷ []))
 unfolding texts
-code_from_texts objects = code_from_start objects ∙ joined_append [] (parts Text (filled_of (placed_of objects)) (placed_of objects)) _
+code_from_texts objects = code_from_start objects ∙ joined_append [] (parts Text (fill_object (place_objects objects)) (place_objects objects)) _
 
 code_from_rodatas : (objects : List Object)
-    → linked_code objects ≡ joined (rodatas objects) (parts Extab (filled_of (placed_of objects)) (placed_of objects) ++ linked_index objects ∷ [])
+    → linked_code objects ≡ join_aligned (rodatas objects) (parts Extab (fill_object (place_objects objects)) (place_objects objects) ++ linked_index objects ∷ [])
 unfolding rodatas
-code_from_rodatas objects = code_from_texts objects ∙ joined_append (texts objects) (parts Rodata (filled_of (placed_of objects)) (placed_of objects)) _
+code_from_rodatas objects = code_from_texts objects ∙ joined_append (texts objects) (parts Rodata (fill_object (place_objects objects)) (place_objects objects)) _
 
-code_from_extabs : (objects : List Object) → linked_code objects ≡ joined (extabs objects) (linked_index objects ∷ [])
+code_from_extabs : (objects : List Object) → linked_code objects ≡ join_aligned (extabs objects) (linked_index objects ∷ [])
 unfolding extabs
-code_from_extabs objects = code_from_rodatas objects ∙ joined_append (rodatas objects) (parts Extab (filled_of (placed_of objects)) (placed_of objects)) _
+code_from_extabs objects = code_from_rodatas objects ∙ joined_append (rodatas objects) (parts Extab (fill_object (place_objects objects)) (place_objects objects)) _
 
 pub code_ends : (objects : List Object) → CODE_START + length (linked_code objects) ≡ (layout_of objects).code_end
 code_ends objects =
@@ -282,7 +282,7 @@ code_ends objects =
     ap length (code_from_extabs objects ∙ joined_one (extabs objects) (linked_index objects) []) in
     let split = length-append (extabs objects ++ zeros_before (extabs objects)) (linked_index objects) in
     let put = zeros_before-length (CODE_START / 4) (extabs objects) in
-    let start : aligned (4 * (CODE_START / 4) + length (extabs objects)) ≡ (layout_of objects).index_start = ap aligned (extabs_end objects) ∙ sym e.index in
+    let start : align_to_word (4 * (CODE_START / 4) + length (extabs objects)) ≡ (layout_of objects).index_start = ap align_to_word (extabs_end objects) ∙ sym e.index in
     let size : length (linked_index objects) ≡ index_size objects =
     index_length (layout_of objects).text_end (layout_of objects).index_start (firsts (layout_of objects)) objects in
     omega (arith, whole, split, put, start, size, e.code)
@@ -291,7 +291,7 @@ index_there : (objects : List Object) → StandsAt (layout_of objects).index_sta
 index_there objects =
     subst (StandsAt (layout_of objects).index_start (linked_index objects) CODE_START) (sym (code_from_extabs objects))
     (first_stands (CODE_START / 4) (layout_of objects).index_start (extabs objects) (linked_index objects) []
-    ((ends_of objects).index ∙ ap aligned (sym (extabs_end objects))))
+    ((ends_of objects).index ∙ ap align_to_word (sym (extabs_end objects))))
 
 pub law_of_index : IndexStands
 law_of_index objects = (
@@ -303,19 +303,19 @@ law_of_index objects = (
 
 texts_stand : (objects : List Object) → EachStands Text objects CODE_START (linked_code objects)
 texts_stand objects =
-    subst (λ bytes. Stand CODE_START Text (filled_of (placed_of objects)) bytes (placed_of objects)) (sym (code_from_start objects))
-    (each_stands (CODE_START / 4) Text (filled_of (placed_of objects)) (text_sizes (placed_of objects)) (firsts (layout_of objects)) objects [] _ refl)
+    subst (λ bytes. Stand CODE_START Text (fill_object (place_objects objects)) bytes (place_objects objects)) (sym (code_from_start objects))
+    (each_stands (CODE_START / 4) Text (fill_object (place_objects objects)) (text_sizes (place_objects objects)) (firsts (layout_of objects)) objects [] _ refl)
 
 rodatas_stand : (objects : List Object) → EachStands Rodata objects CODE_START (linked_code objects)
 rodatas_stand objects =
-    subst (λ bytes. Stand CODE_START Rodata (filled_of (placed_of objects)) bytes (placed_of objects)) (sym (code_from_texts objects))
-    (each_stands (CODE_START / 4) Rodata (filled_of (placed_of objects)) (rodata_sizes (placed_of objects)) (firsts (layout_of objects)) objects (texts objects) _
+    subst (λ bytes. Stand CODE_START Rodata (fill_object (place_objects objects)) bytes (place_objects objects)) (sym (code_from_texts objects))
+    (each_stands (CODE_START / 4) Rodata (fill_object (place_objects objects)) (rodata_sizes (place_objects objects)) (firsts (layout_of objects)) objects (texts objects) _
     (texts_end objects))
 
 extabs_stand : (objects : List Object) → EachStands Extab objects CODE_START (linked_code objects)
 extabs_stand objects =
-    subst (λ bytes. Stand CODE_START Extab (filled_of (placed_of objects)) bytes (placed_of objects)) (sym (code_from_rodatas objects))
-    (each_stands (CODE_START / 4) Extab (filled_of (placed_of objects)) (extab_sizes (placed_of objects)) (firsts (layout_of objects)) objects (rodatas objects) _
+    subst (λ bytes. Stand CODE_START Extab (fill_object (place_objects objects)) bytes (place_objects objects)) (sym (code_from_rodatas objects))
+    (each_stands (CODE_START / 4) Extab (fill_object (place_objects objects)) (extab_sizes (place_objects objects)) (firsts (layout_of objects)) objects (rodatas objects) _
     (rodatas_end objects))
 
 pub law_of_code : CodeStands
@@ -331,7 +331,7 @@ start_is : (objects : List Object) → 4 * quarter objects ≡ (layout_of object
 unfolding quarter
 start_is objects = omega (arith, (ends_of objects).start)
 
-data_is : (objects : List Object) → linked_data objects ≡ joined [] (parts Init (filled_of (placed_of objects)) (placed_of objects))
+data_is : (objects : List Object) → linked_data objects ≡ join_aligned [] (parts Init (fill_object (place_objects objects)) (place_objects objects))
 unfolding parts
 data_is objects = refl
 
@@ -342,15 +342,15 @@ data_end : (objects : List Object) → (layout_of objects).data_start + length (
 data_end objects =
     ap (λ n. n + length (linked_data objects)) (sym (start_is objects))
     ∙ ap (λ bytes. 4 * quarter objects + length bytes) (data_is objects)
-    ∙ end_at (quarter objects) Init (filled_of (placed_of objects)) (init_sizes (placed_of objects)) (firsts (layout_of objects)) objects [] (data_begins objects)
+    ∙ end_at (quarter objects) Init (fill_object (place_objects objects)) (init_sizes (place_objects objects)) (firsts (layout_of objects)) objects [] (data_begins objects)
     ∙ sym (ends_of objects).init
 
 pub law_of_data : DataStands
 law_of_data objects =
-    subst (λ start. Stand start Init (filled_of (placed_of objects)) (linked_data objects) (placed_of objects)) (start_is objects)
-    (subst (λ bytes. Stand (4 * quarter objects) Init (filled_of (placed_of objects)) bytes (placed_of objects))
-    (ap (joined []) (append-nil (parts Init (filled_of (placed_of objects)) (placed_of objects))) ∙ sym (data_is objects))
-    (each_stands (quarter objects) Init (filled_of (placed_of objects)) (init_sizes (placed_of objects)) (firsts (layout_of objects)) objects [] [] (data_begins objects)))
+    subst (λ start. Stand start Init (fill_object (place_objects objects)) (linked_data objects) (place_objects objects)) (start_is objects)
+    (subst (λ bytes. Stand (4 * quarter objects) Init (fill_object (place_objects objects)) bytes (place_objects objects))
+    (ap (join_aligned []) (append-nil (parts Init (fill_object (place_objects objects)) (place_objects objects))) ∙ sym (data_is objects))
+    (each_stands (quarter objects) Init (fill_object (place_objects objects)) (init_sizes (place_objects objects)) (firsts (layout_of objects)) objects [] [] (data_begins objects)))
 
 pub law_of_sizes : SizesAreOfBytes
 law_of_sizes objects = (
@@ -368,15 +368,15 @@ past_true : (holds : Bool) (fault : LinkFault) (later : Result ImageParts LinkFa
 past_true true fault later image e = absurd cc
 past_true false fault later image e = e
 
-image_is : (objects : List Object) (entry : List ℕ) (image : ImageParts) → linked objects entry ≡ Ok image → image ≡ parts_of objects entry
-unfolding linked
+image_is : (objects : List Object) (entry : List ℕ) (image : ImageParts) → link_result objects entry ≡ Ok image → image ≡ parts_of objects entry
+unfolding link_result
 image_is objects entry image e =
-    let named = past (undefined_of objects objects) Undefined _ image (past (duplicate_of objects) Duplicate _ image e) in
+    let named = past (first_undefined objects objects) Undefined _ image (past (duplicate_of objects) Duplicate _ image e) in
     let laid = past_true (is_too_large (layout_of objects)) TooLarge _ image (past_true (not (has_entry entry objects)) NoEntry _ image named) in
-    let made : Ok (parts_of objects entry) ≡ Ok image = past (lowest_unreachable (placed_of objects) (placed_of objects)) RelocationRange _ image laid in
+    let made : Ok (parts_of objects entry) ≡ Ok image = past (lowest_unreachable (place_objects objects) (place_objects objects)) RelocationRange _ image laid in
     cc
 
-segments_are : (objects : List Object) (entry : List ℕ) → (parts_of objects entry).segments ≡ segments_of (layout_of objects) (all_filled objects) (linked_index objects)
+segments_are : (objects : List Object) (entry : List ℕ) → (parts_of objects entry).segments ≡ segments_of (layout_of objects) (fill_all_objects objects) (linked_index objects)
 unfolding parts_of
 segments_are objects entry = refl
 

@@ -1,9 +1,9 @@
--- What the bytes of a field are after all relocations, where the field shares no byte with another one and lies within its
--- section: the equation of its kind (IHI 0044, "Relocation types"). S is the address that its name means, T is 1 where that is a
--- function's, A the addend, P the field's own address.
+-- The bytes of a field after relocation, if it overlaps no other field and lies in its section, satisfy the equation of
+-- its relocation (IHI 0044, "Relocation types"). S is the address of its name, T is 1 if that is a function, A the
+-- addend, P the field's address.
 use Rattle.std.specs.Prelude.{◌≡◌, ℕ, ◌+◌, ◌/◌, ◌%◌, ◌^◌, ◌<◌, ◌≤◌, true, false, List, ◌∷◌, ◌++◌, length, bit_or, All, Option, Some, None, Ok, ℤ, pos, ◌+ℤ◌, ◌-ℤ◌}
 use Rattle.std.specs.Int.{from_bool}
-use Rattle.eh_word.specs.Words.{moved, prel31_of, number_at}
+use Rattle.eh_word.specs.Words.{plus_offset, prel31_of, number_at}
 use Rattle.thumb_isa.specs.Fields.{field}
 use Rattle.thumb_isa.specs.declared.instr.Instr.{Instr}
 use Rattle.thumb_isa.specs.declared.instr.Instr.TheVariants.{BCond, B, Bl}
@@ -13,39 +13,39 @@ use Rattle.thumb_isa.specs.Laws.{is_late}
 use Rattle.thumb_encode.specs.Codes.{IsCodeIn}
 use Rattle.thumb_encode.specs.declared.code.Code.{Code}
 use Rattle.thumb_encode.specs.declared.code.Code.TheVariants as code
-use Rattle.unwind_codes.specs.declared.row.TheConstants.{PREL31_LIMIT}
-use Rattle.relocatable_object.specs.declared.place.Section.{Section}
-use Rattle.relocatable_object.specs.declared.object.Object.{Object}
-use Rattle.relocatable_object.specs.declared.object.Reloc.{Reloc}
+use Rattle.eh_codes.specs.declared.row.TheConstants.{PREL31_LIMIT}
+use Rattle.asm_relocatable.specs.declared.place.Section.{Section}
+use Rattle.asm_relocatable.specs.declared.object.Object.{Object}
+use Rattle.asm_relocatable.specs.declared.object.Reloc.{Reloc}
 use Rattle.elf_write.specs.declared.parts.ImageParts.{ImageParts}
 use Rattle.eh_link.specs.declared.names.Meaning.{Meaning}
-use Rattle.relocatable_object.specs.declared.relocation.FieldKind.{FieldKind}
-use Rattle.relocatable_object.specs.declared.relocation.FieldKind.TheVariants.{Absolute, Relative, Prel31, Call, Jump, CondJump}
-use Rattle.eh_link.specs.Layout.{placed_of}
+use Rattle.asm_relocatable.specs.declared.relocation.FieldKind.{FieldKind}
+use Rattle.asm_relocatable.specs.declared.relocation.FieldKind.TheVariants.{Absolute, Relative, Prel31, Call, Jump, CondJump}
+use Rattle.eh_link.specs.Layout.{place_objects}
 use Rattle.eh_link.specs.Symbols.{meaning_of}
-use Rattle.eh_link.specs.Fields.{filled, unreachable_in, unreachable_for}
-use Rattle.relocatable_object.specs.Sections.{same_section}
-use Rattle.relocatable_object.specs.Relocations.{kind_of, width}
+use Rattle.eh_link.specs.Fields.{fill_fields, unreachable_in, unreachable_for}
+use Rattle.asm_relocatable.specs.Sections.{same_section}
+use Rattle.asm_relocatable.specs.Relocations.{kind_of, width}
 use Rattle.eh_link.specs.FieldLaw.{StandsAlone}
-use Rattle.eh_link.specs.Linked.{linked}
+use Rattle.eh_link.specs.Linked.{link_result}
 
 -- ---- what fields say
 
 -- (S + A) OR T
 abbrev pub target_of : Meaning → ℤ → ℕ
-target_of meaning addend = bit_or (moved meaning.address addend) (from_bool meaning.function)
+target_of meaning addend = bit_or (plus_offset meaning.address addend) (from_bool meaning.function)
 
 -- S + A - P, a whole number
 abbrev pub displacement_of : Meaning → ℤ → ℕ → ℤ
 displacement_of meaning addend place = (pos meaning.address +ℤ addend) -ℤ pos place
 
--- the word at an offset and its address P make the target, modulo 2 ^ 32
+-- the word at an offset plus its address P is the target, modulo 2 ^ 32
 pub record IsRelative (target place : ℕ) (bytes : List ℕ) (offset : ℕ) : Type 0 where
   pub word : ℕ
   pub there : number_at 4 bytes offset ≡ Some word
   pub sum : (word + place) % 2 ^ 32 ≡ target
 
--- the same in bits 30 to 0; bit 31 is that of the word that was there. Below 2 ^ 30 an unwinder reads the target
+-- the same in bits 30 to 0; bit 31 is that of the word before. Below 2 ^ 30 an unwinder reads the target
 pub record IsPrel31 (old target place : ℕ) (bytes : List ℕ) (offset : ℕ) : Type 0 where
   pub word : ℕ
   pub there : number_at 4 bytes offset ≡ Some word
@@ -58,16 +58,16 @@ abbrev pub CodeAt : Code → List ℕ → ℕ → Type 0
 CodeAt (code.Half first) bytes offset = number_at 2 bytes offset ≡ Some first
 CodeAt (code.Pair first second) bytes offset = (number_at 2 bytes offset ≡ Some first) × (number_at 2 bytes (offset + 2) ≡ Some second)
 
--- a profile has an instruction: the second has each, the first all but those of the second alone
+-- a profile has an instruction: the second has all, the first all but the second's own
 abbrev pub IsOf : Profile → Instr → Type 0
 IsOf One instruction = is_late instruction ≡ false
 IsOf Two instruction = Unit {0}
 
--- a code decodes to an instruction in each profile that has it
+-- a code decodes to an instruction in every profile that has it
 abbrev pub IsCodeInEach : Code → Instr → Type 0
 IsCodeInEach encoding instruction = (p : Profile) → IsOf p instruction → IsCodeIn p encoding instruction
 
--- the halfwords at an offset decode to an instruction, in each profile that has it
+-- the halfwords at an offset decode to an instruction, in every profile that has it
 pub record Decodes (instruction : Instr) (bytes : List ℕ) (offset : ℕ) : Type 0 where
   pub encoding : Code
   pub there : CodeAt encoding bytes offset
@@ -89,15 +89,15 @@ abbrev pub FieldsSay : FieldKind → (Meaning → ℤ → ℕ → ℕ → List �
 FieldsSay kind Says =
     (means : List ℕ → Option Meaning) (section : Section) (start : ℕ) (bytes : List ℕ) (before : List Reloc) (reloc : Reloc) (after : List Reloc) (meaning : Meaning)
     → IsField means section bytes (before ++ after) reloc kind meaning → start + reloc.offset < 2 ^ 32
-    → Says meaning reloc.addend (start + reloc.offset) reloc.offset bytes (filled means section start bytes (before ++ reloc ∷ after))
+    → Says meaning reloc.addend (start + reloc.offset) reloc.offset bytes (fill_fields means section start bytes (before ++ reloc ∷ after))
 
--- the same where each branch of the section reaches its label
+-- the same if each branch of the section reaches its label
 abbrev pub BranchesSay : FieldKind → (Meaning → ℤ → ℕ → ℕ → List ℕ → List ℕ → Type 0) → Type 0
 BranchesSay kind Says =
     (means : List ℕ → Option Meaning) (section : Section) (start : ℕ) (bytes : List ℕ) (before : List Reloc) (reloc : Reloc) (after : List Reloc) (meaning : Meaning)
     → IsField means section bytes (before ++ after) reloc kind meaning → start + reloc.offset < 2 ^ 32
     → unreachable_in means section start bytes (before ++ reloc ∷ after) ≡ None
-    → Says meaning reloc.addend (start + reloc.offset) reloc.offset bytes (filled means section start bytes (before ++ reloc ∷ after))
+    → Says meaning reloc.addend (start + reloc.offset) reloc.offset bytes (fill_fields means section start bytes (before ++ reloc ∷ after))
 
 abbrev pub AbsoluteFields : Type 0
 AbsoluteFields = FieldsSay Absolute (λ meaning addend place offset old new. number_at 4 new offset ≡ Some (target_of meaning addend))
@@ -122,9 +122,9 @@ CondJumps =
     BranchesSay CondJump (λ meaning addend place offset old new.
     (half : ℕ) → number_at 2 old offset ≡ Some half → Decodes (BCond (field half 8 4) (displacement_of meaning addend place)) new offset)
 
--- in objects that link to an image, each branch reaches its label
+-- in objects that link, each branch reaches its label
 abbrev pub ImagesReach : Type 0
 ImagesReach =
     (objects : List Object) (entry : List ℕ) (image : ImageParts) (section : Section)
-    → linked objects entry ≡ Ok image
-    → All (λ placed. unreachable_for (meaning_of (placed_of objects) placed) placed section ≡ None) (placed_of objects)
+    → link_result objects entry ≡ Ok image
+    → All (λ placed. unreachable_for (meaning_of (place_objects objects) placed) placed section ≡ None) (place_objects objects)

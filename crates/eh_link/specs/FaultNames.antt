@@ -1,4 +1,4 @@
--- The names of the linker's refusals in a report (docs/linking.md).
+-- The names of the linker's refusals in a report (docs/rules/linking.md).
 use Rattle.std.specs.Prelude.{ℕ, List, codes}
 use Rattle.eh_link.specs.declared.fault.LinkFault.{LinkFault}
 use Rattle.eh_link.specs.declared.fault.LinkFault.TheVariants.{Duplicate, Undefined, NoEntry, TooLarge, RelocationRange, OutOfMemory}

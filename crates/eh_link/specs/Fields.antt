@@ -1,30 +1,30 @@
--- What the linker writes into the fields of the objects (IHI 0044). Words S, A and P of the standard: the address that the
--- name means, the addend, the address of the field; T is 1 where the name means a function.
+-- The values that the linker writes into fields (IHI 0044). In the standard's words, S is the address of the name, A
+-- the addend and P the address of the field; T is 1 if the name is a function.
 use Rattle.std.specs.Prelude.{ℕ, ◌+◌, ◌-◌, ◌*◌, ◌/◌, ◌%◌, ◌^◌, nat_le, min, if◌then◌else◌, List, [], ◌∷◌, ◌++◌, length, take, drop, bit_or, Option, Some, None, Result, Ok, Err, ℤ, pos, ◌+ℤ◌, ◌-ℤ◌}
 use Rattle.std.specs.Int.{from_bool}
 use Rattle.byteorder.specs.Endian.{little_number}
-use Rattle.eh_word.specs.Words.{moved}
+use Rattle.eh_word.specs.Words.{plus_offset}
 use Rattle.thumb_isa.specs.declared.instr.Instr.TheVariants.{BCond, B, Bl}
-use Rattle.thumb_encode.specs.Codes.{encoded_of}
+use Rattle.thumb_encode.specs.Codes.{encode_result}
 use Rattle.thumb_encode.specs.declared.code.Code.{Code}
 use Rattle.thumb_encode.specs.declared.code.Code.TheVariants as code
 use Rattle.thumb_isa.specs.declared.encode_fault.EncodeFault.{EncodeFault}
-use Rattle.unwind_codes.specs.declared.row.TheConstants.{PREL31_LIMIT}
-use Rattle.unwind_codes.specs.Rows.{prel31_to}
-use Rattle.relocatable_object.specs.declared.place.Section.{Section}
-use Rattle.relocatable_object.specs.declared.place.Section.TheVariants.{Text, Rodata, Extab, Init, Bss}
-use Rattle.relocatable_object.specs.declared.object.Reloc.{Reloc}
+use Rattle.eh_codes.specs.declared.row.TheConstants.{PREL31_LIMIT}
+use Rattle.eh_codes.specs.Rows.{prel31_to}
+use Rattle.asm_relocatable.specs.declared.place.Section.{Section}
+use Rattle.asm_relocatable.specs.declared.place.Section.TheVariants.{Text, Rodata, Extab, Init, Bss}
+use Rattle.asm_relocatable.specs.declared.object.Reloc.{Reloc}
 use Rattle.elf_write.specs.Layout.{word, half}
 use Rattle.eh_link.specs.declared.names.Meaning.{Meaning}
-use Rattle.relocatable_object.specs.Sections.{same_section}
-use Rattle.relocatable_object.specs.Relocations.{kind_of, width}
-use Rattle.relocatable_object.specs.Fields.{bytes_at}
-use Rattle.relocatable_object.specs.declared.relocation.FieldKind.{FieldKind}
-use Rattle.relocatable_object.specs.declared.relocation.FieldKind.TheVariants.{Absolute, Relative, Prel31, Call, Jump, CondJump}
+use Rattle.asm_relocatable.specs.Sections.{same_section}
+use Rattle.asm_relocatable.specs.Relocations.{kind_of, width}
+use Rattle.asm_relocatable.specs.Fields.{bytes_at}
+use Rattle.asm_relocatable.specs.declared.relocation.FieldKind.{FieldKind}
+use Rattle.asm_relocatable.specs.declared.relocation.FieldKind.TheVariants.{Absolute, Relative, Prel31, Call, Jump, CondJump}
 use Rattle.eh_link.specs.declared.field.Change.{Change}
 use Rattle.eh_link.specs.declared.field.Change.TheVariants.{Keep, Half, Word, Unreachable}
-use Rattle.eh_link.specs.declared.fill.Filled.{Filled}
-use Rattle.eh_link.specs.Placed.{Placed}
+use Rattle.eh_link.specs.declared.fill.FilledSections.{FilledSections}
+use Rattle.eh_link.specs.Placed.{PlacedObject}
 use Rattle.eh_link.specs.Layout.{address_in, address_at}
 use Rattle.eh_link.specs.Symbols.{meaning_of}
 
@@ -32,7 +32,7 @@ use Rattle.eh_link.specs.Symbols.{meaning_of}
 
 -- (S + A) | T
 abbrev pub absolute : Meaning → ℤ → ℕ
-absolute meaning addend = bit_or (moved meaning.address addend) (from_bool meaning.function)
+absolute meaning addend = bit_or (plus_offset meaning.address addend) (from_bool meaning.function)
 
 -- ((S + A) | T) - P
 abbrev pub relative : Meaning → ℤ → ℕ → ℕ
@@ -60,11 +60,11 @@ abbrev pub filling : FieldKind → Meaning → ℤ → ℕ → List ℕ → Chan
 filling Absolute meaning addend place there = Word (absolute meaning addend)
 filling Relative meaning addend place there = Word (relative meaning addend place)
 filling Prel31 meaning addend place there = Word (prel31_to place (absolute meaning addend) + little_number 4 there / PREL31_LIMIT * PREL31_LIMIT)
-filling Call meaning addend place there = branch (encoded_of (Bl (distance meaning addend place)))
-filling Jump meaning addend place there = branch (encoded_of (B (distance meaning addend place)))
-filling CondJump meaning addend place there = branch (encoded_of (BCond (little_number 2 there / 2 ^ 8 % 2 ^ 4) (distance meaning addend place)))
+filling Call meaning addend place there = branch (encode_result (Bl (distance meaning addend place)))
+filling Jump meaning addend place there = branch (encode_result (B (distance meaning addend place)))
+filling CondJump meaning addend place there = branch (encode_result (BCond (little_number 2 there / 2 ^ 8 % 2 ^ 4) (distance meaning addend place)))
 
--- nothing where the bytes end within the field
+-- nothing if the bytes end within the field
 abbrev pub change_by : Option FieldKind → Option Meaning → ℤ → ℕ → List ℕ → Change
 change_by (Some kind) (Some meaning) addend place there =
     if nat_le (width kind) (length there) then filling kind meaning addend place there else Keep
@@ -72,30 +72,30 @@ change_by _ _ addend place there = Keep
 
 -- ---- the fields of a section
 
--- what a relocation does to the bytes of a section that begins at an address
+-- the change that a relocation makes to the bytes of a section that begins at an address
 unfoldable pub change_of : (List ℕ → Option Meaning) → Section → ℕ → List ℕ → Reloc → Change
 change_of means section start bytes reloc =
     if same_section reloc.section section
     then change_by (kind_of reloc.kind) (means reloc.name) reloc.addend (address_at start reloc.offset) (drop reloc.offset bytes)
     else Keep
 
--- bytes with others written over them at an offset
-unfoldable pub written_at : ℕ → List ℕ → List ℕ → List ℕ
-written_at offset new bytes = take offset bytes ++ (new ++ drop (length new) (drop offset bytes))
+-- bytes, overwritten by others at an offset
+unfoldable pub overwrite_at : ℕ → List ℕ → List ℕ → List ℕ
+overwrite_at offset new bytes = take offset bytes ++ (new ++ drop (length new) (drop offset bytes))
 
-abbrev pub changed : Change → ℕ → List ℕ → List ℕ
-changed Keep offset bytes = bytes
-changed (Half value) offset bytes = written_at offset (half value) bytes
-changed (Word value) offset bytes = written_at offset (word value) bytes
-changed Unreachable offset bytes = bytes
+abbrev pub apply_change : Change → ℕ → List ℕ → List ℕ
+apply_change Keep offset bytes = bytes
+apply_change (Half value) offset bytes = overwrite_at offset (half value) bytes
+apply_change (Word value) offset bytes = overwrite_at offset (word value) bytes
+apply_change Unreachable offset bytes = bytes
 
 -- the bytes of a section after its relocations, one after the other
-abbrev pub filled : (List ℕ → Option Meaning) → Section → ℕ → List ℕ → List Reloc → List ℕ
-filled means section start bytes [] = bytes
-filled means section start bytes (reloc ∷ more) =
-    filled means section start (changed (change_of means section start bytes reloc) reloc.offset bytes) more
+abbrev pub fill_fields : (List ℕ → Option Meaning) → Section → ℕ → List ℕ → List Reloc → List ℕ
+fill_fields means section start bytes [] = bytes
+fill_fields means section start bytes (reloc ∷ more) =
+    fill_fields means section start (apply_change (change_of means section start bytes reloc) reloc.offset bytes) more
 
--- the lower of two addresses, where there are any
+-- the lower of two addresses, if there are any
 abbrev pub lower : Option ℕ → Option ℕ → Option ℕ
 lower None b = b
 lower (Some a) None = Some a
@@ -110,44 +110,44 @@ abbrev pub unreachable_in : (List ℕ → Option Meaning) → Section → ℕ �
 unreachable_in means section start bytes [] = None
 unreachable_in means section start bytes (reloc ∷ more) =
     lower (unreachable_at (change_of means section start bytes reloc) (address_at start reloc.offset))
-    (unreachable_in means section start (changed (change_of means section start bytes reloc) reloc.offset bytes) more)
+    (unreachable_in means section start (apply_change (change_of means section start bytes reloc) reloc.offset bytes) more)
 
 -- ---- the fields of an object
 
 -- the part of a section
-abbrev pub part_in : Section → Filled → List ℕ
+abbrev pub part_in : Section → FilledSections → List ℕ
 part_in Text parts = parts.text
 part_in Rodata parts = parts.rodata
 part_in Extab parts = parts.extab
 part_in Init parts = parts.init
 part_in Bss parts = []
 
-abbrev pub filled_in : (List ℕ → Option Meaning) → Placed → Section → List ℕ
-filled_in means placed section =
-    filled means section (address_in section placed.at) (bytes_at section placed.object) placed.object.relocs
+abbrev pub fill_section : (List ℕ → Option Meaning) → PlacedObject → Section → List ℕ
+fill_section means placed section =
+    fill_fields means section (address_in section placed.at) (bytes_at section placed.object) placed.object.relocs
 
--- its parts, where its names have these meanings
-abbrev pub filled_by : (List ℕ → Option Meaning) → Placed → Filled
-filled_by means placed = record {
-  text = filled_in means placed Text;
-  rodata = filled_in means placed Rodata;
-  extab = filled_in means placed Extab;
-  init = filled_in means placed Init;
+-- an object's sections after relocation, given the meanings of names
+abbrev pub fill_object_by : (List ℕ → Option Meaning) → PlacedObject → FilledSections
+fill_object_by means placed = record {
+  text = fill_section means placed Text;
+  rodata = fill_section means placed Rodata;
+  extab = fill_section means placed Extab;
+  init = fill_section means placed Init;
 }
 
-abbrev pub filled_of : List Placed → Placed → Filled
-filled_of all placed = filled_by (meaning_of all placed) placed
+abbrev pub fill_object : List PlacedObject → PlacedObject → FilledSections
+fill_object all placed = fill_object_by (meaning_of all placed) placed
 
-abbrev pub unreachable_for : (List ℕ → Option Meaning) → Placed → Section → Option ℕ
+abbrev pub unreachable_for : (List ℕ → Option Meaning) → PlacedObject → Section → Option ℕ
 unreachable_for means placed section =
     unreachable_in means section (address_in section placed.at) (bytes_at section placed.object) placed.object.relocs
 
-abbrev pub unreachable_by : (List ℕ → Option Meaning) → Placed → Option ℕ
+abbrev pub unreachable_by : (List ℕ → Option Meaning) → PlacedObject → Option ℕ
 unreachable_by means placed =
     lower (lower (unreachable_for means placed Text) (unreachable_for means placed Rodata))
     (lower (unreachable_for means placed Extab) (unreachable_for means placed Init))
 
 -- the lowest of all
-abbrev pub lowest_unreachable : List Placed → List Placed → Option ℕ
+abbrev pub lowest_unreachable : List PlacedObject → List PlacedObject → Option ℕ
 lowest_unreachable all [] = None
 lowest_unreachable all (placed ∷ more) = lower (unreachable_by (meaning_of all placed) placed) (lowest_unreachable all more)

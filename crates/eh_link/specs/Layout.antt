@@ -1,20 +1,20 @@
 -- Where everything of an image stands. The first segment begins at 0x8000 and holds the texts of the objects, then their
 -- rodata, then their exception tables, then the index. The second one begins at the next multiple of 4,096 after it and
 -- holds the data with given bytes, then the data that begins as zeros. Each object's part of a section, an empty one too,
--- and the index begin at the next multiple of 4 (docs/linking.md, "Layout").
+-- and the index begin at the next multiple of 4 (docs/rules/linking.md, "Layout").
 use Rattle.std.specs.Prelude.{ℕ, ◌+◌, ◌-◌, ◌*◌, ◌%◌, ◌^◌, ◌≤◌, Bool, nat_lt, List, [], ◌∷◌, length, sum_by}
-use Rattle.relocatable_object.specs.declared.object.Object.{Object}
-use Rattle.relocatable_object.specs.declared.place.Section.{Section}
-use Rattle.relocatable_object.specs.declared.place.Section.TheVariants.{Text, Rodata, Extab, Init, Bss}
-use Rattle.eh_list.specs.Bytes.{next_multiple}
-use Rattle.unwind_codes.specs.declared.row.TheConstants.{ROW_SIZE}
-use Rattle.relocatable_object.specs.Fields.{bytes_at}
+use Rattle.asm_relocatable.specs.declared.object.Object.{Object}
+use Rattle.asm_relocatable.specs.declared.place.Section.{Section}
+use Rattle.asm_relocatable.specs.declared.place.Section.TheVariants.{Text, Rodata, Extab, Init, Bss}
+use Rattle.eh_word.specs.Bytes.{next_multiple}
+use Rattle.eh_codes.specs.declared.row.TheConstants.{ROW_SIZE}
+use Rattle.asm_relocatable.specs.Fields.{bytes_at}
 use Rattle.eh_link.specs.declared.places.TheConstants.{CODE_START, PAGE, MOST_MEMORY, REACH}
 use Rattle.eh_link.specs.declared.places.Addresses.{Addresses}
-use Rattle.eh_link.specs.declared.places.Layout.{Layout}
-use Rattle.eh_link.specs.Placed.{Placed}
+use Rattle.eh_link.specs.declared.places.ImageLayout.{ImageLayout}
+use Rattle.eh_link.specs.Placed.{PlacedObject}
 
--- how many bytes of memory an object's part of a section takes
+-- the size in bytes of an object's section in memory
 abbrev pub size_in : Section → Object → ℕ
 size_in Bss object = object.bss
 size_in section object = length (bytes_at section object)
@@ -27,13 +27,13 @@ address_in Init at = at.init
 address_in Bss at = at.bss
 
 -- the next multiple of 4
-abbrev pub aligned : ℕ → ℕ
-aligned at = next_multiple at 4
+abbrev pub align_to_word : ℕ → ℕ
+align_to_word at = next_multiple at 4
 
--- the end of the objects' parts of a section that begins after an address
+-- the end of all objects' parts of a section that begins at or after an address
 abbrev pub end_of : Section → ℕ → List Object → ℕ
 end_of section at [] = at
-end_of section at (object ∷ more) = end_of section (aligned at + size_in section object) more
+end_of section at (object ∷ more) = end_of section (align_to_word at + size_in section object) more
 
 -- a row for each function of the objects, and a last one
 abbrev pub index_size : List Object → ℕ
@@ -43,36 +43,36 @@ index_size objects = ROW_SIZE * (sum_by (λ object. length object.rows) objects 
 abbrev pub page_after : ℕ → ℕ
 page_after at = next_multiple at PAGE
 
-unfoldable pub layout_of : List Object → Layout
+unfoldable pub layout_of : List Object → ImageLayout
 layout_of objects =
     let text_end = end_of Text CODE_START objects in
     let rodata_end = end_of Rodata text_end objects in
     let extab_end = end_of Extab rodata_end objects in
-    let code_end = aligned extab_end + index_size objects in
+    let code_end = align_to_word extab_end + index_size objects in
     let init_end = end_of Init (page_after code_end) objects in
     record {
       text_end = text_end;
       rodata_end = rodata_end;
       extab_end = extab_end;
-      index_start = aligned extab_end;
+      index_start = align_to_word extab_end;
       code_end = code_end;
       data_start = page_after code_end;
       init_end = init_end;
       bss_end = end_of Bss init_end objects;
     }
 
-abbrev pub code_size : Layout → ℕ
+abbrev pub code_size : ImageLayout → ℕ
 code_size layout = layout.code_end - CODE_START
 
-abbrev pub data_size : Layout → ℕ
+abbrev pub data_size : ImageLayout → ℕ
 data_size layout = layout.bss_end - layout.data_start
 
 -- the segments have more than 1,048,576 bytes of memory together
-abbrev pub is_too_large : Layout → Bool
+abbrev pub is_too_large : ImageLayout → Bool
 is_too_large layout = nat_lt MOST_MEMORY (code_size layout + data_size layout)
 
--- the places of a layout rise, up to an address far above what the segments may take
-pub record Rises (layout : Layout) : Type 0 where
+-- the addresses of a layout ascend, up to one far above what the segments may take
+pub record Rises (layout : ImageLayout) : Type 0 where
   pub text : CODE_START ≤ layout.text_end
   pub rodata : layout.text_end ≤ layout.rodata_end
   pub extab : layout.rodata_end ≤ layout.extab_end
@@ -85,8 +85,8 @@ pub record Rises (layout : Layout) : Type 0 where
 
 -- ---- the objects' parts
 
--- where the first part of each section may begin
-abbrev pub firsts : Layout → Addresses
+-- the addresses from which the first part of each section is placed
+abbrev pub firsts : ImageLayout → Addresses
 firsts layout = record {
   text = CODE_START;
   rodata = layout.text_end;
@@ -95,18 +95,18 @@ firsts layout = record {
   bss = layout.init_end;
 }
 
-abbrev pub all_aligned : Addresses → Addresses
-all_aligned at = record {
-  text = aligned at.text;
-  rodata = aligned at.rodata;
-  extab = aligned at.extab;
-  init = aligned at.init;
-  bss = aligned at.bss;
+abbrev pub align_all : Addresses → Addresses
+align_all at = record {
+  text = align_to_word at.text;
+  rodata = align_to_word at.rodata;
+  extab = align_to_word at.extab;
+  init = align_to_word at.init;
+  bss = align_to_word at.bss;
 }
 
--- the ends of an object's parts that begin at these addresses
-abbrev pub ends : Addresses → Object → Addresses
-ends at object = record {
+-- the ends of an object's sections that begin at these addresses
+abbrev pub part_ends : Addresses → Object → Addresses
+part_ends at object = record {
   text = at.text + length object.text;
   rodata = at.rodata + length object.rodata;
   extab = at.extab + length object.extab;
@@ -115,13 +115,13 @@ ends at object = record {
 }
 
 -- the objects, each with the addresses of its parts
-abbrev pub placed_from : Addresses → List Object → List Placed
-placed_from at [] = []
-placed_from at (object ∷ more) =
-    record { object = object; at = all_aligned at } ∷ placed_from (ends (all_aligned at) object) more
+abbrev pub place_objects_from : Addresses → List Object → List PlacedObject
+place_objects_from at [] = []
+place_objects_from at (object ∷ more) =
+    record { object = object; at = align_all at } ∷ place_objects_from (part_ends (align_all at) object) more
 
-abbrev pub placed_of : List Object → List Placed
-placed_of objects = placed_from (firsts (layout_of objects)) objects
+abbrev pub place_objects : List Object → List PlacedObject
+place_objects objects = place_objects_from (firsts (layout_of objects)) objects
 
 -- the address after so many bytes of a part
 abbrev pub address_at : ℕ → ℕ → ℕ

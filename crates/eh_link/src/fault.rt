@@ -1,4 +1,4 @@
-//! Why objects have no image (docs/linking.md, "Refusals").
+//! Why objects can't be linked (docs/rules/linking.md, "Refusals").
 ghost use Rattle.std.specs.Prelude.{◌≡◌, ◌≤◌, length};
 ghost use Rattle.eh_link.specs.FaultNames.{fault_name};
 
@@ -6,31 +6,31 @@ use eh_word::Name;
 use std::alloc::AllocError;
 use thiserror::Error;
 
-/// Why objects have no image.
+/// Why objects can't be linked.
 #[derive(Debug, Drop, Error)]
 pub enum LinkFault {
     /// The name has global labels in two objects.
     #[error("a global name in two objects")]
     Duplicate(Name),
-    /// The name of a field means no label.
+    /// A relocation refers to this name, which has no label.
     #[error("a name without a label")]
     Undefined(Name),
-    /// No object has a global function of the entry's name.
+    /// No object has a global function with the name of the entry.
     #[error("no global function has the name of the entry")]
     NoEntry,
     /// The segments have more than 1,048,576 bytes of memory together.
     #[error("too large")]
     TooLarge,
-    /// The branch at this address, in bytes, can't be encoded: its target is too far away or at an odd distance.
+    /// The branch at this byte address can't be encoded: its target is too far or at an odd distance.
     #[error("a branch at {0} can't reach its target")]
     RelocationRange(u32),
-    /// No memory was left. Nothing is said of the objects.
+    /// Memory ran out. This says nothing about the objects.
     #[error("out of memory")]
     OutOfMemory,
 }
 
 impl LinkFault {
-    /// The name of the refusal, as a report writes it.
+    /// The name of the refusal in reports.
     pub fn name(&self) -> &'static [u8]
         ensures name { result.now ≡ fault_name self.now }
         ensures short { length result.now ≤ 16 }

@@ -1,33 +1,33 @@
-//! What a relocation writes into its field (IHI 0044, "Relocation types"; docs/linking.md).
+//! The values that relocations write into their fields (IHI 0044, "Relocation types"; docs/rules/linking.md).
 ghost use Rattle.std.specs.Prelude.{◌≡◌, ◌+◌, ◌*◌, ◌^◌, ◌<◌, ◌≤◌, length, Option, Some, None};
 ghost use Rattle.thumb_isa.specs.declared.instr.Instr.TheVariants.{BCond, B, Bl};
-ghost use Rattle.thumb_encode.specs.Codes.{encoded_of};
-ghost use Rattle.relocatable_object.specs.Relocations.{kind_of, width};
+ghost use Rattle.thumb_encode.specs.Codes.{encode_result};
+ghost use Rattle.asm_relocatable.specs.Relocations.{kind_of, width};
 ghost use Rattle.eh_link.specs.Fields.{absolute, relative, distance, branch, filling, change_by, change_of};
 
 use crate::names::Meaning;
+use asm_relocatable::relocation::{FieldKind, kind_of, width};
 use byteorder::{ByteOrder, LittleEndian};
-use relocatable_object::relocation::{FieldKind, kind_of, width};
+use eh_codes::row::{PREL31_LIMIT, prel31_to};
 use thumb_encode::code::Code;
 use thumb_encode::encode::encode;
 use thumb_isa::encode_fault::EncodeFault;
 use thumb_isa::instr::Instr;
-use unwind_codes::row::{PREL31_LIMIT, prel31_to};
 
-/// What a relocation does to the bytes of a section.
+/// What a relocation writes to a section.
 #[derive(Clone, Copy)]
 pub enum Change {
-    /// The bytes stay.
+    /// Nothing.
     Keep,
-    /// A halfword is written, the lower byte first.
+    /// A halfword, lowest byte first.
     Half(u16),
-    /// A word is written, the lowest byte first.
+    /// A word, lowest byte first.
     Word(u32),
-    /// A branch that can't be encoded.
+    /// Nothing, since the branch can't be encoded.
     Unreachable,
 }
 
-/// (S + A) | T in the words of the standard.
+/// (S + A) | T, as the standard writes it.
 fn absolute(meaning: Meaning, addend: i32) -> u32
     ensures { result ≡ absolute meaning addend }
 {
@@ -41,14 +41,14 @@ fn relative(meaning: Meaning, addend: i32, place: u32) -> u32
     absolute(meaning, addend).wrapping_sub(place)
 }
 
-/// S + A - P, a whole number.
+/// S + A - P, without wrapping.
 fn distance(meaning: Meaning, addend: i32, place: u32) -> i64
     ensures { result ≡ distance meaning addend place }
 {
     i64::from(meaning.address) + i64::from(addend) - i64::from(place)
 }
 
-/// The code of a branch, where it has one.
+/// The code of a branch, or `Unreachable`.
 fn branch(code: Result<Code, EncodeFault>) -> Change
     ensures { result ≡ branch code }
 {
@@ -61,8 +61,9 @@ fn branch(code: Result<Code, EncodeFault>) -> Change
     }
 }
 
+/// A BL with this distance.
 fn call(distance: i64) -> Change
-    ensures { result ≡ branch (encoded_of (Bl distance)) }
+    ensures { result ≡ branch (encode_result (Bl distance)) }
 {
     match i32::try_from(distance) {
         Ok(off) => branch(encode(&Instr::Bl { off })),
@@ -70,8 +71,9 @@ fn call(distance: i64) -> Change
     }
 }
 
+/// A B with this distance.
 fn jump(distance: i64) -> Change
-    ensures { result ≡ branch (encoded_of (B distance)) }
+    ensures { result ≡ branch (encode_result (B distance)) }
 {
     match i32::try_from(distance) {
         Ok(off) => branch(encode(&Instr::B { off })),
@@ -79,8 +81,9 @@ fn jump(distance: i64) -> Change
     }
 }
 
+/// A conditional B with this distance.
 fn cond_jump(cond: u8, distance: i64) -> Change
-    ensures { result ≡ branch (encoded_of (BCond cond distance)) }
+    ensures { result ≡ branch (encode_result (BCond cond distance)) }
 {
     match i32::try_from(distance) {
         Ok(off) => branch(encode(&Instr::BCond { cond, off })),
@@ -88,7 +91,7 @@ fn cond_jump(cond: u8, distance: i64) -> Change
     }
 }
 
-/// What is written into a field at the address `place`, where `there` stands.
+/// What a field at the address `place` is filled with; `there` are the bytes from the field on.
 fn filling(kind: FieldKind, meaning: Meaning, addend: i32, place: u32, there: &[u8]) -> Change
     requires { width kind ≤ length there.now }
     ensures { result ≡ filling kind meaning addend place there.now }
@@ -109,7 +112,7 @@ fn filling(kind: FieldKind, meaning: Meaning, addend: i32, place: u32, there: &[
     }
 }
 
-/// The same by the number of the kind; nothing where the bytes end within the field.
+/// The same by the number of the relocation. Nothing if the bytes end within the field.
 pub(crate) fn change_by(
     number: u32,
     meaning: Option<Meaning>,

@@ -1,33 +1,33 @@
-//! The fields of objects filled by their relocations (docs/linking.md; IHI 0044).
+//! Applies relocations to the fields of objects (docs/rules/linking.md; IHI 0044).
 ghost use Rattle.std.specs.Prelude.{◌≡◌, ◌+◌, ◌≤◌, ℕ, List, length, drop, map, IfOk};
 ghost use Rattle.std.specs.Map.{lookup};
 ghost use Rattle.eh_word.specs.Names.{same_bytes};
-ghost use Rattle.relocatable_object.specs.Fields.{bytes_at};
-ghost use Rattle.eh_link.specs.Symbols.{is_global, first_in, looked_up, meaning_by};
-ghost use Rattle.eh_link.specs.Fields.{size_of, change_of, written_at, changed, unreachable_at, filled, lower, unreachable_in, part_in, filled_in, filled_by, filled_of, unreachable_for, unreachable_by, lowest_unreachable};
+ghost use Rattle.asm_relocatable.specs.Fields.{bytes_at};
+ghost use Rattle.eh_link.specs.Symbols.{is_global, first_in, look_up, meaning_by};
+ghost use Rattle.eh_link.specs.Fields.{size_of, change_of, overwrite_at, apply_change, unreachable_at, fill_fields, lower, unreachable_in, part_in, fill_section, fill_object_by, fill_object, unreachable_for, unreachable_by, lowest_unreachable};
 
 use crate::field::{Change, change_by};
-use crate::names::{Meanings, global_meanings, looked_up, own_meanings};
-use crate::places::{Placed, address_at, address_in};
+use crate::names::{Meanings, global_meanings, look_up, own_meanings};
+use crate::places::{PlacedObject, address_at, address_in};
+use asm_relocatable::object::{Object, Reloc};
+use asm_relocatable::place::{Section, same_section};
 use elf_write::parts::OwnBytes;
-use relocatable_object::object::{Object, Reloc};
-use relocatable_object::place::{Section, same_section};
 use std::alloc::{AllocError, Global};
 
-/// The parts of an object with their fields filled.
+/// The sections of an object after relocation.
 #[derive(Drop)]
-pub struct Filled {
-    /// The code.
+pub struct FilledSections {
+    /// The text.
     pub text: OwnBytes,
     /// The read-only data.
     pub rodata: OwnBytes,
     /// The exception tables.
     pub extab: OwnBytes,
-    /// The data with given bytes.
+    /// The initialized data.
     pub init: OwnBytes,
 }
 
-/// The bytes of an object's part of a section.
+/// The bytes of an object's section.
 fn bytes_at(section: Section, object: &Object) -> &[u8]
     ensures { result.now ≡ bytes_at section object.now }
 {
@@ -40,8 +40,8 @@ fn bytes_at(section: Section, object: &Object) -> &[u8]
     }
 }
 
-/// The part of a section.
-pub(crate) fn part_in(section: Section, parts: &Filled) -> &[u8]
+/// The bytes of a section after relocation.
+pub(crate) fn part_in(section: Section, parts: &FilledSections) -> &[u8]
     ensures { result.now ≡ part_in section parts.now }
 {
     match section {
@@ -53,7 +53,7 @@ pub(crate) fn part_in(section: Section, parts: &Filled) -> &[u8]
     }
 }
 
-/// The lower of two addresses, where there are any.
+/// The lower of two addresses, if there are any.
 fn lower(a: Option<u32>, b: Option<u32>) -> Option<u32>
     ensures { result ≡ lower a b }
 {
@@ -64,20 +64,20 @@ fn lower(a: Option<u32>, b: Option<u32>) -> Option<u32>
     }
 }
 
-/// Writes bytes over others at an offset.
-#[tactic(auto, unfolding(crate::specs::Fields::written_at))]
+/// Overwrites bytes at an offset.
+#[tactic(auto, unfolding(crate::specs::Fields::overwrite_at))]
 fn write_at(bytes: &mut [u8], offset: usize, new: &[u8])
     requires { offset + length new.now ≤ length bytes.old }
-    ensures { bytes.new ≡ written_at offset new.now bytes.old }
+    ensures { bytes.new ≡ overwrite_at offset new.now bytes.old }
 {
     bytes[offset..offset + new.len()].copy_from_slice(new);
 }
 
-/// Writes what a relocation writes at an offset.
+/// Applies a change at an offset.
 #[tactic(auto, unfolding(elf_write::specs::Layout::half, elf_write::specs::Layout::word))]
 fn apply(bytes: &mut [u8], offset: usize, change: Change)
     requires { size_of change ≤ length (drop offset bytes.old) }
-    ensures { bytes.new ≡ changed change offset bytes.old }
+    ensures { bytes.new ≡ apply_change change offset bytes.old }
 {
     match change {
         Change::Keep | Change::Unreachable => {}
@@ -86,7 +86,7 @@ fn apply(bytes: &mut [u8], offset: usize, change: Change)
     }
 }
 
-/// The address of a branch that can't be encoded.
+/// The address of a branch that can't be encoded; None for other changes.
 fn unreachable_at(change: Change, place: u32) -> Option<u32>
     ensures { result ≡ unreachable_at change place }
 {
@@ -96,7 +96,7 @@ fn unreachable_at(change: Change, place: u32) -> Option<u32>
     }
 }
 
-/// The bytes from an offset on.
+/// The bytes from an offset on; empty past the end.
 fn bytes_from(bytes: &[u8], offset: usize) -> &[u8]
     ensures { result.now ≡ drop offset bytes.now }
 {
@@ -107,7 +107,7 @@ fn bytes_from(bytes: &[u8], offset: usize) -> &[u8]
     }
 }
 
-/// What a relocation does to the bytes of a section that begins at an address.
+/// The change that a relocation makes to the bytes of a section that begins at `start`.
 #[tactic(auto, using(crate::proofs::Changes::change_fits), unfolding(crate::specs::Fields::change_of))]
 fn change_of(
     own: &Meanings<'_>,
@@ -117,22 +117,22 @@ fn change_of(
     bytes: &[u8],
     reloc: &Reloc,
 ) -> Change
-    ensures is { result ≡ change_of (looked_up own.now global.now) section start bytes.now reloc.now }
+    ensures is { result ≡ change_of (look_up own.now global.now) section start bytes.now reloc.now }
     ensures fits { size_of result ≤ length (drop reloc.now.offset bytes.now) }
 {
     if !same_section(reloc.section, section) {
         return Change::Keep;
     }
     let there = bytes_from(bytes, reloc.offset as usize);
-    let meaning = looked_up(own, global, &reloc.name);
+    let meaning = look_up(own, global, &reloc.name);
     let place = address_at(start, reloc.offset);
     change_by(reloc.kind, meaning, reloc.addend, place, there)
 }
 
-/// Fills the fields of a section that begins at an address, one after the other. The lowest address of a branch that can't
-/// be encoded, where there is one.
+/// Applies the relocations of a section that begins at `start`, one by one. Gives the lowest address of a branch that
+/// can't be encoded, if any.
 #[tactic(auto, using(crate::proofs::Changes::fills))]
-fn fill(
+fn fill_fields(
     bytes: &mut [u8],
     own: &Meanings<'_>,
     global: &Meanings<'_>,
@@ -140,8 +140,8 @@ fn fill(
     start: u32,
     relocs: &[Reloc],
 ) -> Option<u32>
-    ensures bytes { bytes.new ≡ filled (looked_up own.now global.now) section start bytes.old relocs.now }
-    ensures lowest { result ≡ unreachable_in (looked_up own.now global.now) section start bytes.old relocs.now }
+    ensures bytes { bytes.new ≡ fill_fields (look_up own.now global.now) section start bytes.old relocs.now }
+    ensures lowest { result ≡ unreachable_in (look_up own.now global.now) section start bytes.old relocs.now }
 {
     let mut lowest = None;
     for reloc in relocs {
@@ -153,20 +153,20 @@ fn fill(
     lowest
 }
 
-/// An object's part of a section with its fields filled, and the lowest address of a branch that can't be encoded.
+/// An object's section after relocation, and the lowest address of a branch that can't be encoded.
 fn filled_part(
     alloc: Global,
-    placed: &Placed,
+    placed: &PlacedObject,
     own: &Meanings<'_>,
     global: &Meanings<'_>,
     section: Section,
 ) -> Result<(OwnBytes, Option<u32>), AllocError>
-    ensures bytes { IfOk result (λ part. part.0 ≡ filled_in (looked_up own.now global.now) placed.now section) }
-    ensures lowest { IfOk result (λ part. part.1 ≡ unreachable_for (looked_up own.now global.now) placed.now section) }
+    ensures bytes { IfOk result (λ part. part.0 ≡ fill_section (look_up own.now global.now) placed.now section) }
+    ensures lowest { IfOk result (λ part. part.1 ≡ unreachable_for (look_up own.now global.now) placed.now section) }
 {
     let mut bytes = Vec::from_slice(alloc, bytes_at(section, placed.object))?;
     let start = address_in(section, placed.at);
-    let lowest = fill(
+    let lowest = fill_fields(
         &mut bytes,
         own,
         global,
@@ -177,33 +177,34 @@ fn filled_part(
     Ok((OwnBytes::of_vec(bytes), lowest))
 }
 
-/// An object's parts of two sections with their fields filled, and the lowest address of a branch that can't be encoded.
+/// Two of an object's sections after relocation, and the lowest address of a branch that can't be encoded.
 fn filled_two(
     alloc: Global,
-    placed: &Placed,
+    placed: &PlacedObject,
     own: &Meanings<'_>,
     global: &Meanings<'_>,
     first: Section,
     second: Section,
 ) -> Result<(OwnBytes, OwnBytes, Option<u32>), AllocError>
-    ensures first { IfOk result (λ r. r.0 ≡ filled_in (looked_up own.now global.now) placed.now first) }
-    ensures second { IfOk result (λ r. r.1 ≡ filled_in (looked_up own.now global.now) placed.now second) }
-    ensures lowest { IfOk result (λ r. r.2 ≡ lower (unreachable_for (looked_up own.now global.now) placed.now first) (unreachable_for (looked_up own.now global.now) placed.now second)) }
+    ensures first { IfOk result (λ r. r.0 ≡ fill_section (look_up own.now global.now) placed.now first) }
+    ensures second { IfOk result (λ r. r.1 ≡ fill_section (look_up own.now global.now) placed.now second) }
+    ensures lowest { IfOk result (λ r. r.2 ≡ lower (unreachable_for (look_up own.now global.now) placed.now first) (unreachable_for (look_up own.now global.now) placed.now second)) }
 {
     let (bytes, here) = filled_part(alloc, placed, own, global, first)?;
     let (more, there) = filled_part(alloc, placed, own, global, second)?;
     Ok((bytes, more, lower(here, there)))
 }
 
-/// The parts of an object filled by what `own`, then `global` say, and the lowest address of a branch that can't be encoded.
-fn filled_by(
+/// An object's sections after relocation, and the lowest address of a branch that can't be encoded. Names are looked up
+/// in `own` first, then in `global`.
+fn fill_object_by(
     alloc: Global,
-    placed: &Placed,
+    placed: &PlacedObject,
     own: &Meanings<'_>,
     global: &Meanings<'_>,
-) -> Result<(Filled, Option<u32>), AllocError>
-    ensures parts { IfOk result (λ r. r.0 ≡ filled_by (looked_up own.now global.now) placed.now) }
-    ensures lowest { IfOk result (λ r. r.1 ≡ unreachable_by (looked_up own.now global.now) placed.now) }
+) -> Result<(FilledSections, Option<u32>), AllocError>
+    ensures parts { IfOk result (λ r. r.0 ≡ fill_object_by (look_up own.now global.now) placed.now) }
+    ensures lowest { IfOk result (λ r. r.1 ≡ unreachable_by (look_up own.now global.now) placed.now) }
 {
     let (text, rodata, here) = filled_two(
         alloc,
@@ -221,7 +222,7 @@ fn filled_by(
         Section::Extab,
         Section::Init,
     )?;
-    let parts = Filled {
+    let parts = FilledSections {
         text,
         rodata,
         extab,
@@ -230,27 +231,28 @@ fn filled_by(
     Ok((parts, lower(here, there)))
 }
 
-/// The parts of an object with their fields filled, and the lowest address of a branch that can't be encoded.
+/// An object's sections after relocation, and the lowest address of a branch that can't be encoded.
 fn filled_object(
     alloc: Global,
-    placed: &Placed,
+    placed: &PlacedObject,
     global: &Meanings<'_>,
-) -> Result<(Filled, Option<u32>), AllocError>
-    ensures parts { IfOk result (λ r. r.0 ≡ filled_by (meaning_by global.now placed.now) placed.now) }
+) -> Result<(FilledSections, Option<u32>), AllocError>
+    ensures parts { IfOk result (λ r. r.0 ≡ fill_object_by (meaning_by global.now placed.now) placed.now) }
     ensures lowest { IfOk result (λ r. r.1 ≡ unreachable_by (meaning_by global.now placed.now) placed.now) }
 {
     let own = own_meanings(alloc, placed)?;
-    filled_by(alloc, placed, &own, global)
+    fill_object_by(alloc, placed, &own, global)
 }
 
-/// The objects with their fields filled, and the lowest address of a branch that can't be encoded, by a table of global names.
+/// All objects after relocation, and the lowest address of a branch that can't be encoded, given the table of global
+/// names.
 fn fill_each(
     alloc: Global,
-    all: &[Placed],
+    all: &[PlacedObject],
     global: &Meanings<'_>,
-) -> Result<(Vec<Filled>, Option<u32>), AllocError>
+) -> Result<(Vec<FilledSections>, Option<u32>), AllocError>
     requires { (q : List ℕ) → lookup (same_bytes q) global.now ≡ first_in (is_global q) all.now }
-    ensures parts { IfOk result (λ r. r.0.items ≡ map (filled_of all.now) all.now) }
+    ensures parts { IfOk result (λ r. r.0.items ≡ map (fill_object all.now) all.now) }
     ensures lowest { IfOk result (λ r. r.1 ≡ lowest_unreachable all.now all.now) }
 {
     let mut parts = Vec::new(alloc);
@@ -263,12 +265,12 @@ fn fill_each(
     Ok((parts, lowest))
 }
 
-/// The objects with their fields filled, and the lowest address of a branch that can't be encoded.
+/// All objects after relocation, and the lowest address of a branch that can't be encoded.
 pub(crate) fn fill_all(
     alloc: Global,
-    all: &[Placed],
-) -> Result<(Vec<Filled>, Option<u32>), AllocError>
-    ensures parts { IfOk result (λ r. r.0.items ≡ map (filled_of all.now) all.now) }
+    all: &[PlacedObject],
+) -> Result<(Vec<FilledSections>, Option<u32>), AllocError>
+    ensures parts { IfOk result (λ r. r.0.items ≡ map (fill_object all.now) all.now) }
     ensures lowest { IfOk result (λ r. r.1 ≡ lowest_unreachable all.now all.now) }
 {
     let global = global_meanings(alloc, all)?;

@@ -1,14 +1,14 @@
-//! The exception index (IHI 0038, "Index table entries"; docs/linking.md).
+//! Builds the exception index (IHI 0038, "Index table entries"; docs/rules/linking.md).
 ghost use Rattle.std.specs.Prelude.{◌≡◌, ◌+◌, ◌++◌, ◌^◌, map, IfOk, OnOk};
 ghost use Rattle.std.specs.List.{flat_map};
 ghost use Rattle.eh_link.specs.Index.{row_of, rows_in, in_order, closing, index_of};
 
-use crate::places::{Addresses, Placed, address_at};
-use relocatable_object::object::{IndexRow, RowEntry};
+use crate::places::{Addresses, PlacedObject, address_at};
+use asm_relocatable::object::{IndexRow, RowEntry};
+use eh_codes::row::{Entry, EntryBody, push_rows};
 use std::alloc::{AllocError, Global};
-use unwind_codes::row::{Entry, EntryBody, push_rows};
 
-/// What an object's row says, where the object's parts stand at these addresses.
+/// The index entry of an object's row, given the addresses of the object's sections.
 fn row_of(at: Addresses, row: &IndexRow) -> Entry
     ensures { result ≡ row_of at row.now }
 {
@@ -23,8 +23,8 @@ fn row_of(at: Addresses, row: &IndexRow) -> Entry
     }
 }
 
-/// Puts the rows of an object at the end.
-fn put_rows(out: &mut Vec<Entry>, placed: &Placed) -> Result<(), AllocError>
+/// Appends the entries of an object.
+fn put_rows(out: &mut Vec<Entry>, placed: &PlacedObject) -> Result<(), AllocError>
     ensures { OnOk result (out.new.items ≡ out.old.items ++ rows_in placed.now) }
 {
     for row in placed.object.rows.as_slice() {
@@ -33,8 +33,8 @@ fn put_rows(out: &mut Vec<Entry>, placed: &Placed) -> Result<(), AllocError>
     Ok(())
 }
 
-/// The rows of all objects.
-fn all_rows(alloc: Global, all: &[Placed]) -> Result<Vec<Entry>, AllocError>
+/// The entries of all objects.
+fn all_rows(alloc: Global, all: &[PlacedObject]) -> Result<Vec<Entry>, AllocError>
     ensures { IfOk result (λ rows. rows.items ≡ flat_map rows_in all.now) }
 {
     let mut out = Vec::new(alloc);
@@ -44,7 +44,7 @@ fn all_rows(alloc: Global, all: &[Placed]) -> Result<Vec<Entry>, AllocError>
     Ok(out)
 }
 
-/// Puts rows into rising order of their starts.
+/// Sorts entries by their starts; those with the same start keep their order.
 fn sort_rows(rows: &mut Vec<Entry>) -> Result<(), AllocError>
     ensures { OnOk result (rows.new.items ≡ in_order rows.old.items) }
 {
@@ -52,7 +52,7 @@ fn sort_rows(rows: &mut Vec<Entry>) -> Result<(), AllocError>
     Ok(())
 }
 
-/// The row after the others: from there on nothing can be unwound.
+/// The entry after all others: nothing unwinds from there on.
 fn closing(end: u32) -> Entry
     ensures { result ≡ closing end }
 {
@@ -62,12 +62,12 @@ fn closing(end: u32) -> Entry
     }
 }
 
-/// The bytes of the index at `start`; the texts end at `end`.
+/// The bytes of the index at the address `start`, where the text of the image ends at `end`.
 pub(crate) fn index_of(
     alloc: Global,
     end: u32,
     start: u32,
-    all: &[Placed],
+    all: &[PlacedObject],
 ) -> Result<Vec<u8>, AllocError>
     ensures { IfOk result (λ bytes. bytes.items ≡ index_of end start all.now) }
 {

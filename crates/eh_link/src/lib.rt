@@ -1,4 +1,4 @@
-//! The static linker: objects to the parts of an image (docs/linking.md).
+//! The static linker: links objects into the parts of an image (docs/rules/linking.md).
 #![tactic(auto)]
 
 ghost use Rattle.eh_link.specs.FieldLaw.{OtherBytesStay, FieldsHold};
@@ -19,16 +19,16 @@ mod symbols;
 pub use fault::LinkFault;
 pub use linking::link;
 
-/// A field that shares no byte with another one holds what its own relocation writes into the object's bytes, and a byte in no
-/// field is the object's.
+/// A field that overlaps no other holds what its relocation writes into the object's bytes. A byte in no field is the
+/// object's.
 pub fn fields_hold_what_their_relocations_write()
     ensures stay { OtherBytesStay }
     ensures hold { FieldsHold }
 {}
 
-/// A field that shares no byte with another one and lies within its section holds what the equation of its kind (IHI 0044) says of
-/// the address that its name means, the addend and its own address: a word of that sum or difference, or a branch that decodes to
-/// that offset. In objects that link to an image each branch reaches.
+/// A field that overlaps no other and lies in its section satisfies the equation of its relocation (IHI 0044), given
+/// the address of its name, the addend and its own address. It is a word of that sum or difference, or a branch that
+/// decodes to that offset. In objects that link, each branch reaches its target.
 pub fn fields_satisfy_their_equations()
     ensures absolute { AbsoluteFields }
     ensures relative { RelativeFields }
@@ -39,8 +39,8 @@ pub fn fields_satisfy_their_equations()
     ensures reach { ImagesReach }
 {}
 
-/// In the segments of the image that objects link to, each object's part stands at its address and the index stands last in the
-/// first one. A segment's size is the number of its bytes, with that of the zeros after them in the second one.
+/// In a linked image each object's sections are at their addresses, and the index is last in the first segment. A
+/// segment's size is the number of its bytes, plus the zeros after them in the second segment.
 pub fn parts_stand_at_their_addresses()
     ensures images { ImagesHaveTheseBytes }
     ensures sizes { SizesAreOfBytes }
@@ -49,9 +49,9 @@ pub fn parts_stand_at_their_addresses()
     ensures init { DataStands }
 {}
 
-/// The exception index (IHI 0038) has the objects' rows, in rising order of their starts and those of one start in the objects'
-/// order. Each of its words, read from its own address, gives the start, the table or the inline entry of its row, and the last row
-/// the end of the texts and that nothing can be unwound there.
+/// The exception index (IHI 0038) has the rows of all objects, ascending by start; rows with the same start are in the
+/// order of the objects. Each word, read relative to its address, gives the start, the table or the inline entry of its
+/// row. The last row says that nothing unwinds from the end of the text on.
 pub fn the_index_reads_back()
     ensures ascend { RowsAscend }
     ensures kept { RowsAreKept }

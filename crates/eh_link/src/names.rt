@@ -1,28 +1,28 @@
-//! What names mean, and which are there twice or not at all (docs/linking.md).
+//! The addresses of names, and names that are defined twice or not at all (docs/rules/linking.md).
 ghost use Rattle.std.specs.Prelude.{◌≡◌, ◌||◌, List, ℕ, [], None, Some, IfOk, OnOk, find, not, if◌then◌else◌};
 ghost use Rattle.std.specs.List.{list_any};
 ghost use Rattle.std.specs.Map.{lookup};
 ghost use Rattle.std.specs.Option.{option_or, option_map};
 ghost use Rattle.eh_word.specs.Names.{same_bytes};
-ghost use Rattle.eh_link.specs.Symbols.{has_label, has_global, is_label, is_global, is_entry, has_entry, global_names, field_names, duplicate_of, undefined_of, symbol_address, meaning, first_label, first_in, looked_up};
+ghost use Rattle.eh_link.specs.Symbols.{has_label, has_global, is_label, is_global, is_entry, has_entry, global_names, field_names, duplicate_of, first_undefined, symbol_address, meaning, first_label, first_in, look_up};
 
-use crate::places::{Addresses, Placed, address_at, address_in};
+use crate::places::{Addresses, PlacedObject, address_at, address_in};
+use asm_relocatable::object::{ObjSymbol, Object};
 use eh_word::Name;
 use indexmap::{IndexMap, IndexSet};
-use relocatable_object::object::{ObjSymbol, Object};
 use std::alloc::{AllocError, Global};
 use std::marker::Model;
 
-/// What a name means: an address, and whether a function begins there.
+/// The meaning of a name.
 #[derive(Clone, Copy)]
 pub struct Meaning {
-    /// The address of the label, in bytes.
+    /// The address of its label, in bytes.
     pub address: u32,
-    /// Whether a function begins there.
+    /// Whether the label is a function.
     pub function: bool,
 }
 
-/// A set of names that are lent, which contracts see as a list of them.
+/// A set of borrowed names. Contracts see a list.
 #[derive(Drop)]
 pub struct NameSet<'a> {
     names: IndexSet<&'a [u8]>,
@@ -37,6 +37,7 @@ impl<'a> Model for NameSet<'a> {
 }
 
 impl<'a> NameSet<'a> {
+    /// No names.
     pub(crate) fn new(alloc: Global) -> NameSet<'a>
         ensures { result ≡ [] }
     {
@@ -54,12 +55,14 @@ impl<'a> NameSet<'a> {
         })
     }
 
+    /// Whether a name is in the set.
     pub(crate) fn contains(&self, name: &Name) -> bool
         ensures { result ≡ list_any (same_bytes name.now) self.now }
     {
         self.names.contains(name.bytes())
     }
 
+    /// Adds a name.
     pub(crate) fn add(&mut self, name: &'a Name) -> Result<(), AllocError>
         ensures { OnOk result ((q : List ℕ) → list_any (same_bytes q) self.new ≡ (list_any (same_bytes q) self.old || same_bytes q name.now)) }
     {
@@ -68,7 +71,7 @@ impl<'a> NameSet<'a> {
     }
 }
 
-/// Names that are lent and what they mean, which contracts see as a list of them.
+/// A map from borrowed names to their meanings. Contracts see a list of pairs.
 #[derive(Drop)]
 pub struct Meanings<'a> {
     by_name: IndexMap<&'a [u8], Meaning>,
@@ -84,6 +87,7 @@ impl<'a> Model for Meanings<'a> {
 }
 
 impl<'a> Meanings<'a> {
+    /// No names.
     fn new(alloc: Global) -> Meanings<'a>
         ensures { result ≡ [] }
     {
@@ -101,13 +105,14 @@ impl<'a> Meanings<'a> {
         })
     }
 
+    /// The meaning of a name, or None.
     pub(crate) fn get(&self, name: &Name) -> Option<Meaning>
         ensures { result ≡ lookup (same_bytes name.now) self.now }
     {
         self.by_name.get(name.bytes()).copied()
     }
 
-    /// Adds what a name means, unless it means something already.
+    /// Adds the meaning of a name, unless it has one.
     fn add(&mut self, name: &'a Name, meaning: Meaning) -> Result<(), AllocError>
         ensures { OnOk result ((q : List ℕ) → lookup (same_bytes q) self.new ≡ option_or (lookup (same_bytes q) self.old) (if same_bytes q name.now then Some meaning else None)) }
     {
@@ -116,9 +121,9 @@ impl<'a> Meanings<'a> {
     }
 }
 
-/// What a name means by the labels of its object, else by the global ones.
-pub(crate) fn looked_up(own: &Meanings<'_>, global: &Meanings<'_>, name: &Name) -> Option<Meaning>
-    ensures { result ≡ looked_up own.now global.now name.now }
+/// The meaning of a name by the labels of its object, else by the global labels.
+pub(crate) fn look_up(own: &Meanings<'_>, global: &Meanings<'_>, name: &Name) -> Option<Meaning>
+    ensures { result ≡ look_up own.now global.now name.now }
 {
     match own.get(name) {
         Some(meaning) => Some(meaning),
@@ -126,7 +131,7 @@ pub(crate) fn looked_up(own: &Meanings<'_>, global: &Meanings<'_>, name: &Name) 
     }
 }
 
-// ---- names that are there twice, or not at all
+// ---- names that are defined twice or not at all
 
 /// Adds the names of an object's labels.
 fn add_labels<'a>(names: &mut NameSet<'a>, object: &'a Object) -> Result<(), AllocError>
@@ -150,7 +155,7 @@ fn add_globals<'a>(names: &mut NameSet<'a>, object: &'a Object) -> Result<(), Al
     Ok(())
 }
 
-/// The first global name of an object that is among some names.
+/// The first global name of an object that is in a set.
 #[tactic(auto, using(crate::proofs::Steps::finds))]
 fn shared_name<'a>(object: &'a Object, later: &NameSet<'_>) -> Option<&'a Name>
     ensures { option_map (λ name. name.now) result ≡ find (λ name. list_any (same_bytes name) later.now) (global_names object.now) }
@@ -163,7 +168,7 @@ fn shared_name<'a>(object: &'a Object, later: &NameSet<'_>) -> Option<&'a Name>
     None
 }
 
-/// The first name that has global labels in two objects; `names` takes all global names.
+/// The first name that has global labels in two objects. Collects all global names in `names`.
 pub(crate) fn duplicate<'a>(
     objects: &'a [Object],
     names: &mut NameSet<'a>,
@@ -181,8 +186,12 @@ pub(crate) fn duplicate<'a>(
     Ok(found)
 }
 
-/// The first name of a field of an object that is neither among `own` nor among `global`.
-fn neither_in<'a>(object: &'a Object, own: &NameSet<'_>, global: &NameSet<'_>) -> Option<&'a Name>
+/// The first relocation name of an object that is neither in `own` nor in `global`.
+fn first_in_neither<'a>(
+    object: &'a Object,
+    own: &NameSet<'_>,
+    global: &NameSet<'_>,
+) -> Option<&'a Name>
     ensures { option_map (λ name. name.now) result ≡ find (λ name. not (list_any (same_bytes name) own.now || list_any (same_bytes name) global.now)) (field_names object.now) }
 {
     for reloc in object.relocs.as_slice() {
@@ -193,8 +202,8 @@ fn neither_in<'a>(object: &'a Object, own: &NameSet<'_>, global: &NameSet<'_>) -
     None
 }
 
-/// The first name of a field of an object that means no label of its own and none of `global`.
-fn undefined_in<'a>(
+/// The first relocation name of an object that is neither one of its labels nor in `global`.
+fn first_undefined_in<'a>(
     alloc: Global,
     object: &'a Object,
     global: &NameSet<'_>,
@@ -203,20 +212,20 @@ fn undefined_in<'a>(
 {
     let mut own = NameSet::with_capacity(alloc, object.symbols.len())?;
     add_labels(&mut own, object)?;
-    Ok(neither_in(object, &own, global))
+    Ok(first_in_neither(object, &own, global))
 }
 
-/// The first name of a field that means no label.
-pub(crate) fn undefined<'a>(
+/// The first relocation name that has no label.
+pub(crate) fn first_undefined<'a>(
     alloc: Global,
     objects: &'a [Object],
     global: &NameSet<'_>,
 ) -> Result<Option<&'a Name>, AllocError>
     requires { (q : List ℕ) → list_any (same_bytes q) global.now ≡ list_any (has_global q) objects.now }
-    ensures { IfOk result (λ o. option_map (λ name. name.now) o ≡ undefined_of objects.now objects.now) }
+    ensures { IfOk result (λ o. option_map (λ name. name.now) o ≡ first_undefined objects.now objects.now) }
 {
     for object in objects {
-        let found = undefined_in(alloc, object, global)?;
+        let found = first_undefined_in(alloc, object, global)?;
         if found.is_some() {
             return Ok(found);
         }
@@ -224,14 +233,16 @@ pub(crate) fn undefined<'a>(
     Ok(None)
 }
 
-// ---- what names mean
+// ---- the meanings of names
 
+/// The address of a symbol, given the addresses of its object's sections.
 pub(crate) fn symbol_address(at: Addresses, symbol: &ObjSymbol) -> u32
     ensures { result ≡ symbol_address at symbol.now }
 {
     address_at(address_in(symbol.section, at), symbol.offset)
 }
 
+/// The meaning of a symbol.
 fn meaning_at(at: Addresses, symbol: &ObjSymbol) -> Meaning
     ensures { result ≡ meaning at symbol.now }
 {
@@ -241,8 +252,11 @@ fn meaning_at(at: Addresses, symbol: &ObjSymbol) -> Meaning
     }
 }
 
-/// Adds what names mean by the labels of their object.
-fn add_own_meanings<'a>(own: &mut Meanings<'a>, placed: &'a Placed<'_>) -> Result<(), AllocError>
+/// Adds the meanings of an object's labels.
+fn add_own_meanings<'a>(
+    own: &mut Meanings<'a>,
+    placed: &'a PlacedObject<'_>,
+) -> Result<(), AllocError>
     ensures { OnOk result ((q : List ℕ) → lookup (same_bytes q) own.new ≡ option_or (lookup (same_bytes q) own.old) (first_label (is_label q) placed.now)) }
 {
     for symbol in placed.object.symbols.as_slice() {
@@ -251,10 +265,10 @@ fn add_own_meanings<'a>(own: &mut Meanings<'a>, placed: &'a Placed<'_>) -> Resul
     Ok(())
 }
 
-/// What names mean by the labels of their object.
+/// The meanings of an object's labels.
 pub(crate) fn own_meanings<'a>(
     alloc: Global,
-    placed: &'a Placed<'_>,
+    placed: &'a PlacedObject<'_>,
 ) -> Result<Meanings<'a>, AllocError>
     ensures { IfOk result (λ own. (q : List ℕ) → lookup (same_bytes q) own ≡ first_label (is_label q) placed.now) }
 {
@@ -263,11 +277,11 @@ pub(crate) fn own_meanings<'a>(
     Ok(own)
 }
 
-/// Adds what names mean by the global labels of an object.
+/// Adds the meanings of an object's global labels.
 #[tactic(auto, using(crate::proofs::Steps::finds))]
 fn add_global_meanings<'a>(
     global: &mut Meanings<'a>,
-    placed: &'a Placed<'_>,
+    placed: &'a PlacedObject<'_>,
 ) -> Result<(), AllocError>
     ensures { OnOk result ((q : List ℕ) → lookup (same_bytes q) global.new ≡ option_or (lookup (same_bytes q) global.old) (first_label (is_global q) placed.now)) }
 {
@@ -279,11 +293,11 @@ fn add_global_meanings<'a>(
     Ok(())
 }
 
-/// What names mean by global labels.
+/// The meanings of all global labels.
 #[tactic(auto, using(crate::proofs::Steps::finds))]
 pub(crate) fn global_meanings<'a>(
     alloc: Global,
-    all: &'a [Placed<'_>],
+    all: &'a [PlacedObject<'_>],
 ) -> Result<Meanings<'a>, AllocError>
     ensures { IfOk result (λ global. (q : List ℕ) → lookup (same_bytes q) global ≡ first_in (is_global q) all.now) }
 {
@@ -296,13 +310,14 @@ pub(crate) fn global_meanings<'a>(
 
 // ---- the entry
 
+/// Whether a symbol is the global function of this name.
 fn is_entry(name: &[u8], symbol: &ObjSymbol) -> bool
     ensures { result ≡ is_entry name.now symbol.now }
 {
     symbol.function && symbol.global && name == symbol.name.bytes()
 }
 
-/// Whether an object has a global function of a name.
+/// Whether an object has a global function with a name.
 fn has_entry_in(name: &[u8], object: &Object) -> bool
     ensures { result ≡ list_any (is_entry name.now) object.now.symbols }
 {
@@ -313,15 +328,15 @@ fn has_entry_in(name: &[u8], object: &Object) -> bool
         .any(|symbol| is_entry(name, symbol))
 }
 
-/// Whether there is a global function of a name.
+/// Whether any object has a global function with a name.
 pub(crate) fn has_entry(name: &[u8], objects: &[Object]) -> bool
     ensures { result ≡ has_entry name.now objects.now }
 {
     objects.iter().any(|object| has_entry_in(name, object))
 }
 
-/// The first global function of a name in an object.
-fn entry_in(name: &[u8], placed: &Placed) -> Option<Meaning>
+/// The first global function of an object with a name.
+fn entry_in(name: &[u8], placed: &PlacedObject) -> Option<Meaning>
     ensures { result ≡ first_label (is_entry name.now) placed.now }
 {
     let symbols = placed.object.symbols.as_slice();
@@ -329,9 +344,9 @@ fn entry_in(name: &[u8], placed: &Placed) -> Option<Meaning>
     Some(meaning_at(placed.at, found))
 }
 
-/// The first global function of a name.
+/// The first global function of all objects with a name.
 #[tactic(auto, using(crate::proofs::Steps::finds))]
-pub(crate) fn entry_meaning(name: &[u8], all: &[Placed]) -> Option<Meaning>
+pub(crate) fn entry_meaning(name: &[u8], all: &[PlacedObject]) -> Option<Meaning>
     ensures { result ≡ first_in (is_entry name.now) all.now }
 {
     for placed in all {

@@ -1,42 +1,42 @@
-//! Where everything of an image stands (docs/linking.md).
+//! Lays out an image: the addresses of all sections (docs/rules/linking.md).
 ghost use Rattle.std.specs.Prelude.{◌≡◌, ◌+◌, ◌*◌, ◌^◌, ◌<◌, ◌≤◌, Bool, false, None, Some, if◌then◌else◌, length, IfOk, IfSome, IfNone};
-ghost use Rattle.eh_link.specs.Layout.{aligned, size_in, address_in, end_of, index_size, page_after, Rises, layout_of, is_too_large, firsts, all_aligned, ends, placed_of, address_at};
+ghost use Rattle.eh_link.specs.Layout.{align_to_word, size_in, address_in, end_of, index_size, page_after, Rises, layout_of, is_too_large, firsts, align_all, part_ends, place_objects, address_at};
 
-use eh_list::bytes::next_multiple_32;
-use relocatable_object::object::Object;
-use relocatable_object::place::Section;
+use asm_relocatable::object::Object;
+use asm_relocatable::place::Section;
+use eh_codes::row::ROW_SIZE;
+use eh_word::bytes::next_multiple_32;
 use std::alloc::{AllocError, Global};
 use std::marker::Model;
-use unwind_codes::row::ROW_SIZE;
 
-/// Where the first segment begins: an address in bytes.
+/// The address in bytes at which the first segment begins.
 pub const CODE_START: u32 = 0x8000;
-/// What the second segment's start is a multiple of, in bytes.
+/// The start of the second segment is a multiple of this, in bytes.
 pub const PAGE: u32 = 0x1000;
-/// The most bytes of memory of the segments together.
+/// The most bytes of memory that both segments may have together.
 pub const MOST_MEMORY: u32 = 1_048_576;
-/// The highest address that is looked at, far above what the segments may take.
+/// The layout gives up above this address, which is far above what the segments may take.
 pub const REACH: u32 = 0x40_0000;
 
-/// The address, in bytes, at which an object's part of each section begins or ends.
+/// The addresses, in bytes, at which an object's sections begin or end.
 #[derive(Clone, Copy)]
 pub struct Addresses {
-    /// Of the code.
+    /// Of the text.
     pub text: u32,
     /// Of the read-only data.
     pub rodata: u32,
     /// Of the exception tables.
     pub extab: u32,
-    /// Of the data with given bytes.
+    /// Of the initialized data.
     pub init: u32,
-    /// Of the data that begins as zeros.
+    /// Of bss.
     pub bss: u32,
 }
 
-/// Where the sections of an image end, and where its index and its data begin: addresses in bytes.
+/// The layout of an image. All fields are addresses in bytes.
 #[derive(Clone, Copy)]
-pub struct Layout {
-    /// After the last byte of code.
+pub struct ImageLayout {
+    /// After the last byte of text.
     pub text_end: u32,
     /// After the last byte of read-only data.
     pub rodata_end: u32,
@@ -44,34 +44,34 @@ pub struct Layout {
     pub extab_end: u32,
     /// The first byte of the exception index.
     pub index_start: u32,
-    /// After the index, and so after the first segment, which begins at 0x8000.
+    /// After the index, which is the end of the first segment.
     pub code_end: u32,
     /// The first byte of the second segment.
     pub data_start: u32,
-    /// After the last data with given bytes.
+    /// After the last byte of initialized data.
     pub init_end: u32,
-    /// After the last data that begins as zeros, and so after the second segment.
+    /// After the last byte of bss, which is the end of the second segment.
     pub bss_end: u32,
 }
 
-/// An object, and where its parts begin.
+/// An object, and where its sections begin.
 #[derive(Drop)]
-pub struct Placed<'a> {
+pub struct PlacedObject<'a> {
     /// The object.
     pub object: &'a Object,
-    /// Where its part of each section begins.
+    /// The addresses at which its sections begin.
     pub at: Addresses,
 }
 
-impl<'a> Model for Placed<'a> {
-    ghost use Rattle.eh_link.specs.Placed.{Placed as Fields};
+impl<'a> Model for PlacedObject<'a> {
+    ghost use Rattle.eh_link.specs.Placed.{PlacedObject as Fields};
 
     ghost Value = { Fields };
 
     ghost view = { λ p. record { object = p.object.now; at = p.at } };
 }
 
-/// How many bytes of memory an object's part of a section takes.
+/// The size in bytes of an object's section in memory.
 fn size_in(section: Section, object: &Object) -> u64
     ensures { result ≡ size_in section object.now }
 {
@@ -85,9 +85,9 @@ fn size_in(section: Section, object: &Object) -> u64
 }
 
 /// The next multiple of 4.
-pub(crate) fn aligned(at: u32) -> u32
+pub(crate) fn align_to_word(at: u32) -> u32
     requires { at + 3 < 2 ^ 32 }
-    ensures { result ≡ aligned at }
+    ensures { result ≡ align_to_word at }
 {
     next_multiple_32(at, 4)
 }
@@ -100,7 +100,7 @@ fn page_after(at: u32) -> u32
     next_multiple_32(at, PAGE)
 }
 
-/// The address in a section.
+/// The address of a section.
 pub(crate) fn address_in(section: Section, at: Addresses) -> u32
     ensures { result ≡ address_in section at }
 {
@@ -113,14 +113,14 @@ pub(crate) fn address_in(section: Section, at: Addresses) -> u32
     }
 }
 
-/// The address after so many bytes.
+/// The address `offset` bytes after `start`.
 pub(crate) fn address_at(start: u32, offset: u32) -> u32
     ensures { result ≡ address_at start offset }
 {
     start.wrapping_add(offset)
 }
 
-/// The end of the objects' parts of a section that begins after an address. None above `REACH`.
+/// The end of all objects' parts of a section whose first part begins at or after `start`. None above `REACH`.
 fn end_of(section: Section, start: u32, objects: &[Object]) -> Option<u32>
     requires { start ≤ REACH }
     ensures some { IfSome result (λ end. (end ≡ end_of section start objects.now) × (end ≤ REACH)) }
@@ -128,7 +128,7 @@ fn end_of(section: Section, start: u32, objects: &[Object]) -> Option<u32>
 {
     let mut at = start;
     for object in objects {
-        let begin = aligned(at);
+        let begin = align_to_word(at);
         let size = size_in(section, object);
         if size > u64::from(REACH - begin) {
             return None;
@@ -158,15 +158,15 @@ fn index_end(start: u32, objects: &[Object]) -> Option<u32>
     Some(at)
 }
 
-/// Where everything stands. None where the segments have more than 1,048,576 bytes of memory together.
-pub(crate) fn lay_out(objects: &[Object]) -> Option<Layout>
+/// The layout of these objects. None if the segments have more than 1,048,576 bytes of memory together.
+pub(crate) fn lay_out(objects: &[Object]) -> Option<ImageLayout>
     ensures found { result ≡ (if is_too_large (layout_of objects.now) then None else Some (layout_of objects.now)) }
     ensures rises { IfSome result (λ layout. Rises layout) }
 {
     let text_end = end_of(Section::Text, CODE_START, objects)?;
     let rodata_end = end_of(Section::Rodata, text_end, objects)?;
     let extab_end = end_of(Section::Extab, rodata_end, objects)?;
-    let index_start = aligned(extab_end);
+    let index_start = align_to_word(extab_end);
     let code_end = index_end(index_start, objects)?;
     let data_start = page_after(code_end);
     let init_end = end_of(Section::Init, data_start, objects)?;
@@ -174,7 +174,7 @@ pub(crate) fn lay_out(objects: &[Object]) -> Option<Layout>
     if code_end - CODE_START + (bss_end - data_start) > MOST_MEMORY {
         return None;
     }
-    Some(Layout {
+    Some(ImageLayout {
         text_end,
         rodata_end,
         extab_end,
@@ -186,8 +186,8 @@ pub(crate) fn lay_out(objects: &[Object]) -> Option<Layout>
     })
 }
 
-/// Where the first part of each section may begin.
-fn firsts(layout: Layout) -> Addresses
+/// The addresses from which the first part of each section is placed.
+fn firsts(layout: ImageLayout) -> Addresses
     ensures { result ≡ firsts layout }
 {
     Addresses {
@@ -199,31 +199,32 @@ fn firsts(layout: Layout) -> Addresses
     }
 }
 
-fn all_aligned(at: Addresses) -> Addresses
+/// Each address rounded up to a multiple of 4.
+fn align_all(at: Addresses) -> Addresses
     requires text { at.text ≤ REACH }
     requires rodata { at.rodata ≤ REACH }
     requires extab { at.extab ≤ REACH }
     requires init { at.init ≤ REACH }
     requires bss { at.bss ≤ REACH }
-    ensures { result ≡ all_aligned at }
+    ensures { result ≡ align_all at }
 {
     Addresses {
-        text: aligned(at.text),
-        rodata: aligned(at.rodata),
-        extab: aligned(at.extab),
-        init: aligned(at.init),
-        bss: aligned(at.bss),
+        text: align_to_word(at.text),
+        rodata: align_to_word(at.rodata),
+        extab: align_to_word(at.extab),
+        init: align_to_word(at.init),
+        bss: align_to_word(at.bss),
     }
 }
 
-/// The ends of an object's parts that begin at these addresses.
-fn ends(at: Addresses, object: &Object) -> Addresses
+/// The ends of an object's sections that begin at these addresses.
+fn part_ends(at: Addresses, object: &Object) -> Addresses
     requires text { at.text + length object.now.text ≤ REACH }
     requires rodata { at.rodata + length object.now.rodata ≤ REACH }
     requires extab { at.extab + length object.now.extab ≤ REACH }
     requires init { at.init + length object.now.init ≤ REACH }
     requires bss { at.bss + object.now.bss ≤ REACH }
-    ensures { result ≡ ends at object.now }
+    ensures { result ≡ part_ends at object.now }
 {
     Addresses {
         text: at.text + object.text.as_slice().len() as u32,
@@ -234,22 +235,22 @@ fn ends(at: Addresses, object: &Object) -> Addresses
     }
 }
 
-/// The objects, each with the addresses of its parts.
+/// Gives each object its addresses.
 pub(crate) fn place<'a>(
     alloc: Global,
-    layout: Layout,
+    layout: ImageLayout,
     objects: &'a [Object],
-) -> Result<Vec<Placed<'a>>, AllocError>
+) -> Result<Vec<PlacedObject<'a>>, AllocError>
     requires is { layout ≡ layout_of objects.now }
     requires rises { Rises layout }
-    ensures { IfOk result (λ v. v.items ≡ placed_of objects.now) }
+    ensures { IfOk result (λ v. v.items ≡ place_objects objects.now) }
 {
     let mut all = Vec::new(alloc);
     let mut next = firsts(layout);
     for object in objects {
-        let at = all_aligned(next);
-        next = ends(at, object);
-        all.push(Placed { object, at })?;
+        let at = align_all(next);
+        next = part_ends(at, object);
+        all.push(PlacedObject { object, at })?;
     }
     Ok(all)
 }

@@ -1,28 +1,28 @@
-//! The segments of an image (docs/linking.md).
+//! Builds the segments of an image (docs/rules/linking.md).
 ghost use Rattle.std.specs.Prelude.{◌≡◌, ◌++◌, ◌∷◌, [], ◌≤◌, ◌+◌, map, IfOk, OnOk};
 ghost use Rattle.eh_link.specs.Fields.{part_in};
 ghost use Rattle.eh_link.specs.Layout.{Rises};
-ghost use Rattle.eh_link.specs.Linked.{joined, code_bytes, data_bytes, segments_of};
+ghost use Rattle.eh_link.specs.Linked.{join_aligned, code_bytes, data_bytes, segments_of};
 
-use crate::fill::{Filled, part_in};
-use crate::places::{CODE_START, Layout};
-use eh_list::bytes::{gap, push_zeros};
+use crate::fill::{FilledSections, part_in};
+use crate::places::{CODE_START, ImageLayout};
+use asm_relocatable::place::Section;
+use eh_word::bytes::{gap, push_zeros};
 use elf_write::parts::{OwnBytes, OwnSegment};
-use relocatable_object::place::Section;
 use std::alloc::{AllocError, Global};
 
-/// Puts a part at the next multiple of 4.
+/// Appends a part at the next multiple of 4.
 fn put_part(out: &mut Vec<u8>, part: &[u8]) -> Result<(), AllocError>
-    ensures { OnOk result (out.new.items ≡ joined out.old.items (part.now ∷ [])) }
+    ensures { OnOk result (out.new.items ≡ join_aligned out.old.items (part.now ∷ [])) }
 {
     let len = out.len();
     push_zeros(out, gap(len as u64, 4) as usize)?;
     out.extend_from_slice(part)
 }
 
-/// Puts the parts of a section, each at the next multiple of 4.
-fn put_parts(out: &mut Vec<u8>, section: Section, all: &[Filled]) -> Result<(), AllocError>
-    ensures { OnOk result (out.new.items ≡ joined out.old.items (map (part_in section) all.now)) }
+/// Appends all parts of a section, each at the next multiple of 4.
+fn put_parts(out: &mut Vec<u8>, section: Section, all: &[FilledSections]) -> Result<(), AllocError>
+    ensures { OnOk result (out.new.items ≡ join_aligned out.old.items (map (part_in section) all.now)) }
 {
     for parts in all {
         put_part(out, part_in(section, parts))?;
@@ -32,7 +32,7 @@ fn put_parts(out: &mut Vec<u8>, section: Section, all: &[Filled]) -> Result<(), 
 
 /// The bytes of the first segment.
 #[tactic(auto, using(crate::proofs::Steps::joined_append))]
-fn code_bytes(alloc: Global, all: &[Filled], index: &[u8]) -> Result<Vec<u8>, AllocError>
+fn code_bytes(alloc: Global, all: &[FilledSections], index: &[u8]) -> Result<Vec<u8>, AllocError>
     ensures { IfOk result (λ v. v.items ≡ code_bytes all.now index.now) }
 {
     let mut out = Vec::new(alloc);
@@ -44,7 +44,7 @@ fn code_bytes(alloc: Global, all: &[Filled], index: &[u8]) -> Result<Vec<u8>, Al
 }
 
 /// The bytes of the second segment.
-fn data_bytes(alloc: Global, all: &[Filled]) -> Result<Vec<u8>, AllocError>
+fn data_bytes(alloc: Global, all: &[FilledSections]) -> Result<Vec<u8>, AllocError>
     ensures { IfOk result (λ v. v.items ≡ data_bytes all.now) }
 {
     let mut out = Vec::new(alloc);
@@ -55,8 +55,8 @@ fn data_bytes(alloc: Global, all: &[Filled]) -> Result<Vec<u8>, AllocError>
 /// The segments of the image.
 pub(crate) fn segments_of(
     alloc: Global,
-    layout: Layout,
-    all: &[Filled],
+    layout: ImageLayout,
+    all: &[FilledSections],
     index: &[u8],
 ) -> Result<Vec<OwnSegment>, AllocError>
     requires { Rises layout }

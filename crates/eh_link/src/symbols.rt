@@ -1,17 +1,18 @@
-//! The symbols of an image (docs/linking.md).
+//! Builds the symbols of an image (docs/rules/linking.md).
 ghost use Rattle.std.specs.Prelude.{◌≡◌, ◌++◌, ◌≤◌, IfOk, OnOk};
-ghost use Rattle.eh_link.specs.Symbols.{own_symbol, mark_at, mark_symbol, mark_symbols, words_between, label_kind, label_symbols, exported, symbols_of};
+ghost use Rattle.eh_link.specs.Symbols.{own_symbol, mark_at, mark_symbol, mark_symbols, words_between, label_kind, label_symbols, exported_symbols, symbols_of};
 ghost use Rattle.std.specs.List.{flat_map};
 ghost use Rattle.eh_link.specs.Layout.{Rises};
 
 use crate::names::symbol_address;
-use crate::places::{Addresses, Layout, Placed, address_at, aligned};
+use crate::places::{Addresses, ImageLayout, PlacedObject, address_at, align_to_word};
+use asm_relocatable::name::{copy_name, is_local};
+use asm_relocatable::object::{Mark, ObjSymbol};
 use eh_word::Name;
 use elf_write::parts::{OwnSymbol, SymbolKind};
-use relocatable_object::name::{copied, is_local};
-use relocatable_object::object::{Mark, ObjSymbol};
 use std::alloc::{AllocError, Global};
 
+/// A symbol of size 0.
 fn symbol(alloc: Global, name: &[u8], value: u32, kind: SymbolKind) -> Result<OwnSymbol, AllocError>
     ensures { IfOk result (λ s. s ≡ own_symbol name.now value 0 kind) }
 {
@@ -23,7 +24,7 @@ fn symbol(alloc: Global, name: &[u8], value: u32, kind: SymbolKind) -> Result<Ow
     })
 }
 
-/// The mapping symbol of code or words that begin at an address.
+/// The mapping symbol for code or data that begins at an address.
 fn mark_at(alloc: Global, value: u32, code: bool) -> Result<OwnSymbol, AllocError>
     ensures { IfOk result (λ s. s ≡ mark_at value code) }
 {
@@ -34,14 +35,19 @@ fn mark_at(alloc: Global, value: u32, code: bool) -> Result<OwnSymbol, AllocErro
     }
 }
 
+/// The mapping symbol of a mark.
 fn mark_symbol(alloc: Global, at: Addresses, mark: &Mark) -> Result<OwnSymbol, AllocError>
     ensures { IfOk result (λ s. s ≡ mark_symbol at mark.now) }
 {
     mark_at(alloc, address_at(at.text, mark.offset), mark.code)
 }
 
-/// Puts the marks of an object's text at the end.
-fn push_marks(alloc: Global, out: &mut Vec<OwnSymbol>, placed: &Placed) -> Result<(), AllocError>
+/// Appends the mapping symbols of an object's text.
+fn push_marks(
+    alloc: Global,
+    out: &mut Vec<OwnSymbol>,
+    placed: &PlacedObject,
+) -> Result<(), AllocError>
     ensures { OnOk result (out.new.items ≡ out.old.items ++ mark_symbols placed.now) }
 {
     for mark in placed.object.marks.as_slice() {
@@ -50,7 +56,7 @@ fn push_marks(alloc: Global, out: &mut Vec<OwnSymbol>, placed: &Placed) -> Resul
     Ok(())
 }
 
-/// Puts a mark of words at the end where a section begins that isn't empty.
+/// Appends a mapping symbol for data at the start of a section, unless it is empty.
 fn push_words(
     alloc: Global,
     out: &mut Vec<OwnSymbol>,
@@ -65,6 +71,7 @@ fn push_words(
     Ok(())
 }
 
+/// The kind of a label.
 fn label_kind(symbol: &ObjSymbol) -> SymbolKind
     ensures { result ≡ label_kind symbol.now }
 {
@@ -75,7 +82,7 @@ fn label_kind(symbol: &ObjSymbol) -> SymbolKind
     }
 }
 
-/// Puts a label at the end, unless it stays in its object.
+/// Appends a label, unless its name is local.
 fn push_label(
     alloc: Global,
     out: &mut Vec<OwnSymbol>,
@@ -88,7 +95,7 @@ fn push_label(
         return Ok(());
     }
     out.push(OwnSymbol {
-        name: copied(alloc, &symbol.name)?,
+        name: copy_name(alloc, &symbol.name)?,
         value: symbol_address(at, symbol),
         size: symbol.size,
         kind: label_kind(symbol),
@@ -96,9 +103,13 @@ fn push_label(
     Ok(())
 }
 
-/// Puts an object's labels at the end.
-fn push_labels(alloc: Global, out: &mut Vec<OwnSymbol>, placed: &Placed) -> Result<(), AllocError>
-    ensures { OnOk result (out.new.items ≡ out.old.items ++ exported placed.now) }
+/// Appends an object's labels.
+fn push_labels(
+    alloc: Global,
+    out: &mut Vec<OwnSymbol>,
+    placed: &PlacedObject,
+) -> Result<(), AllocError>
+    ensures { OnOk result (out.new.items ≡ out.old.items ++ exported_symbols placed.now) }
 {
     for symbol in placed.object.symbols.as_slice() {
         push_label(alloc, out, placed.at, symbol)?;
@@ -106,8 +117,12 @@ fn push_labels(alloc: Global, out: &mut Vec<OwnSymbol>, placed: &Placed) -> Resu
     Ok(())
 }
 
-/// Puts the marks of all texts at the end.
-fn push_all_marks(alloc: Global, out: &mut Vec<OwnSymbol>, all: &[Placed]) -> Result<(), AllocError>
+/// Appends the mapping symbols of all texts.
+fn push_all_marks(
+    alloc: Global,
+    out: &mut Vec<OwnSymbol>,
+    all: &[PlacedObject],
+) -> Result<(), AllocError>
     ensures { OnOk result (out.new.items ≡ out.old.items ++ flat_map mark_symbols all.now) }
 {
     for placed in all {
@@ -116,13 +131,13 @@ fn push_all_marks(alloc: Global, out: &mut Vec<OwnSymbol>, all: &[Placed]) -> Re
     Ok(())
 }
 
-/// Puts all labels at the end.
+/// Appends the labels of all objects.
 fn push_all_labels(
     alloc: Global,
     out: &mut Vec<OwnSymbol>,
-    all: &[Placed],
+    all: &[PlacedObject],
 ) -> Result<(), AllocError>
-    ensures { OnOk result (out.new.items ≡ out.old.items ++ flat_map exported all.now) }
+    ensures { OnOk result (out.new.items ≡ out.old.items ++ flat_map exported_symbols all.now) }
 {
     for placed in all {
         push_labels(alloc, out, placed)?;
@@ -134,19 +149,24 @@ fn push_all_labels(
 #[tactic(auto, unfolding(crate::specs::Symbols::symbols_of))]
 pub(crate) fn symbols_of(
     alloc: Global,
-    layout: Layout,
-    all: &[Placed],
+    layout: ImageLayout,
+    all: &[PlacedObject],
 ) -> Result<Vec<OwnSymbol>, AllocError>
     requires { Rises layout }
     ensures { IfOk result (λ v. v.items ≡ symbols_of layout all.now) }
 {
     let mut out = Vec::new(alloc);
     push_all_marks(alloc, &mut out, all)?;
-    push_words(alloc, &mut out, aligned(layout.text_end), layout.rodata_end)?;
     push_words(
         alloc,
         &mut out,
-        aligned(layout.rodata_end),
+        align_to_word(layout.text_end),
+        layout.rodata_end,
+    )?;
+    push_words(
+        alloc,
+        &mut out,
+        align_to_word(layout.rodata_end),
         layout.extab_end,
     )?;
     push_words(alloc, &mut out, layout.index_start, layout.code_end)?;

@@ -3,11 +3,11 @@ use Rattle.std.proofs.Common.{◌≡◌, ℕ, ◌<◌, Bool, List, length, true,
 use Rattle.std.proofs.lemmas.Bool.{cases_eq}
 use Rattle.std.proofs.lemmas.List.{get_or-set_same, get_or-set_other}
 use Rattle.eh_bus.specs.Memory.{Memory}
-use Rattle.code_halfwords.specs.declared.halfwords.Halfwords.{Halfwords}
-use Rattle.code_halfwords.specs.Standing.{HasHalfwords}
-use Rattle.code_halfwords.proofs.Standing.{is_pair, by_halfwords}
-use Rattle.machines_agree.specs.two_machines.Program.{Program, profile_in}
-use Rattle.eh_machine.specs.declared.pass.Fetched.{Fetched}
+use Rattle.thumb_core.specs.declared.halfwords.Halfwords.{Halfwords}
+use Rattle.thumb_core.specs.Standing.{HasHalfwords}
+use Rattle.thumb_core.proofs.Standing.{is_pair, by_halfwords}
+use Rattle.sim_machines.specs.Program.{Program, profile_in}
+use Rattle.eh_machine.specs.declared.pass.CheckedInstr.{CheckedInstr}
 use Rattle.eh_machine.specs.declared.decode_cache.TheConstants.{LINES}
 use Rattle.eh_machine.specs.declared.decode_cache.CacheLine.{CacheLine}
 use Rattle.eh_machine.specs.Passes.{HasRoles, IsFetched}
@@ -22,7 +22,7 @@ is_fetched p m a line of same stand = record {
   roles = subst (λ (x : ℕ). HasRoles p x line.fetched) same of.roles;
 }
 
-pub is_of_line : (p : Program) (m : Memory) (a : ℕ) (h : Halfwords) (at : Fetched) (round : ℕ) (begins : Bool) → IsFetched p a m at → begins ≡ (p.look a).is_function → HasHalfwords m a h
+pub is_of_line : (p : Program) (m : Memory) (a : ℕ) (h : Halfwords) (at : CheckedInstr) (round : ℕ) (begins : Bool) → IsFetched p a m at → begins ≡ (p.look a).is_function → HasHalfwords m a h
     → IsLine p (record { address = a; halfwords = h; fetched = at; confirmed = round; is_kept = true; begins = begins })
 is_of_line p m a h at round begins is told stand = λ e. record {
   pair = is_pair m a h stand;

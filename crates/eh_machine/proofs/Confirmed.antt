@@ -3,18 +3,18 @@ use Rattle.std.proofs.Common.{◌≡◌, ℕ, ◌+◌, ◌%◌, ◌^◌, ◌<◌
 use Rattle.std.proofs.lemmas.Bool.{cases_eq}
 use Rattle.std.proofs.lemmas.List.{get_or-set_same, get_or-set_other}
 use Rattle.eh_bus.specs.Segment.{Segment, holds}
-use Rattle.eh_bus.specs.Memory.{Memory, fetch, fault_in, store, store_fault, slot_fault, unless_fault, guard_hit, written, is_closed, guard_all, released}
+use Rattle.eh_bus.specs.Memory.{Memory, fetch, fault_in, store, store_fault, slot_fault, unless_fault, guard_hit, store_number, is_closed, guard_all, without_guards_below}
 use Rattle.eh_bus.specs.Map.{SameMap, IsFixed}
 use Rattle.eh_bus.specs.declared.fault.BusFault.{BusFault}
 use Rattle.eh_bus.specs.declared.fault.BusFault.TheVariants.{ReadOnly, Unaligned, Protected}
 use Rattle.eh_bus.proofs.MapLaws.{map_refl, map_trans, fixed_fetches}
-use Rattle.code_halfwords.specs.declared.halfwords.Halfwords.{Halfwords}
-use Rattle.code_halfwords.specs.Standing.{HasHalfwords}
+use Rattle.thumb_core.specs.declared.halfwords.Halfwords.{Halfwords}
+use Rattle.thumb_core.specs.Standing.{HasHalfwords}
 use Rattle.thumb_core.specs.Laws.{KeepsMap}
 use Rattle.thumb_core.specs.Outcome.{Outcome as Stepping}
 use Rattle.thumb_core.specs.Step.{step_for, instr_for}
 use Rattle.thumb_core.specs.declared.regs.TheConstants.{SP}
-use Rattle.step_ahead.specs.Ahead.{pushes_some}
+use Rattle.thumb_ahead.specs.Ahead.{pushes_some}
 use Rattle.thumb_core.proofs.Follows.{step_follows}
 use Rattle.thumb_core.specs.declared.regs.Regs.{Regs}
 use Rattle.thumb_core.specs.declared.regs.Stepped.{Stepped}
@@ -23,8 +23,8 @@ use Rattle.thumb_core.specs.declared.ends.End.{End}
 use Rattle.eh_trace.specs.Trace.{no_events}
 use Rattle.eh_gates.specs.declared.state.Core.{Core}
 use Rattle.eh_gates.specs.State.{State, state_of, reg}
-use Rattle.machines_agree.specs.two_machines.Program.{Program, profile_in}
-use Rattle.machines_agree.specs.two_machines.Machine.{Passed, reguarded, saved_words, tested, stepped, checked, passed}
+use Rattle.sim_machines.specs.Program.{Program, profile_in}
+use Rattle.sim_machines.specs.Machine.{PassResult, update_guards, saved_words, pass_tests, pass_step, pass_if_checked, pass_instruction}
 use Rattle.eh_machine.specs.Cached.{StandFast, IsLine, IsOfRound, IsConfirmed, IsCounting}
 use Rattle.eh_machine.specs.Passes.{Passes}
 use Rattle.eh_machine.specs.declared.decode_cache.TheConstants.{LINES, FIRST_ROUND, NO_ROUND}
@@ -70,7 +70,7 @@ refused_by None m new m' f e = absurd (apart f (ap (λ (x : Result (Unit {0}) Bu
 pub read_only : (m m' : Memory) (a v x : ℕ) (f : BusFault) → f ≡ ReadOnly x → ◌≡◌ {A = Result (Unit {0}) BusFault × Memory} (Err f, m') (store 2 m a v) → IsFixed 2 m.segments a
 read_only m m' a v x f is e =
     refused_fixed m.guards m.segments a x
-    (refused_by (fault_in (λ s. store_fault 2 m.guards s a) 2 m.segments a) m (record m { segments = written 2 m.segments a v }) m' f e ∙ ap Some is)
+    (refused_by (fault_in (λ s. store_fault 2 m.guards s a) 2 m.segments a) m (record m { segments = store_number 2 m.segments a v }) m' f e ∙ ap Some is)
 
 pub stand_fast : (m : Memory) (a : ℕ) (h : Halfwords) → IsFixed 2 m.segments a → (nat_le 0xe800 h.first ≡ true → IsFixed 2 m.segments ((a + 2) % 2 ^ 32)) → HasHalfwords m a h → StandFast m a h
 stand_fast m a h one two has = record { always = λ m' p. record { first = fixed_fetches a m.segments m'.segments p one ∙ has.first; second = go m' p (nat_le 0xe800 h.first) two has.second } }
@@ -137,34 +137,34 @@ guarded_segments : (ws : List ℕ) (m : Memory) → (guard_all ws m).segments �
 guarded_segments [] m = refl
 guarded_segments (w ∷ ws) m = guarded_segments ws m
 
-reguarded_segments : (saves count old new : ℕ) (m : Memory) → (reguarded saves count old new m).segments ≡ m.segments
+reguarded_segments : (saves count old new : ℕ) (m : Memory) → (update_guards saves count old new m).segments ≡ m.segments
 reguarded_segments saves count old new m = go (nat_lt old new) (guard_all (saved_words saves count new) m) ∙ guarded_segments (saved_words saves count new) m
   where
-    go : (b : Bool) (g : Memory) → (cond b (released g new) g).segments ≡ g.segments
+    go : (b : Bool) (g : Memory) → (cond b (without_guards_below g new) g).segments ≡ g.segments
     go true g = refl
     go false g = refl
 
 module _ (p : Program) (s : State) where
   tested_map : (what : Stepped) (regs : Regs) (m : Memory) → SameMap s.memory.segments m.segments → (o : Option End)
-      → SameMap s.memory.segments ((tested p s what regs m o).1).memory.segments
+      → SameMap s.memory.segments ((pass_tests p s what regs m o).1).memory.segments
   tested_map what regs m k (Some end) = map_refl s.memory.segments
   tested_map what regs m k None = subst (λ (ss : List Segment). SameMap s.memory.segments ss) (sym (reguarded_segments (p.look s.regs.pc).saves (pushes_some (instr_for (profile_in p) s.memory s.regs.pc)) (reg s SP) (slice_index regs.r SP) m)) k
 
-  stepped_map : (o : Stepping) → KeepsMap s.memory o.2 → SameMap s.memory.segments ((stepped p s o).1).memory.segments
+  stepped_map : (o : Stepping) → KeepsMap s.memory o.2 → SameMap s.memory.segments ((pass_step p s o).1).memory.segments
   stepped_map (Trap trap, regs, m) k = map_refl s.memory.segments
   stepped_map (Done, regs, m) k = tested_map Done regs m k.map _
   stepped_map (Call target ret, regs, m) k = tested_map (Call target ret) regs m k.map _
   stepped_map (Return to, regs, m) k = tested_map (Return to) regs m k.map _
   stepped_map (Gate number, regs, m) k = tested_map (Gate number) regs m k.map _
 
-  checked_map : (b : Bool) → SameMap s.memory.segments ((checked p s b).1).memory.segments
+  checked_map : (b : Bool) → SameMap s.memory.segments ((pass_if_checked p s b).1).memory.segments
   checked_map true = stepped_map (step_for (profile_in p) s.regs s.memory) (step_follows (profile_in p) s.regs s.memory).memory
   checked_map false = map_refl s.memory.segments
 
-  passed_map : SameMap s.memory.segments ((passed p s).1).memory.segments
-  unfolding passed
+  passed_map : SameMap s.memory.segments ((pass_instruction p s).1).memory.segments
+  unfolding pass_instruction
   passed_map = checked_map (p.look s.regs.pc).is_instr
 
 pub passes_map : (p : Program) (core : Core) (m : Memory) (result : Result Stepped End) (core' : Core) (m' : Memory) → Passes p core m result core' m' → SameMap m.segments m'.segments
 passes_map p core m result core' m' h =
-    subst (λ (x : Passed). SameMap m.segments (x.1).memory.segments) (sym (h.does no_events)) (passed_map p (state_of core m no_events))
+    subst (λ (x : PassResult). SameMap m.segments (x.1).memory.segments) (sym (h.does no_events)) (passed_map p (state_of core m no_events))

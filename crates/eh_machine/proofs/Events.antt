@@ -4,11 +4,11 @@ use Rattle.std.proofs.Common.{◌≡◌, ℕ, ◌<◌, nat_lt, List, [], Bool, t
 use Rattle.std.specs.Bool.{OnFalse, OnTrue}
 use Rattle.std.proofs.KnownBytes.{Appends-nil}
 use Rattle.std.proofs.lemmas.List.Elements.{All-nil}
-use Rattle.machines_agree.specs.event_runs.Runs.{Goes, GoesOn, Fails, EndsBy}
-use Rattle.given_input.specs.Given.{OnGiven}
-use Rattle.guest_gates.specs.declared.gates.TheConstants.{INPUT_GATE}
-use Rattle.guest_gates.specs.Ends.{is_fault}
-use Rattle.guest_gates.specs.Gates.{gate_event, gate_may_fail}
+use Rattle.run_events.specs.Runs.{Goes, GoesOn, Fails, EndsBy}
+use Rattle.run_gates.specs.Given.{OnGiven}
+use Rattle.run_gates.specs.declared.gates.TheConstants.{INPUT_GATE}
+use Rattle.run_gates.specs.Ends.{is_fault}
+use Rattle.run_gates.specs.Gates.{gate_event, gate_may_fail}
 use Rattle.thumb_core.specs.declared.regs.Regs.{Regs}
 use Rattle.thumb_core.specs.declared.regs.Stepped.{Stepped}
 use Rattle.thumb_core.specs.declared.regs.Stepped.TheVariants.{Done, Call, Return, Gate, Trap}
@@ -17,24 +17,24 @@ use Rattle.thumb_core.specs.declared.ends.End.TheVariants.{ReadFault, WriteFault
 use Rattle.eh_gates.specs.declared.state.Turned.{Turned}
 use Rattle.eh_gates.specs.declared.state.Turned.TheVariants.{Went, Ended}
 use Rattle.elf_image.specs.Image.{Image}
-use Rattle.machines_agree.specs.eh_types.Graph.{Row}
+use Rattle.eh_types.specs.Graph.{Row}
 use Rattle.eh_gates.specs.State.{State, Outcome, tables_of, state_of}
 use Rattle.eh_gates.specs.declared.state.Core.{Core}
 use Rattle.eh_trace.specs.Trace.{Trace}
 use Rattle.eh_bus.specs.Memory.{Memory}
 use Rattle.eh_machine.specs.Passes.{PassesOn}
 use Rattle.eh_gates.specs.Gates.{gate_of}
-use Rattle.machines_agree.specs.two_machines.Program.{Program, program_tables}
-use Rattle.machines_agree.specs.two_machines.Machine.{Passed, passed, event_of, in_state, acted, onward, machine_event, passed_fails, may_fail, with_pc_of}
+use Rattle.sim_machines.specs.Program.{Program, program_tables}
+use Rattle.sim_machines.specs.Machine.{PassResult, pass_instruction, event_of, in_state, event_after_step, event_after_pass, machine_event, pass_fails, may_fail, with_pc_of}
 use Rattle.eh_machine.specs.Turns.{TurnedOnce, IsCounted, CountsFaults}
 
-event_is : (p : Program) (s : State) (r : Passed) (input : List ℕ) → r ≡ passed p s → machine_event p s input ≡ onward p s r input
+event_is : (p : Program) (s : State) (r : PassResult) (input : List ℕ) → r ≡ pass_instruction p s → machine_event p s input ≡ event_after_pass p s r input
 unfolding machine_event
-event_is p s r input e = ap (λ v. onward p s v input) (sym e)
+event_is p s r input e = ap (λ v. event_after_pass p s v input) (sym e)
 
-may_is : (p : Program) (s : State) (r : Passed) (end : End) → r ≡ passed p s → passed_fails r end ≡ may_fail p s end
+may_is : (p : Program) (s : State) (r : PassResult) (end : End) → r ≡ pass_instruction p s → pass_fails r end ≡ may_fail p s end
 unfolding may_fail
-may_is p s r end e = ap (λ v. passed_fails v end) e
+may_is p s r end e = ap (λ v. pass_fails v end) e
 
 on_any_false : (b : Bool) (P : Type 0) → P → OnFalse b P
 on_any_false true P p = tt
@@ -68,14 +68,14 @@ went_ended : (end : End) (P : Type 0) → Went ≡ Ended end → P
 went_ended end P e = absurd (cc)
 
 -- an end before the gates
-pub end_turned : (told before : Option (List ℕ)) (p : Program) (s : State) (end : End) (new : State) → (Err end, new) ≡ passed p s → is_fault end ≡ false
+pub end_turned : (told before : Option (List ℕ)) (p : Program) (s : State) (end : End) (new : State) → (Err end, new) ≡ pass_instruction p s → is_fault end ≡ false
     → IfSome told (λ input. TurnedOnce p s input (Ended end) new told before before)
 end_turned None before p s end new e fine = tt
 end_turned (Some input) before p s end new e fine =
     outcome_turned p s input (Ended end) new before (event_is p s (Err end, new) input e)
     (λ other f. subst (λ (x : End). is_fault x ≡ false) (ended_is end other f) fine)
 
-no_gate : (p : Program) (s : State) (what : Stepped) (new : State) (input : List ℕ) → ((number : ℕ) → what ≡ Gate number → ⊥) → acted p s what new input ≡ Goes new [] input
+no_gate : (p : Program) (s : State) (what : Stepped) (new : State) (input : List ℕ) → ((number : ℕ) → what ≡ Gate number → ⊥) → event_after_step p s what new input ≡ Goes new [] input
 no_gate p s Done new input h = refl
 no_gate p s (Call target ret) new input h = refl
 no_gate p s (Return to) new input h = refl
@@ -83,14 +83,14 @@ no_gate p s (Trap trap) new input h = refl
 no_gate p s (Gate number) new input h = absurd (h number refl)
 
 -- an instruction that is no gate
-pub plain_turned : (told before : Option (List ℕ)) (p : Program) (s : State) (what : Stepped) (new : State) → (Ok what, new) ≡ passed p s
+pub plain_turned : (told before : Option (List ℕ)) (p : Program) (s : State) (what : Stepped) (new : State) → (Ok what, new) ≡ pass_instruction p s
     → ((number : ℕ) → what ≡ Gate number → ⊥) → IfSome told (λ input. TurnedOnce p s input Went new told before before)
 plain_turned None before p s what new e h = tt
 plain_turned (Some input) before p s what new e h =
     outcome_turned p s input Went new before (event_is p s (Ok what, new) input e ∙ no_gate p s what new input h) (λ end f. went_ended end _ f)
 
 -- a gate of exceptions
-pub gate_turned : (told before : Option (List ℕ)) (p : Program) (s t new : State) (number : ℕ) (result : Turned) → (Ok (Gate number), t) ≡ passed p s
+pub gate_turned : (told before : Option (List ℕ)) (p : Program) (s t new : State) (number : ℕ) (result : Turned) → (Ok (Gate number), t) ≡ pass_instruction p s
     → nat_lt INPUT_GATE number ≡ true → (result, new) ≡ gate_of (program_tables p) number t.regs.pc s → ((end : End) → result ≡ Ended end → is_fault end ≡ false)
     → IfSome told (λ input. TurnedOnce p s input result new told before before)
 gate_turned None before p s t new number result e high g honest = tt
@@ -99,7 +99,7 @@ gate_turned (Some input) before p s t new number result e high g honest =
     (event_is p s (Ok (Gate number), t) input e ∙ rw high (ap (λ (o : Outcome). event_of o input) (sym g))) honest
 
 -- a gate of every machine, from what it did to the registers
-pub plain_gate_turned : (told left before now : Option (List ℕ)) (p : Program) (s t : State) (number : ℕ) (old regs : Regs) (result : Option End) → (Ok (Gate number), t) ≡ passed p s
+pub plain_gate_turned : (told left before now : Option (List ℕ)) (p : Program) (s t : State) (number : ℕ) (old regs : Regs) (result : Option End) → (Ok (Gate number), t) ≡ pass_instruction p s
     → nat_lt INPUT_GATE number ≡ false → old ≡ s.regs
     → IfSome told (λ input. MatchOption result (GoesOn (gate_event number old t.regs input) regs left before now)
     (λ end. EndsBy is_fault (gate_may_fail number) (gate_event number old t.regs input) end old regs input left before now))
@@ -126,7 +126,7 @@ plain_gate_turned (Some input) left before now p s t number old regs (Some end) 
 -- ---- as the calls are made: the registers before a gate are put back first
 
 pub gate_told : (told before : Option (List ℕ)) (p : Program) (s t new back : State) (number : ℕ) (result : Turned) (image : Image) (types : List Row)
-    → (Ok (Gate number), t) ≡ passed p s → nat_lt INPUT_GATE number ≡ true → (result, new) ≡ gate_of (tables_of image types) number t.regs.pc back
+    → (Ok (Gate number), t) ≡ pass_instruction p s → nat_lt INPUT_GATE number ≡ true → (result, new) ≡ gate_of (tables_of image types) number t.regs.pc back
     → image ≡ p.image → types ≡ p.types → back ≡ s → ((end : End) → result ≡ Ended end → is_fault end ≡ false)
     → IfSome told (λ input. TurnedOnce p s input result new told before before)
 gate_told told before p s t new back number result image types e high g ei et eb honest =
@@ -134,7 +134,7 @@ gate_told told before p s t new back number result image types e high g ei et eb
     (g ∙ ap (λ (i : Image). gate_of (tables_of i types) number t.regs.pc back) ei ∙ ap (λ (ts : List Row). gate_of (tables_of p.image ts) number t.regs.pc back) et
     ∙ ap (λ (b : State). gate_of (program_tables p) number t.regs.pc b) eb) honest
 
-pub plain_gate_told : (told left before now : Option (List ℕ)) (p : Program) (s t : State) (number pc : ℕ) (regs : Regs) (result : Option End) → (Ok (Gate number), t) ≡ passed p s
+pub plain_gate_told : (told left before now : Option (List ℕ)) (p : Program) (s t : State) (number pc : ℕ) (regs : Regs) (result : Option End) → (Ok (Gate number), t) ≡ pass_instruction p s
     → nat_lt INPUT_GATE number ≡ false → with_pc_of t pc ≡ s
     → IfSome told (λ input. let old : Regs = record t.regs { pc = pc } in
     MatchOption result (GoesOn (gate_event number old t.regs input) regs left before now)
@@ -146,8 +146,8 @@ plain_gate_told told left before now p s t number pc regs result e low back g =
     (λ end. TurnedOnce p s input (Ended end) (record b { regs = regs }) left before now))) (sym back)
     (plain_gate_turned told left before now p s t number (record t.regs { pc = pc }) regs result e low (ap (λ (b : State). b.regs) back) g)
 
-pub as_gate : (p : Program) (s t : State) (what : Stepped) (number : ℕ) → what ≡ Gate number → ◌≡◌ {A = Passed} (Ok what, t) (passed p s) → ◌≡◌ {A = Passed} (Ok (Gate number), t) (passed p s)
-as_gate p s t what number is e = let one : Stepped → Passed = λ w. (Ok w, t) in sym (ap one is) ∙ e
+pub as_gate : (p : Program) (s t : State) (what : Stepped) (number : ℕ) → what ≡ Gate number → ◌≡◌ {A = PassResult} (Ok what, t) (pass_instruction p s) → ◌≡◌ {A = PassResult} (Ok (Gate number), t) (pass_instruction p s)
+as_gate p s t what number is e = let one : Stepped → PassResult = λ w. (Ok w, t) in sym (ap one is) ∙ e
 
 pub ok_gate : (what : Stepped) (number : ℕ) → what ≡ Gate number → ◌≡◌ {A = Result Stepped End} (Ok what) (Ok (Gate number))
 ok_gate what number is = ap Ok is
@@ -159,23 +159,23 @@ given_none : (p : Program) (s : State) (result : Turned) (new : State) (before :
     → OnGiven (λ bytes left. TurnedOnce p s bytes result new left before before)
 given_none p s result new before t = record { bytes = []; left = []; are = All-nil (λ (b : ℕ). b < 256); done = t }
 
-pub given_end : (before : Option (List ℕ)) (p : Program) (s : State) (end : End) (new : State) → (Err end, new) ≡ passed p s → is_fault end ≡ false
+pub given_end : (before : Option (List ℕ)) (p : Program) (s : State) (end : End) (new : State) → (Err end, new) ≡ pass_instruction p s → is_fault end ≡ false
     → OnGiven (λ bytes left. TurnedOnce p s bytes (Ended end) new left before before)
 given_end before p s end new e fine = given_none p s (Ended end) new before (end_turned (Some []) before p s end new e fine)
 
-pub given_plain : (before : Option (List ℕ)) (p : Program) (s : State) (what : Stepped) (new : State) → (Ok what, new) ≡ passed p s
+pub given_plain : (before : Option (List ℕ)) (p : Program) (s : State) (what : Stepped) (new : State) → (Ok what, new) ≡ pass_instruction p s
     → ((number : ℕ) → what ≡ Gate number → ⊥) → OnGiven (λ bytes left. TurnedOnce p s bytes Went new left before before)
 given_plain before p s what new e h = given_none p s Went new before (plain_turned (Some []) before p s what new e h)
 
 pub given_gate_told : (before : Option (List ℕ)) (p : Program) (s t new back : State) (number : ℕ) (result : Turned) (image : Image) (types : List Row)
-    → (Ok (Gate number), t) ≡ passed p s → nat_lt INPUT_GATE number ≡ true → (result, new) ≡ gate_of (tables_of image types) number t.regs.pc back
+    → (Ok (Gate number), t) ≡ pass_instruction p s → nat_lt INPUT_GATE number ≡ true → (result, new) ≡ gate_of (tables_of image types) number t.regs.pc back
     → image ≡ p.image → types ≡ p.types → back ≡ s → ((end : End) → result ≡ Ended end → is_fault end ≡ false)
     → OnGiven (λ bytes left. TurnedOnce p s bytes result new left before before)
 given_gate_told before p s t new back number result image types e high g ei et eb honest =
     given_none p s result new before (gate_told (Some []) before p s t new back number result image types e high g ei et eb honest)
 
 -- a gate of every machine, which may be given a byte
-pub given_gate : (before now : Option (List ℕ)) (p : Program) (s t : State) (number pc : ℕ) (regs : Regs) (result : Option End) → (Ok (Gate number), t) ≡ passed p s
+pub given_gate : (before now : Option (List ℕ)) (p : Program) (s t : State) (number pc : ℕ) (regs : Regs) (result : Option End) → (Ok (Gate number), t) ≡ pass_instruction p s
     → nat_lt INPUT_GATE number ≡ false → with_pc_of t pc ≡ s
     → OnGiven (λ bytes left. let old : Regs = record t.regs { pc = pc } in
     MatchOption result (GoesOn (gate_event number old t.regs bytes) regs left before now)

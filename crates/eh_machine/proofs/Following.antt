@@ -3,12 +3,12 @@ use Rattle.std.proofs.Common.{◌≡◌, ℕ, Bool, true, false, List, slice_ind
 use Rattle.std.specs.Bool.{OnFalse, OnTrue}
 use Rattle.std.specs.Option.{option_or}
 use Rattle.std.specs.Io.KnownBytes.{Appends}
-use Rattle.machines_agree.specs.event_runs.Runs.{Event, Goes, Ends, GoesOn, Fails, EndsBy}
-use Rattle.guest_gates.specs.Ends.{is_fault}
+use Rattle.run_events.specs.Runs.{Event, Goes, Ends, GoesOn, Fails, EndsBy}
+use Rattle.run_gates.specs.Ends.{is_fault}
 use Rattle.thumb_core.specs.Outcome.{Outcome as Stepping}
 use Rattle.thumb_core.specs.Step.{step_for, instr_for}
 use Rattle.thumb_core.specs.declared.regs.TheConstants.{SP}
-use Rattle.step_ahead.specs.Ahead.{branches_some}
+use Rattle.thumb_ahead.specs.Ahead.{branches_some}
 use Rattle.thumb_core.specs.declared.regs.Regs.{Regs}
 use Rattle.thumb_core.specs.declared.regs.Stepped.{Stepped}
 use Rattle.thumb_core.specs.declared.regs.Stepped.TheVariants.{Done, Call, Return, Gate, Trap}
@@ -19,16 +19,16 @@ use Rattle.eh_gates.specs.declared.state.Turned.TheVariants.{Went, Ended}
 use Rattle.eh_gates.specs.State.{State}
 use Rattle.elf_image.specs.Image.{IsSound as IsImage}
 use Rattle.frame_check.specs.Accepts.{Accepted, IsSound}
-use Rattle.machines_agree.specs.two_machines.Program.{Program, profile_in}
-use Rattle.machines_agree.specs.two_machines.Machine as bytes
-use Rattle.machines_agree.specs.two_machines.Activations.{Recorded, reg_in, memory_of, bytes_of}
-use Rattle.machines_agree.specs.two_machines.ActivationMachine as acts
-use Rattle.machines_agree.specs.two_machines.ActivationLaws.{Matches, KnowsLanding}
-use Rattle.machines_agree.specs.two_machines.Checked.{program_of}
-use Rattle.machines_agree.proofs.two_machines.CallEvents.{knows}
-use Rattle.machines_agree.specs.stands_for.Stands.{Keeps, IsProgram, OnEvent}
-use Rattle.machines_agree.specs.Turned.{AreBytes}
-use Rattle.machines_agree.proofs.OneEvent.{turns}
+use Rattle.sim_machines.specs.Program.{Program, profile_in}
+use Rattle.sim_machines.specs.Machine as bytes
+use Rattle.sim_machines.specs.Activations.{Recorded, reg_in, memory_of, bytes_of}
+use Rattle.sim_machines.specs.ActivationMachine as acts
+use Rattle.sim_machines.specs.ActivationLaws.{Matches, KnowsLanding}
+use Rattle.sim_machines.specs.Checked.{program_of}
+use Rattle.sim_machines.proofs.CallEvents.{knows}
+use Rattle.sim_runs.specs.sim_relation.Stands.{Keeps, IsProgram, OnEvent}
+use Rattle.sim_runs.specs.Turned.{AreBytes}
+use Rattle.sim_runs.proofs.OneEvent.{turns}
 use Rattle.eh_machine.specs.Turns.{TurnedOnce}
 use Rattle.eh_machine.proofs.StartMaps.{starts_in_map}
 use Rattle.eh_machine.specs.Follows.{WentAlike, EndedAlike, TurnedAlike, FollowsOnce}
@@ -38,7 +38,7 @@ use Rattle.eh_machine.specs.Follows.{WentAlike, EndedAlike, TurnedAlike, Follows
 module _ (p : Program) (s : Recorded) (end : End) where
   -- no fault comes where no gate is
   never : (what : Stepped) (regs : Regs) (m : Memory) (o : Option End) → ((number : ℕ) → what ≡ Gate number → ⊥)
-      → (bytes.passed_fails (bytes.tested p (bytes_of s) what regs m o) end ≡ false) × (acts.passed_fails (acts.tested p s what regs m o) end ≡ false)
+      → (bytes.pass_fails (bytes.pass_tests p (bytes_of s) what regs m o) end ≡ false) × (acts.pass_fails (acts.pass_tests p s what regs m o) end ≡ false)
   never what regs m (Some why) none = (refl, refl)
   never Done regs m None none = (refl, refl)
   never (Call target ret) regs m None none = (refl, refl)
@@ -47,7 +47,7 @@ module _ (p : Program) (s : Recorded) (end : End) where
   never (Gate number) regs m None none = absurd (none number refl)
 
   gate_same : (number : ℕ) (regs : Regs) (m : Memory) (o : Option End)
-      → bytes.passed_fails (bytes.tested p (bytes_of s) (Gate number) regs m o) end ≡ acts.passed_fails (acts.tested p s (Gate number) regs m o) end
+      → bytes.pass_fails (bytes.pass_tests p (bytes_of s) (Gate number) regs m o) end ≡ acts.pass_fails (acts.pass_tests p s (Gate number) regs m o) end
   gate_same number regs m (Some why) = refl
   gate_same number regs m None = refl
 
@@ -55,30 +55,30 @@ module _ (p : Program) (s : Recorded) (end : End) where
   tests_same landing number regs =
       ap (λ (l : Option ℕ). option_or (bytes.sp_end (p.look s.regs.pc).lowers l s.home.0 s.regs.pc (reg_in s SP) (slice_index regs.r SP)) (bytes.control_flow_trap p (branches_some (instr_for (profile_in p) (memory_of s) s.regs.pc) s.regs) s.regs.pc (Gate number) regs)) landing
 
-  stepped_same : KnowsLanding s → (o : Stepping) → bytes.passed_fails (bytes.stepped p (bytes_of s) o) end ≡ acts.passed_fails (acts.stepped p s o) end
+  stepped_same : KnowsLanding s → (o : Stepping) → bytes.pass_fails (bytes.pass_step p (bytes_of s) o) end ≡ acts.pass_fails (acts.pass_step p s o) end
   stepped_same landing (Done, regs, m) =
       (never Done regs m (bytes.tests p (bytes_of s) Done regs) (λ n e. cc)).0 ∙ sym (never Done regs m (acts.tests p s Done regs) (λ n e. cc)).1
   stepped_same landing (Call target ret, regs, m) =
       (never (Call target ret) regs m (bytes.tests p (bytes_of s) (Call target ret) regs) (λ n e. cc)).0 ∙ sym (never (Call target ret) regs m (acts.tests p s (Call target ret) regs) (λ n e. cc)).1
   stepped_same landing (Return to, regs, m) =
-      let back = acts.returned s.first.caller regs in
+      let back = acts.caller_registers s.first.caller regs in
       (never (Return to) regs m (bytes.tests p (bytes_of s) (Return to) regs) (λ n e. cc)).0 ∙ sym (never (Return to) back m (acts.tests p s (Return to) back) (λ n e. cc)).1
   stepped_same landing (Gate number, regs, m) =
-      subst (λ (o : Option End). bytes.passed_fails (bytes.tested p (bytes_of s) (Gate number) regs m o) end ≡ acts.passed_fails (acts.with_tests p s (Gate number) regs m) end)
+      subst (λ (o : Option End). bytes.pass_fails (bytes.pass_tests p (bytes_of s) (Gate number) regs m o) end ≡ acts.pass_fails (acts.with_tests p s (Gate number) regs m) end)
       (sym (tests_same landing number regs)) (gate_same number regs m (acts.tests p s (Gate number) regs))
   stepped_same landing (Trap trap, regs, m) = trapped (acts.pops_back p s)
     where
-      trapped : (o : Option Regs) → false ≡ acts.passed_fails (acts.trapped_by p s trap o) end
+      trapped : (o : Option Regs) → false ≡ acts.pass_fails (acts.trap_or_return p s trap o) end
       trapped None = refl
       trapped (Some regs) =
-          let back = acts.returned s.first.caller regs in
+          let back = acts.caller_registers s.first.caller regs in
           sym (never (Return s.first.caller.back) back (memory_of s) (acts.tests p s (Return s.first.caller.back) back) (λ n e. cc)).1
 
   pub may_same : KnowsLanding s → bytes.may_fail p (bytes_of s) end ≡ acts.recorded_may_fail p s end
-  unfolding bytes.may_fail acts.recorded_may_fail bytes.passed acts.passed
+  unfolding bytes.may_fail acts.recorded_may_fail bytes.pass_instruction acts.pass_instruction
   may_same landing = by_check (p.look s.regs.pc).is_instr
     where
-      by_check : (b : Bool) → bytes.passed_fails (bytes.checked p (bytes_of s) b) end ≡ acts.passed_fails (acts.checked p s b) end
+      by_check : (b : Bool) → bytes.pass_fails (bytes.pass_if_checked p (bytes_of s) b) end ≡ acts.pass_fails (acts.pass_if_checked p s b) end
       by_check true = stepped_same landing (step_for (profile_in p) s.regs (memory_of s))
       by_check false = refl
 

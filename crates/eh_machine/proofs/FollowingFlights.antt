@@ -1,12 +1,12 @@
 -- The start of a run and a flight to a barrier, of an accepted image: the same with recorded activations.
 use Rattle.std.proofs.Common.{◌≡◌, ℕ, List, sym, ap, subst, ◌∙◌}
 use Rattle.elf_image.specs.Image.{Image, IsSound as IsImage}
-use Rattle.machines_agree.specs.eh_types.Graph.{Row}
+use Rattle.eh_types.specs.Graph.{Row}
 use Rattle.eh_bus.specs.Memory.{Memory}
 use Rattle.eh_cxa.specs.Runs.{no_globals}
 use Rattle.eh_cxa.specs.declared.globals.Globals.{Globals}
 use Rattle.eh_trace.specs.Trace.{Trace, no_events}
-use Rattle.image_memory.specs.Start.{start_regs, image_start}
+use Rattle.run_images.specs.Start.{start_regs, image_start}
 use Rattle.thumb_core.specs.declared.regs.Regs.{Regs}
 use Rattle.eh_cxa.specs.Words.{block}
 use Rattle.eh_cxa.proofs.Pools.{slot_block}
@@ -17,16 +17,16 @@ use Rattle.eh_gates.specs.declared.state.Turned.TheVariants.{Went, Ended}
 use Rattle.eh_gates.specs.State.{State, Outcome, tables_of}
 use Rattle.eh_gates.specs.Throwing.{throw_to}
 use Rattle.frame_check.specs.Accepts.{Accepted, IsSound}
-use Rattle.machines_agree.specs.two_machines.Program.{program_tables}
-use Rattle.machines_agree.specs.two_machines.Start.{start_of}
-use Rattle.machines_agree.specs.two_machines.Checked.{program_of}
-use Rattle.machines_agree.specs.two_machines.Activations.{Recorded, bytes_of}
-use Rattle.machines_agree.specs.two_machines.ActivationMachine as acts
-use Rattle.machines_agree.specs.two_machines.Corresponds.{OutcomesMatch}
-use Rattle.machines_agree.specs.stands_for.Stands.{Keeps, IsProgram}
-use Rattle.machines_agree.specs.resumes_keep.Flying.{fly_from, CanFly}
-use Rattle.machines_agree.proofs.stands_for.First.{starts_stand}
-use Rattle.machines_agree.proofs.resumes_keep.FlyFrom.{gates_fly, flights_match}
+use Rattle.sim_machines.specs.Program.{program_tables}
+use Rattle.sim_machines.specs.Start.{start_of}
+use Rattle.sim_machines.specs.Checked.{program_of}
+use Rattle.sim_machines.specs.Activations.{Recorded, bytes_of}
+use Rattle.sim_machines.specs.ActivationMachine as acts
+use Rattle.sim_machines.specs.Corresponds.{OutcomesMatch}
+use Rattle.sim_runs.specs.sim_relation.Stands.{Keeps, IsProgram}
+use Rattle.sim_runs.specs.sim_resumes.Flying.{fly_from, CanFly}
+use Rattle.sim_runs.proofs.sim_relation.First.{starts_stand}
+use Rattle.sim_runs.proofs.sim_resumes.FlyFrom.{gates_fly, flights_match}
 use Rattle.eh_machine.specs.Follows.{StartsAlike, FlownAlike, FollowsFlight}
 use Rattle.eh_machine.proofs.Following.{accepted_is}
 

@@ -3,54 +3,54 @@ use Rattle.std.specs.Prelude.{option_map}
 use Rattle.std.proofs.Common.{◌≡◌, ℕ, zero, suc, Bool, true, false, List, ◌++◌, Option, Some, None, IfSome, refl, sym, ap, subst, ◌∙◌}
 use Rattle.std.specs.Io.KnownBytes.{Appends}
 use Rattle.eh_port.specs.Writing.{AppendsPart}
-use Rattle.machines_agree.specs.event_runs.Runs.{Event, Goes, Ends, Reached, prepended, reached, reached_after, ran_of, StopsAt, Runs}
-use Rattle.machines_agree.specs.event_runs.Laws.{SameRan}
-use Rattle.guest_gates.specs.Ends.{is_fault}
+use Rattle.run_events.specs.Runs.{Event, Goes, Ends, ReachedState, prepend_reached, reach_state, reach_after, machine_run, StopsAt, Runs}
+use Rattle.run_events.specs.Laws.{SameRan}
+use Rattle.run_gates.specs.Ends.{is_fault}
 use Rattle.thumb_core.specs.declared.ends.End.{End}
 use Rattle.thumb_core.specs.declared.ends.End.TheVariants.{Budget}
 use Rattle.eh_gates.specs.State.{State}
 use Rattle.elf_image.specs.Image.{IsSound as IsImage}
 use Rattle.frame_check.specs.Accepts.{Accepted, IsSound}
-use Rattle.machines_agree.specs.two_machines.Machine.{machine_event, machine_of, may_fail}
-use Rattle.machines_agree.specs.two_machines.Activations.{Recorded, bytes_of}
-use Rattle.machines_agree.specs.two_machines.ActivationMachine.{recorded_event, recorded_may_fail, recorded_machine}
-use Rattle.machines_agree.specs.two_machines.Checked.{program_of}
-use Rattle.machines_agree.proofs.two_machines.CallEvents.{knows}
-use Rattle.machines_agree.specs.stands_for.Stands.{Keeps, StandsFor, IsProgram}
-use Rattle.machines_agree.specs.Turned.{AreBytes}
-use Rattle.machines_agree.proofs.RunsOn.{AlikeOn, same_on}
-use Rattle.machines_agree.proofs.WholeRuns.{alike}
+use Rattle.sim_machines.specs.Machine.{machine_event, machine_of, may_fail}
+use Rattle.sim_machines.specs.Activations.{Recorded, bytes_of}
+use Rattle.sim_machines.specs.ActivationMachine.{recorded_event, recorded_may_fail, recorded_machine}
+use Rattle.sim_machines.specs.Checked.{program_of}
+use Rattle.sim_machines.proofs.CallEvents.{knows}
+use Rattle.sim_runs.specs.sim_relation.Stands.{Keeps, StandsFor, IsProgram}
+use Rattle.sim_runs.specs.Turned.{AreBytes}
+use Rattle.sim_runs.proofs.RunsOn.{AlikeOn, same_on}
+use Rattle.sim_runs.proofs.WholeRuns.{alike}
 use Rattle.eh_machine.specs.Follows.{RanAlike, FollowsRun}
 use Rattle.eh_machine.proofs.Following.{accepted_is, may_same, at_false, at_true, if_false, if_true, no_false, no_true}
 
 -- ---- so many events that all went
 
 module _ (S T E : Type 0) (Fits : List ℕ → Type 0) (Related : S → T → Type 0) where
-  abbrev ReachedAlike : Option (Reached S) → Option (Reached T) → Type 0
+  abbrev ReachedAlike : Option (ReachedState S) → Option (ReachedState T) → Type 0
   ReachedAlike None None = Unit {0}
   ReachedAlike (Some a) (Some b) = (a.text ≡ b.text) × (a.left ≡ b.left) × Related a.state b.state
   ReachedAlike None (Some b) = ⊥
   ReachedAlike (Some a) None = ⊥
 
-  after_alike : (text : List ℕ) (o : Option (Reached S)) (q : Option (Reached T)) → ReachedAlike o q → ReachedAlike (option_map (prepended text) o) (option_map (prepended text) q)
+  after_alike : (text : List ℕ) (o : Option (ReachedState S)) (q : Option (ReachedState T)) → ReachedAlike o q → ReachedAlike (option_map (prepend_reached text) o) (option_map (prepend_reached text) q)
   after_alike text None None h = tt
   after_alike text (Some a) (Some b) h = (ap (λ y. text ++ y) h.0, h.1, h.2)
   after_alike text None (Some b) h = absurd h
   after_alike text (Some a) None h = absurd h
 
   module _ (one : S → List ℕ → Event S E) (two : T → List ℕ → Event T E) (alike : (s : S) (t : T) (input : List ℕ) → Fits input → Related s t → AlikeOn S T E Fits Related (one s input) (two t input)) where
-    pub reached_on : (n : ℕ) (s : S) (t : T) (input : List ℕ) → Fits input → Related s t → ReachedAlike (reached one n s input) (reached two n t input)
-    unfolding reached
+    pub reached_on : (n : ℕ) (s : S) (t : T) (input : List ℕ) → Fits input → Related s t → ReachedAlike (reach_state one n s input) (reach_state two n t input)
+    unfolding reach_state
     reached_on zero s t input f r = (refl, refl, r)
     reached_on (suc n) s t input f r = go (one s input) (two t input) (alike s t input f r) (reached_on n)
       where
         go : (e : Event S E) (d : Event T E) → AlikeOn S T E Fits Related e d
-            → ((s : S) (t : T) (input : List ℕ) → Fits input → Related s t → ReachedAlike (reached one n s input) (reached two n t input))
-            → ReachedAlike (reached_after e (reached one n)) (reached_after d (reached two n))
+            → ((s : S) (t : T) (input : List ℕ) → Fits input → Related s t → ReachedAlike (reach_state one n s input) (reach_state two n t input))
+            → ReachedAlike (reach_after e (reach_state one n)) (reach_after d (reach_state two n))
         go (Goes u text left) (Goes v said rest) a next =
-            subst (λ (y : List ℕ). ReachedAlike (option_map (prepended text) (reached one n u left)) (option_map (prepended y) (reached two n v rest))) a.1
-            (subst (λ (y : List ℕ). ReachedAlike (option_map (prepended text) (reached one n u left)) (option_map (prepended text) (reached two n v y))) a.2
-            (after_alike text (reached one n u left) (reached two n v left) (next u v left a.3 a.0)))
+            subst (λ (y : List ℕ). ReachedAlike (option_map (prepend_reached text) (reach_state one n u left)) (option_map (prepend_reached y) (reach_state two n v rest))) a.1
+            (subst (λ (y : List ℕ). ReachedAlike (option_map (prepend_reached text) (reach_state one n u left)) (option_map (prepend_reached text) (reach_state two n v y))) a.2
+            (after_alike text (reach_state one n u left) (reach_state two n v left) (next u v left a.3 a.0)))
         go (Ends end u) (Ends why v) a next = tt
         go (Goes u text left) (Ends why v) a next = absurd a
         go (Ends end u) (Goes v said rest) a next = absurd a
@@ -61,7 +61,7 @@ module _ (x : Accepted) (is : IsProgram x) (n : ℕ) (s : Recorded) (k : Keeps x
   first : StandsFor x (bytes_of s) s
   first = record { same = refl; keeps = k }
 
-  same : SameRan (StandsFor x) (ran_of (machine_of (program_of x)) n (bytes_of s) input) (ran_of (recorded_machine (program_of x)) n s input)
+  same : SameRan (StandsFor x) (machine_run (machine_of (program_of x)) n (bytes_of s) input) (machine_run (recorded_machine (program_of x)) n s input)
   same = (same_on State Recorded End AreBytes (StandsFor x) (machine_event (program_of x)) (recorded_event (program_of x)) Budget (alike x is) n (bytes_of s) s input fits first).same
 
   whole : is_fault end ≡ false → Runs (machine_of (program_of x)) n (bytes_of s) input end new unspent left before now → RanAlike x n s input end new unspent left before now
@@ -69,7 +69,7 @@ module _ (x : Accepted) (is : IsProgram x) (n : ℕ) (s : Recorded) (k : Keeps x
       let w = same in
       let b = is_fault end in
       record {
-        state = (ran_of (recorded_machine (program_of x)) n s input).state;
+        state = (machine_run (recorded_machine (program_of x)) n s input).state;
         runs = record {
           part = subst (λ (text : List ℕ). AppendsPart before now text) w.text r.part;
           ends = if_false b _ (at_false b _ e r.ends ∙ w.end);
@@ -79,17 +79,17 @@ module _ (x : Accepted) (is : IsProgram x) (n : ℕ) (s : Recorded) (k : Keeps x
           wrote = if_false b _ (subst (λ (text : List ℕ). Appends before now text) w.text (at_false b _ e r.wrote));
           stopped = no_true b _ e;
         };
-        stands = subst (λ (c : State). StandsFor x c (ran_of (recorded_machine (program_of x)) n s input).state) (sym (at_false b _ e r.state_is)) w.state;
+        stands = subst (λ (c : State). StandsFor x c (machine_run (recorded_machine (program_of x)) n s input).state) (sym (at_false b _ e r.state_is)) w.state;
       }
 
   stopped : is_fault end ≡ true → Runs (machine_of (program_of x)) n (bytes_of s) input end new unspent left before now → RanAlike x n s input end new unspent left before now
   stopped e r =
       let at : StopsAt (machine_of (program_of x)) n (bytes_of s) input end new unspent left before now = at_true (is_fault end) _ e r.stopped in
       let alike_there = reached_on State Recorded End AreBytes (StandsFor x) (machine_event (program_of x)) (recorded_event (program_of x)) (alike x is) at.count (bytes_of s) s input fits first in
-      go at (reached (recorded_event (program_of x)) at.count s input) refl
-      (subst (λ (o : Option (Reached State)). ReachedAlike State Recorded End AreBytes (StandsFor x) o (reached (recorded_event (program_of x)) at.count s input)) at.went alike_there)
+      go at (reach_state (recorded_event (program_of x)) at.count s input) refl
+      (subst (λ (o : Option (ReachedState State)). ReachedAlike State Recorded End AreBytes (StandsFor x) o (reach_state (recorded_event (program_of x)) at.count s input)) at.went alike_there)
     where
-      go : (at : StopsAt (machine_of (program_of x)) n (bytes_of s) input end new unspent left before now) (o : Option (Reached Recorded)) → reached (recorded_event (program_of x)) at.count s input ≡ o
+      go : (at : StopsAt (machine_of (program_of x)) n (bytes_of s) input end new unspent left before now) (o : Option (ReachedState Recorded)) → reach_state (recorded_event (program_of x)) at.count s input ≡ o
           → ReachedAlike State Recorded End AreBytes (StandsFor x) (Some (record { text = at.text; state = new; left = at.rest })) o → RanAlike x n s input end new unspent left before now
       go at None q a = absurd a
       go at (Some u) q a =

@@ -1,13 +1,3 @@
-pub use Rattle.machines_agree.proofs.flow
-pub use Rattle.machines_agree.proofs.accepted_code
-pub use Rattle.machines_agree.proofs.two_machines
-pub use Rattle.machines_agree.proofs.stands_for
-pub use Rattle.machines_agree.proofs.steps_keep
-pub use Rattle.machines_agree.proofs.frames_same
-pub use Rattle.machines_agree.proofs.throws_keep
-pub use Rattle.machines_agree.proofs.resumes_keep
-pub use Rattle.machines_agree.proofs.event_runs
-pub mod machines_agree
 pub mod Events
 pub mod Saved
 pub mod Passing
@@ -18,3 +8,7 @@ mod StartMaps
 pub mod Following
 pub mod FollowingRuns
 pub mod FollowingFlights
+pub mod sim_frames
+pub mod sim_resumes
+pub mod sim_runs
+pub mod sim_throws

@@ -4,14 +4,14 @@ use Rattle.std.proofs.lemmas.Bool.{ltb-false, le-ltb}
 use Rattle.std.proofs.lemmas.List.{get_or-set_other}
 use Rattle.std.proofs.Math.Nat.{le_trans}
 use Rattle.std.specs.Option.{option_or}
-use Rattle.eh_bus.specs.Memory.{Memory, guard_all, released}
+use Rattle.eh_bus.specs.Memory.{Memory, guard_all, without_guards_below}
 use Rattle.eh_bus.specs.Map.{IsMap}
 use Rattle.eh_bus.specs.declared.fault.BusFault.{BusFault}
 use Rattle.eh_bus.specs.declared.fault.BusFault.TheVariants as bus
 use Rattle.eh_cxa.specs.Words.{Pool, word, block_slot}
 use Rattle.eh_cxa.specs.declared.globals.Globals.{Globals}
 use Rattle.eh_cxa.specs.Cleanup.{innermost_of}
-use Rattle.guest_gates.specs.Ends.{bus_end, trap_end, is_fault}
+use Rattle.run_gates.specs.Ends.{bus_end, trap_end, is_fault}
 use Rattle.thumb_isa.specs.Range.{InRange}
 use Rattle.thumb_isa.specs.declared.instr.Instr.{Instr}
 use Rattle.thumb_isa.specs.declared.instr.Instr.TheVariants.{ShiftImm, AddSubReg, AddSubImm3, Imm8, Alu, CmpHigh, Adr, AddRdSp, AddSp, SubSp, Extend, Rev, Hint, Barrier, MovW, MovT, Div, AddHigh, MovHigh, BCond, Cbz, B, BWide, Bl, Blx, Bx, Svc, LdrLit, MemReg, MemImm, MemSp, Push, Pop, Stm, Ldm}
@@ -31,23 +31,23 @@ use Rattle.thumb_core.specs.declared.regs.Stepped.TheVariants.{Done, Call, Retur
 use Rattle.thumb_core.specs.declared.ends.TrapKind.TheVariants as kind
 use Rattle.thumb_core.specs.declared.ends.End.{End}
 use Rattle.thumb_core.specs.declared.ends.End.TheVariants as the_end
-use Rattle.step_ahead.specs.declared.undo_record.UndoRecord.{UndoRecord}
-use Rattle.step_ahead.specs.declared.undo_record.UndoRecord.TheVariants.{Nothing}
-use Rattle.step_ahead.specs.Ahead.{branches, branches_some, pushed, pushes_some, is_fall_through, IsAhead, IsFallThrough, IsJump}
-use Rattle.step_ahead.specs.declared.instruction.Ahead.{Ahead as Told}
-use Rattle.step_ahead.specs.UndoRecord.{restore, Restores, InStack, lowest}
-use Rattle.step_ahead.proofs.Stored.{AreWords, OnGo, on_go, step_is, effect_pushed, nothing_back}
-use Rattle.step_ahead.proofs.Straight.{GoesOn, effect_goes}
+use Rattle.thumb_ahead.specs.declared.undo_record.UndoRecord.{UndoRecord}
+use Rattle.thumb_ahead.specs.declared.undo_record.UndoRecord.TheVariants.{Nothing}
+use Rattle.thumb_ahead.specs.Ahead.{branches, branches_some, pushed_registers, pushes_some, is_fall_through, IsAhead, IsFallThrough, IsJump}
+use Rattle.thumb_ahead.specs.declared.instruction.Ahead.{Ahead as Told}
+use Rattle.thumb_ahead.specs.UndoRecord.{restore, Restores, InStack, lowest}
+use Rattle.thumb_ahead.proofs.Stored.{AreWords, OnGo, on_go, step_is, effect_pushed, nothing_back}
+use Rattle.thumb_ahead.proofs.Straight.{GoesOn, effect_goes}
 use Rattle.eh_trace.specs.Trace.{Trace}
 use Rattle.eh_gates.specs.declared.state.Core.{Core}
 use Rattle.eh_gates.specs.State.{State, state_of, reg}
 use Rattle.frame_check.specs.Accepts.{Accepted}
-use Rattle.machines_agree.specs.two_machines.Program.{Program, profile_in}
-use Rattle.machines_agree.specs.two_machines.Checked.{program_of}
-use Rattle.image_memory.specs.Profiles.{profile_of}
-use Rattle.eh_machine.specs.Passes.{Passes, Tried, IsFetched, goes_to}
-use Rattle.eh_machine.specs.declared.pass.Fetched.{Fetched}
-use Rattle.machines_agree.specs.two_machines.Machine.{Passed, raises, leaves_cleanup, control_flow_trap, refusal, tests, reguarded, reguarded_at, saved_words, tested, stepped, passed, with_pc_of}
+use Rattle.sim_machines.specs.Program.{Program, profile_in}
+use Rattle.sim_machines.specs.Checked.{program_of}
+use Rattle.run_images.specs.Profiles.{profile_of}
+use Rattle.eh_machine.specs.Passes.{Passes, TriesInstruction, IsFetched, next_address}
+use Rattle.eh_machine.specs.declared.pass.CheckedInstr.{CheckedInstr}
+use Rattle.sim_machines.specs.Machine.{PassResult, is_raised, leaves_cleanup, control_flow_trap, refusal, tests, update_guards, update_guards_at, saved_words, pass_tests, pass_step, pass_instruction, with_pc_of}
 
 -- ---- what a call has done, by its end
 
@@ -71,21 +71,21 @@ pub by_trap : (trap : CoreTrap) (pc : ℕ) (end : End) → end ≡ trap_end trap
 by_trap trap pc end e = ap is_fault e ∙ trap_inside trap pc
 
 module _ (p : Program) (before : Core) (m : Memory) (after : Core) (new : Memory) where
-  pub ended : (end : End) → ((events : Trace) → ◌≡◌ {A = Passed} (Err end, state_of after new events) (passed p (state_of before m events))) → is_fault end ≡ false
+  pub ended : (end : End) → ((events : Trace) → ◌≡◌ {A = PassResult} (Err end, state_of after new events) (pass_instruction p (state_of before m events))) → is_fault end ≡ false
       → Passes p before m (Err end) after new
   ended end does inside = record { does = does; inside = inside; gate = λ number events e. absurd (cc) }
 
-  pub went_on : (what : Stepped) → ((events : Trace) → ◌≡◌ {A = Passed} (Ok what, state_of after new events) (passed p (state_of before m events)))
+  pub went_on : (what : Stepped) → ((events : Trace) → ◌≡◌ {A = PassResult} (Ok what, state_of after new events) (pass_instruction p (state_of before m events)))
       → ((number : ℕ) (events : Trace) → ◌≡◌ {A = Result Stepped End} (Ok what) (Ok (Gate number)) → with_pc_of (state_of after new events) before.regs.pc ≡ state_of before m events)
       → Passes p before m (Ok what) after new
   went_on what does gate = record { does = does; inside = tt; gate = gate }
 
   -- an instruction that was tried and done
-  pub was_done : (what : Stepped) → ((number : ℕ) → what ≡ Gate number → ⊥) → Passes p before m (Ok what) after new → Tried p before m true after new
+  pub was_done : (what : Stepped) → ((number : ℕ) → what ≡ Gate number → ⊥) → Passes p before m (Ok what) after new → TriesInstruction p before m true after new
   was_done what never h = record { done = λ e. record { what = what; no_gate = never; passes = h }; left = λ e. absurd (cc) }
 
   -- one that wasn't
-  pub was_left : after ≡ before → new ≡ m → Tried p before m false after new
+  pub was_left : after ≡ before → new ≡ m → TriesInstruction p before m false after new
   was_left core memory = record { done = λ e. absurd (cc); left = λ e. (core, memory) }
 
 -- ---- after a call that changed nothing
@@ -93,7 +93,7 @@ module _ (p : Program) (before : Core) (m : Memory) (after : Core) (new : Memory
 pub same_state : (core before : Core) (m n : Memory) (events : Trace) → (before ≡ core) × (n ≡ m) → state_of before n events ≡ state_of core m events
 same_state core before m n events same = ap (λ (c : Core). state_of c n events) same.0 ∙ ap (λ (k : Memory). state_of core k events) same.1
 
-pub same_fetched : (p : Program) (core before : Core) (m n : Memory) (at : Fetched) → (before ≡ core) × (n ≡ m) → IsFetched p core.regs.pc m at → IsFetched p before.regs.pc n at
+pub same_fetched : (p : Program) (core before : Core) (m n : Memory) (at : CheckedInstr) → (before ≡ core) × (n ≡ m) → IsFetched p core.regs.pc m at → IsFetched p before.regs.pc n at
 same_fetched p core before m n at same is = subst (λ (c : Core). IsFetched p c.regs.pc n at) (sym same.0) (subst (λ (k : Memory). IsFetched p core.regs.pc k at) (sym same.1) is)
 
 pub same_told : (i : Instr) (ahead : Told) (core before : Core) → before ≡ core → IsAhead i core.regs ahead → IsAhead i before.regs ahead
@@ -104,44 +104,44 @@ abbrev pub Goes : Stepped → Type 0
 Goes what = (trap : CoreTrap) → what ≡ Trap trap → ⊥
 
 module _ (p : Program) (s : State) where
-  pub unchecked : (p.look s.regs.pc).is_instr ≡ false → ◌≡◌ {A = Passed} (Err (the_end.Trap kind.FellOff s.regs.pc s.regs.pc), s) (passed p s)
-  unfolding passed
+  pub unchecked : (p.look s.regs.pc).is_instr ≡ false → ◌≡◌ {A = PassResult} (Err (the_end.Trap kind.FellOff s.regs.pc s.regs.pc), s) (pass_instruction p s)
+  unfolding pass_instruction
   unchecked e = rw e refl
 
-  is_checked : (o : Stepping) → (p.look s.regs.pc).is_instr ≡ true → o ≡ step_for (profile_in p) s.regs s.memory → stepped p s o ≡ passed p s
-  unfolding passed
-  is_checked o e f = rw e (ap (stepped p s) f)
+  is_checked : (o : Stepping) → (p.look s.regs.pc).is_instr ≡ true → o ≡ step_for (profile_in p) s.regs s.memory → pass_step p s o ≡ pass_instruction p s
+  unfolding pass_instruction
+  is_checked o e f = rw e (ap (pass_step p s) f)
 
   -- a trap of the instruction, which left registers and memory
   pub trap_passes : (trap : CoreTrap) (regs : Regs) (m : Memory) (end : End) → (p.look s.regs.pc).is_instr ≡ true → (Trap trap, regs, m) ≡ step_for (profile_in p) s.regs s.memory
-      → regs ≡ s.regs → m ≡ s.memory → end ≡ trap_end trap s.regs.pc → ◌≡◌ {A = Passed} (Err end, record s { regs = regs; memory = m }) (passed p s)
+      → regs ≡ s.regs → m ≡ s.memory → end ≡ trap_end trap s.regs.pc → ◌≡◌ {A = PassResult} (Err end, record s { regs = regs; memory = m }) (pass_instruction p s)
   trap_passes trap regs m end e f er em ee =
-      let one : Regs → Passed = λ r. (Err end, record s { regs = r; memory = m }) in
-      let two : Memory → Passed = λ n. (Err end, record s { memory = n }) in
-      let three : End → Passed = λ x. (Err x, s) in
+      let one : Regs → PassResult = λ r. (Err end, record s { regs = r; memory = m }) in
+      let two : Memory → PassResult = λ n. (Err end, record s { memory = n }) in
+      let three : End → PassResult = λ x. (Err x, s) in
       ap one er ∙ ap two em ∙ ap three ee ∙ is_checked (Trap trap, regs, m) e f
 
   module _ (what : Stepped) (regs : Regs) (m : Memory) (e : (p.look s.regs.pc).is_instr ≡ true) (f : (what, regs, m) ≡ step_for (profile_in p) s.regs s.memory) (h : Goes what) where
-    goes : (w : Stepped) → Goes w → stepped p s (w, regs, m) ≡ tested p s w regs m (tests p s w regs)
+    goes : (w : Stepped) → Goes w → pass_step p s (w, regs, m) ≡ pass_tests p s w regs m (tests p s w regs)
     goes Done h = refl
     goes (Call target ret) h = refl
     goes (Return to) h = refl
     goes (Gate number) h = refl
     goes (Trap trap) h = absurd (h trap refl)
 
-    is_tested : (o : Option End) → tests p s what regs ≡ o → tested p s what regs m o ≡ passed p s
-    is_tested o g = sym (goes what h ∙ ap (tested p s what regs m) g) ∙ is_checked (what, regs, m) e f
+    is_tested : (o : Option End) → tests p s what regs ≡ o → pass_tests p s what regs m o ≡ pass_instruction p s
+    is_tested o g = sym (goes what h ∙ ap (pass_tests p s what regs m) g) ∙ is_checked (what, regs, m) e f
 
     -- a test ended the run, and registers and memory are back
-    pub refused_passes : (end : End) (back : Memory) → tests p s what regs ≡ Some end → back ≡ s.memory → ◌≡◌ {A = Passed} (Err end, record s { memory = back }) (passed p s)
+    pub refused_passes : (end : End) (back : Memory) → tests p s what regs ≡ Some end → back ≡ s.memory → ◌≡◌ {A = PassResult} (Err end, record s { memory = back }) (pass_instruction p s)
     refused_passes end back g em =
-        let two : Memory → Passed = λ n. (Err end, record s { memory = n }) in
+        let two : Memory → PassResult = λ n. (Err end, record s { memory = n }) in
         ap two em ∙ is_tested (Some end) g
 
     -- no test did
-    pub tested_passes : (new : Memory) → tests p s what regs ≡ None → new ≡ reguarded_at p s regs m → ◌≡◌ {A = Passed} (Ok what, record s { regs = regs; memory = new }) (passed p s)
+    pub tested_passes : (new : Memory) → tests p s what regs ≡ None → new ≡ update_guards_at p s regs m → ◌≡◌ {A = PassResult} (Ok what, record s { regs = regs; memory = new }) (pass_instruction p s)
     tested_passes new g en =
-        let two : Memory → Passed = λ n. (Ok what, record s { regs = regs; memory = n }) in
+        let two : Memory → PassResult = λ n. (Ok what, record s { regs = regs; memory = n }) in
         ap two en ∙ is_tested None g
 
     -- what was kept gives the memory back
@@ -171,45 +171,45 @@ tests_are p s what regs landing low branches o el eh eb eo =
 
 -- the guards, from what was told of the instruction
 pub reguarded_is : (p : Program) (s : State) (regs : Regs) (m new : Memory) (saves count old sp : ℕ) → saves ≡ (p.look s.regs.pc).saves → count ≡ pushes_some (instr_for (profile_in p) s.memory s.regs.pc)
-    → old ≡ reg s SP → sp ≡ slice_index regs.r SP → new ≡ reguarded saves count old sp m → new ≡ reguarded_at p s regs m
+    → old ≡ reg s SP → sp ≡ slice_index regs.r SP → new ≡ update_guards saves count old sp m → new ≡ update_guards_at p s regs m
 reguarded_is p s regs m new saves count old sp ea ec eo es e =
-    e ∙ ap (λ (n : ℕ). reguarded n count old sp m) ea ∙ ap (λ (n : ℕ). reguarded (p.look s.regs.pc).saves n old sp m) ec
-    ∙ ap (λ (n : ℕ). reguarded (p.look s.regs.pc).saves (pushes_some (instr_for (profile_in p) s.memory s.regs.pc)) n sp m) eo
-    ∙ ap (λ (n : ℕ). reguarded (p.look s.regs.pc).saves (pushes_some (instr_for (profile_in p) s.memory s.regs.pc)) (reg s SP) n m) es
+    e ∙ ap (λ (n : ℕ). update_guards n count old sp m) ea ∙ ap (λ (n : ℕ). update_guards (p.look s.regs.pc).saves n old sp m) ec
+    ∙ ap (λ (n : ℕ). update_guards (p.look s.regs.pc).saves (pushes_some (instr_for (profile_in p) s.memory s.regs.pc)) n sp m) eo
+    ∙ ap (λ (n : ℕ). update_guards (p.look s.regs.pc).saves (pushes_some (instr_for (profile_in p) s.memory s.regs.pc)) (reg s SP) n m) es
 
 -- sp does not rise: the words of a push are guarded
 pub guarded_is : (p : Program) (s : State) (regs : Regs) (m new : Memory) (saves count sp : ℕ) → saves ≡ (p.look s.regs.pc).saves → count ≡ pushes_some (instr_for (profile_in p) s.memory s.regs.pc)
-    → sp ≡ slice_index regs.r SP → slice_index regs.r SP ≤ reg s SP → new ≡ guard_all (saved_words saves count sp) m → new ≡ reguarded_at p s regs m
+    → sp ≡ slice_index regs.r SP → slice_index regs.r SP ≤ reg s SP → new ≡ guard_all (saved_words saves count sp) m → new ≡ update_guards_at p s regs m
 guarded_is p s regs m new saves count sp ea ec es high e =
     e ∙ ap (λ (n : ℕ). guard_all (saved_words n count sp) m) ea ∙ ap (λ (n : ℕ). guard_all (saved_words (p.look s.regs.pc).saves n sp) m) ec
     ∙ ap (λ (n : ℕ). guard_all (saved_words (p.look s.regs.pc).saves (pushes_some (instr_for (profile_in p) s.memory s.regs.pc)) n) m) es
     ∙ sym (go (nat_lt (reg s SP) (slice_index regs.r SP)) (le-ltb (reg s SP) (slice_index regs.r SP) high)
     (guard_all (saved_words (p.look s.regs.pc).saves (pushes_some (instr_for (profile_in p) s.memory s.regs.pc)) (slice_index regs.r SP)) m))
   where
-    go : (b : Bool) → b ≡ false → (guards : Memory) → cond b (released guards (slice_index regs.r SP)) guards ≡ guards
+    go : (b : Bool) → b ≡ false → (guards : Memory) → cond b (without_guards_below guards (slice_index regs.r SP)) guards ≡ guards
     go true f guards = absurd (cc)
     go false f guards = refl
 
 -- no word is pushed and sp stays: the guards stay
-pub reguarded_none : (saves sp : ℕ) (m : Memory) → reguarded saves 0 sp sp m ≡ m
+pub reguarded_none : (saves sp : ℕ) (m : Memory) → update_guards saves 0 sp sp m ≡ m
 reguarded_none saves sp m = go (nat_lt sp sp) (not_below sp)
   where
     not_below : (n : ℕ) → nat_lt n n ≡ false
     not_below n = grind (arith)
 
-    go : (b : Bool) → b ≡ false → cond b (released m sp) m ≡ m
+    go : (b : Bool) → b ≡ false → cond b (without_guards_below m sp) m ≡ m
     go true e = absurd (cc)
     go false e = refl
 
 -- at a gate
 pub gate_stays : (p : Program) (saves count old sp number : ℕ) (s : State) (regs : Regs) (m new : Memory) → Leaves (instr_for (profile_in p) s.memory s.regs.pc) (Gate number) s.regs s.memory regs → m ≡ s.memory
-    → count ≡ pushes_some (instr_for (profile_in p) s.memory s.regs.pc) → old ≡ reg s SP → sp ≡ slice_index regs.r SP → new ≡ reguarded saves count old sp m
+    → count ≡ pushes_some (instr_for (profile_in p) s.memory s.regs.pc) → old ≡ reg s SP → sp ≡ slice_index regs.r SP → new ≡ update_guards saves count old sp m
     → with_pc_of (record s { regs = regs; memory = new }) s.regs.pc ≡ s
 gate_stays p saves count old sp number s regs m new l em ec eo es en =
     let none : count ≡ 0 = ec ∙ ap pushes_some l.1 in
     let same : sp ≡ reg s SP = es ∙ ap (λ (r : Regs). slice_index r.r SP) l.2 in
     let kept : new ≡ s.memory =
-    en ∙ ap (λ (n : ℕ). reguarded saves n old sp m) none ∙ ap (λ (n : ℕ). reguarded saves 0 n sp m) eo ∙ ap (λ (n : ℕ). reguarded saves 0 (reg s SP) n m) same
+    en ∙ ap (λ (n : ℕ). update_guards saves n old sp m) none ∙ ap (λ (n : ℕ). update_guards saves 0 n sp m) eo ∙ ap (λ (n : ℕ). update_guards saves 0 (reg s SP) n m) same
     ∙ reguarded_none saves (reg s SP) m ∙ em in
     let one : Regs → State = λ r. with_pc_of (record s { regs = r; memory = new }) s.regs.pc in
     let two : Memory → State = λ n. record s { memory = n } in
@@ -234,7 +234,7 @@ not_gate i size (Trap trap) regs m after l never number e = absurd (cc)
 
 pub gate_passes : (p : Program) (what : Stepped) (saves count old sp number : ℕ) (s : State) (regs : Regs) (m new : Memory) → what ≡ Gate number
     → Leaves (instr_for (profile_in p) s.memory s.regs.pc) what s.regs s.memory regs → LeavesMemory what s.memory m
-    → count ≡ pushes_some (instr_for (profile_in p) s.memory s.regs.pc) → old ≡ reg s SP → sp ≡ slice_index regs.r SP → new ≡ reguarded saves count old sp m
+    → count ≡ pushes_some (instr_for (profile_in p) s.memory s.regs.pc) → old ≡ reg s SP → sp ≡ slice_index regs.r SP → new ≡ update_guards saves count old sp m
     → with_pc_of (record s { regs = regs; memory = new }) s.regs.pc ≡ s
 gate_passes p what saves count old sp number s regs m new e l lm ec eo es en =
     gate_stays p saves count old sp number s regs m new (subst (λ (w : Stepped). Leaves (instr_for (profile_in p) s.memory s.regs.pc) w s.regs s.memory regs) e l)
@@ -244,7 +244,7 @@ gate_passes p what saves count old sp number s regs m new e l lm ec eo es en =
 pub above_low : (p : Program) (landing : Option ℕ) (low : ℕ) (at : ℕ × ℕ) (branches : Bool) (what : Stepped) (regs : Regs) → refusal p (landing, low) at branches what regs ≡ None
     → low ≤ slice_index regs.r SP
 above_low p landing low at branches what regs e =
-    go (raises (p.look at.0).lowers at.1 (slice_index regs.r SP)) (leaves_cleanup landing at.1 (slice_index regs.r SP)) (nat_lt (slice_index regs.r SP) low) refl e
+    go (is_raised (p.look at.0).lowers at.1 (slice_index regs.r SP)) (leaves_cleanup landing at.1 (slice_index regs.r SP)) (nat_lt (slice_index regs.r SP) low) refl e
   where
     go : (r a b : Bool) → nat_lt (slice_index regs.r SP) low ≡ b
         → option_or (cond r (Some (the_end.Trap kind.SpRaised (slice_index regs.r SP) at.0)) (cond a (Some (the_end.Trap kind.SpInCleanup (slice_index regs.r SP) at.0)) (cond b (Some (the_end.Trap kind.StackLimit (slice_index regs.r SP) at.0)) None))) (control_flow_trap p branches at.0 what regs) ≡ None
@@ -274,7 +274,7 @@ module _ (profile : Profile) (regs : Regs) (m : Memory) (at : Instr × ℕ) wher
   pub branches_there : (is_taken : Bool) → instr_for profile m regs.pc ≡ Some at → is_taken ≡ branches at.0 regs → is_taken ≡ branches_some (instr_for profile m regs.pc) regs
   branches_there is_taken there e = e ∙ sym (ap (λ (o : Option (Instr × ℕ)). branches_some o regs) there)
 
-  pub pushes_there : (n : ℕ) → instr_for profile m regs.pc ≡ Some at → n ≡ length (pushed at.0) → n ≡ pushes_some (instr_for profile m regs.pc)
+  pub pushes_there : (n : ℕ) → instr_for profile m regs.pc ≡ Some at → n ≡ length (pushed_registers at.0) → n ≡ pushes_some (instr_for profile m regs.pc)
   pushes_there n there e = e ∙ sym (ap (λ (o : Option (Instr × ℕ)). pushes_some o) there)
 
   pub leaves_there : (what : Stepped) (after : Regs) → instr_for profile m regs.pc ≡ Some at → Leaves (Some at) what regs m after → Leaves (instr_for profile m regs.pc) what regs m after
@@ -294,18 +294,18 @@ module _ (profile : Profile) (regs : Regs) (m : Memory) (at : Instr × ℕ) wher
   none_changed (Trap trap) after new small there none e h l = absurd (h trap refl)
 
 -- what it has done leaves the words that it pushes in the stack
-pub in_stack : (regs : Regs) (m : Memory) (at : Instr × ℕ) (n : ℕ) (what : Stepped) (after : Regs) (new : Memory) → IsMap m → length regs.r ≡ 15 → n ≡ length (pushed at.0)
+pub in_stack : (regs : Regs) (m : Memory) (at : Instr × ℕ) (n : ℕ) (what : Stepped) (after : Regs) (new : Memory) → IsMap m → length regs.r ≡ 15 → n ≡ length (pushed_registers at.0)
     → (what, after, new) ≡ effect at.0 at.1 regs m → Goes what → 0 < n → InStack n after
 in_stack regs m at n what after new x count e did h some =
-    let all : 0 < length (pushed at.0) = subst (λ (k : ℕ). 0 < k) e some in
-    let on = subst (λ (o : Stepping). OnGo o.0 (InStack (length (pushed at.0)) o.1)) (sym did) (effect_pushed at.0 at.1 regs m x count all) in
-    subst (λ (k : ℕ). InStack k after) (sym e) (on_go what (InStack (length (pushed at.0)) after) h on)
+    let all : 0 < length (pushed_registers at.0) = subst (λ (k : ℕ). 0 < k) e some in
+    let on = subst (λ (o : Stepping). OnGo o.0 (InStack (length (pushed_registers at.0)) o.1)) (sym did) (effect_pushed at.0 at.1 regs m x count all) in
+    subst (λ (k : ℕ). InStack k after) (sym e) (on_go what (InStack (length (pushed_registers at.0)) after) h on)
 
 -- a test ended the run: registers and memory are back
 pub stopped : (p : Program) (s : State) (at : Instr × ℕ) (what : Stepped) (regs : Regs) (m back : Memory) (landing : Option ℕ) (low : ℕ) (taken : Bool) (o : Option End) (end : End)
     → (p.look s.regs.pc).is_instr ≡ true → instr_for (profile_in p) s.memory s.regs.pc ≡ Some at → (what, regs, m) ≡ effect at.0 at.1 s.regs s.memory → Goes what
     → landing ≡ innermost_of (word s.memory) s.globals → low ≡ s.memory.home.0 → taken ≡ branches at.0 s.regs → o ≡ refusal p (landing, low) (s.regs.pc, reg s SP) taken what regs
-    → o ≡ Some end → back ≡ s.memory → ◌≡◌ {A = Passed} (Err end, record s { memory = back }) (passed p s)
+    → o ≡ Some end → back ≡ s.memory → ◌≡◌ {A = PassResult} (Err end, record s { memory = back }) (pass_instruction p s)
 stopped p s at what regs m back landing low taken o end reached there e h words home is_taken is some same =
     refused_passes p s what regs m reached (at_step (profile_in p) s.regs s.memory at (what, regs, m) there e) h end back
     (tests_are p s what regs landing low taken o words home (branches_there (profile_in p) s.regs s.memory at taken there is_taken) is ∙ some) same
@@ -314,7 +314,7 @@ stopped p s at what regs m back landing low taken o end reached there e h words 
 pub straight : (regs : Regs) (m : Memory) (at : Instr × ℕ) (n : ℕ) (what : Stepped) (after : Regs) (new : Memory) → IsFallThrough at.0 regs n → InRange at.0 → length regs.r ≡ 15 → AreWords regs
     → 4 * n ≤ reg_of regs SP → (what, after, new) ≡ effect at.0 at.1 regs m → Goes what → GoesOn n at.1 regs what after
 straight regs m at n what after new told range count small room e h =
-    let k = length (pushed at.0) in
+    let k = length (pushed_registers at.0) in
     let room_k : 4 * k ≤ reg_of regs SP = subst (λ (j : ℕ). 4 * j ≤ reg_of regs SP) told.count room in
     let on = subst (λ (o : Stepping). OnGo o.0 (GoesOn k at.1 regs o.0 o.1)) (sym e) (effect_goes at.0 at.1 regs m told.fall_through told.taken range count small room_k) in
     subst (λ (j : ℕ). GoesOn j at.1 regs what after) (sym told.count) (on_go what (GoesOn k at.1 regs what after) h on)
@@ -328,14 +328,14 @@ not_left (Some landing) old new h = go (nat_lt old new) (le-ltb old new h)
     go true e = absurd (cc)
     go false e = refl
 
-not_raised : (lowers : Bool) (old new : ℕ) → new ≤ old → raises lowers old new ≡ false
+not_raised : (lowers : Bool) (old new : ℕ) → new ≤ old → is_raised lowers old new ≡ false
 not_raised true old new h = le-ltb old new h
 not_raised false old new h = refl
 
 none_refused : (p : Program) (landing : Option ℕ) (low pc old : ℕ) (regs : Regs) → slice_index regs.r SP ≤ old → low ≤ slice_index regs.r SP → (p.look regs.pc).is_function ≡ false
     → refusal p (landing, low) (pc, old) false Done regs ≡ None
 none_refused p landing low pc old regs high above next =
-    go (raises (p.look pc).lowers old (slice_index regs.r SP)) (leaves_cleanup landing old (slice_index regs.r SP)) (nat_lt (slice_index regs.r SP) low)
+    go (is_raised (p.look pc).lowers old (slice_index regs.r SP)) (leaves_cleanup landing old (slice_index regs.r SP)) (nat_lt (slice_index regs.r SP) low)
     ((p.look regs.pc).is_function) (not_raised (p.look pc).lowers old (slice_index regs.r SP) high) (not_left landing old (slice_index regs.r SP) high) (le-ltb (slice_index regs.r SP) low above) next
   where
     go : (r a b f : Bool) → r ≡ false → a ≡ false → b ≡ false → f ≡ false
@@ -357,11 +357,11 @@ no_test p s at n low what after there told home on room next =
     ap (λ (w : Stepped). tests p s w after) on.done
     ∙ ap (λ (b : Bool). refusal p (landing, s.memory.home.0) (s.regs.pc, reg s SP) b Done after) taken ∙ none
 
-pub as_done : (p : Program) (s t : State) (what : Stepped) → what ≡ Done → ◌≡◌ {A = Passed} (Ok what, t) (passed p s) → ◌≡◌ {A = Passed} (Ok Done, t) (passed p s)
-as_done p s t what is e = let one : Stepped → Passed = λ w. (Ok w, t) in sym (ap one is) ∙ e
+pub as_done : (p : Program) (s t : State) (what : Stepped) → what ≡ Done → ◌≡◌ {A = PassResult} (Ok what, t) (pass_instruction p s) → ◌≡◌ {A = PassResult} (Ok Done, t) (pass_instruction p s)
+as_done p s t what is e = let one : Stepped → PassResult = λ w. (Ok w, t) in sym (ap one is) ∙ e
 
 -- what goes straight on goes to what follows it
-pub goes_after : (i : Instr) (size a : ℕ) → is_fall_through i ≡ true → goes_to i size a ≡ even ((a + size) % 2 ^ 32)
+pub goes_after : (i : Instr) (size a : ℕ) → is_fall_through i ≡ true → next_address i size a ≡ even ((a + size) % 2 ^ 32)
 goes_after (Bl off) size a e = absurd (cc)
 goes_after (ShiftImm op d k n) size a e = refl
 goes_after (AddSubReg sub d n k) size a e = refl
@@ -404,7 +404,7 @@ goes_after (Ldm n list) size a e = refl
 none_called : (p : Program) (landing : Option ℕ) (low pc old : ℕ) (taken : Bool) (target ret : ℕ) (regs : Regs) → slice_index regs.r SP ≡ old → low ≤ slice_index regs.r SP
     → (p.look target).is_function ≡ true → refusal p (landing, low) (pc, old) taken (Call target ret) regs ≡ None
 none_called p landing low pc old taken target ret regs same above function =
-    go (raises (p.look pc).lowers old (slice_index regs.r SP)) (leaves_cleanup landing old (slice_index regs.r SP)) (nat_lt (slice_index regs.r SP) low)
+    go (is_raised (p.look pc).lowers old (slice_index regs.r SP)) (leaves_cleanup landing old (slice_index regs.r SP)) (nat_lt (slice_index regs.r SP) low)
     ((p.look target).is_function) (not_raised (p.look pc).lowers old (slice_index regs.r SP) (omega (arith, same))) (not_left landing old (slice_index regs.r SP) (omega (arith, same)))
     (le-ltb (slice_index regs.r SP) low above) function
   where
@@ -419,15 +419,15 @@ none_called p landing low pc old taken target ret regs same above function =
 
 -- what a BL does
 abbrev called : ℤ → ℕ → Regs → Stepped
-called off size regs = Call (goes_to (Bl off) size regs.pc) (link_of size regs)
+called off size regs = Call (next_address (Bl off) size regs.pc) (link_of size regs)
 
 abbrev after_call : ℤ → ℕ → Regs → Regs
 after_call off size regs = with_pc (with_reg regs LR (link_of size regs)) (target_of off regs)
 
 pub call_passes : (p : Program) (s : State) (off : ℤ) (size low : ℕ) (what : Stepped) (regs : Regs) (m : Memory) → (p.look s.regs.pc).is_instr ≡ true
     → instr_for (profile_in p) s.memory s.regs.pc ≡ Some (Bl off, size) → (what, regs, m) ≡ effect (Bl off) size s.regs s.memory
-    → (p.look (goes_to (Bl off) size s.regs.pc)).is_function ≡ true → low ≡ s.memory.home.0 → low ≤ reg s SP
-    → ◌≡◌ {A = Passed} (Ok what, record s { regs = regs; memory = m }) (passed p s)
+    → (p.look (next_address (Bl off) size s.regs.pc)).is_function ≡ true → low ≡ s.memory.home.0 → low ≤ reg s SP
+    → ◌≡◌ {A = PassResult} (Ok what, record s { regs = regs; memory = m }) (pass_instruction p s)
 call_passes p s off size low what regs m reached there e function home above =
     let call = called off size s.regs in
     let after = after_call off size s.regs in
@@ -438,8 +438,8 @@ call_passes p s off size low what regs m reached there e function home above =
     let low_is : s.memory.home.0 ≤ slice_index after.r SP = subst (λ (k : ℕ). k ≤ slice_index after.r SP) home (omega (arith, above, sp)) in
     let t : tests p s call after ≡ None =
     none_called p landing s.memory.home.0 s.regs.pc (reg s SP) (branches_some (instr_for (profile_in p) s.memory s.regs.pc) s.regs)
-    (goes_to (Bl off) size s.regs.pc) (link_of size s.regs) after sp low_is function in
-    let one : Stepping → Passed = λ o. (Ok o.0, record s { regs = o.1; memory = o.2 }) in
+    (next_address (Bl off) size s.regs.pc) (link_of size s.regs) after sp low_is function in
+    let one : Stepping → PassResult = λ o. (Ok o.0, record s { regs = o.1; memory = o.2 }) in
     ap one e ∙ tested_passes p s call after s.memory reached did (λ trap x. cc) s.memory t
     (guarded_is p s after s.memory s.memory (p.look s.regs.pc).saves 0 (slice_index after.r SP) refl (sym count) refl (omega (arith, sp)) refl)
 
@@ -449,7 +449,7 @@ call_passes p s off size low what regs m reached there e function home above =
 none_stops : (p : Program) (landing : Option ℕ) (low pc old : ℕ) (regs : Regs) → slice_index regs.r SP ≡ old → low ≤ slice_index regs.r SP
     → refusal p (landing, low) (pc, old) true Done regs ≡ None
 none_stops p landing low pc old regs same above =
-    go (raises (p.look pc).lowers old (slice_index regs.r SP)) (leaves_cleanup landing old (slice_index regs.r SP)) (nat_lt (slice_index regs.r SP) low)
+    go (is_raised (p.look pc).lowers old (slice_index regs.r SP)) (leaves_cleanup landing old (slice_index regs.r SP)) (nat_lt (slice_index regs.r SP) low)
     (not_raised (p.look pc).lowers old (slice_index regs.r SP) (omega (arith, same))) (not_left landing old (slice_index regs.r SP) (omega (arith, same)))
     (le-ltb (slice_index regs.r SP) low above)
   where
@@ -461,7 +461,7 @@ none_stops p landing low pc old regs same above =
     go false false false er ea eb = refl
 
 pub jump_passes : (p : Program) (s : State) (at : Instr × ℕ) (to low : ℕ) → (p.look s.regs.pc).is_instr ≡ true → instr_for (profile_in p) s.memory s.regs.pc ≡ Some at → IsJump at.0 s.regs to
-    → low ≡ s.memory.home.0 → low ≤ reg s SP → ◌≡◌ {A = Passed} (Ok Done, record s { regs = record s.regs { pc = to } }) (passed p s)
+    → low ≡ s.memory.home.0 → low ≤ reg s SP → ◌≡◌ {A = PassResult} (Ok Done, record s { regs = record s.regs { pc = to } }) (pass_instruction p s)
 jump_passes p s at to low reached there told home above =
     let after : Regs = record s.regs { pc = to } in
     let landing = innermost_of (word s.memory) s.globals in
@@ -484,7 +484,7 @@ pub no_landing : (p : Program) (landing : Option ℕ) (low pc old : ℕ) (b : Bo
     → refusal p (None, low) (pc, old) b what regs ≡ refusal p (landing, low) (pc, old) b what regs
 no_landing p landing low pc old b what regs same =
     let new = slice_index regs.r SP in
-    let with : Bool → Option End = λ x. option_or (cond (raises (p.look pc).lowers old new) (Some (the_end.Trap kind.SpRaised new pc))
+    let with : Bool → Option End = λ x. option_or (cond (is_raised (p.look pc).lowers old new) (Some (the_end.Trap kind.SpRaised new pc))
     (cond x (Some (the_end.Trap kind.SpInCleanup new pc)) (cond (nat_lt new low) (Some (the_end.Trap kind.StackLimit new pc)) None))) (control_flow_trap p b pc what regs) in
     ap with (sym (not_left landing old new (omega (arith, same))))
 

@@ -1,13 +1,13 @@
 -- A run of the machine, from the events that its loop has done.
 use Rattle.std.proofs.Common.{◌≡◌, ℕ, ◌-◌, ◌<◌, List, Option, IfSome, refl}
-use Rattle.machines_agree.specs.event_runs.Runs.{Runs}
-use Rattle.machines_agree.proofs.event_runs.Progress.{Progress, goes_on, ends, spent}
+use Rattle.run_events.specs.Runs.{Runs}
+use Rattle.run_events.proofs.Progress.{Progress, goes_on, ends, spent}
 use Rattle.thumb_core.specs.declared.ends.End.{End}
 use Rattle.thumb_core.specs.declared.ends.End.TheVariants.{Budget}
 use Rattle.eh_gates.specs.declared.state.Turned.TheVariants.{Went, Ended}
 use Rattle.eh_gates.specs.State.{State}
-use Rattle.machines_agree.specs.two_machines.Program.{Program}
-use Rattle.machines_agree.specs.two_machines.Machine.{machine_of}
+use Rattle.sim_machines.specs.Program.{Program}
+use Rattle.sim_machines.specs.Machine.{machine_of}
 use Rattle.eh_machine.specs.Turns.{TurnedOnce}
 
 module _ (p : Program) (n0 : ℕ) (state0 : State) where

@@ -4,7 +4,7 @@ use Rattle.std.proofs.Common.{◌≡◌, ℕ, zero, suc, ◌+◌, ◌-◌, ◌<�
 use Rattle.std.proofs.lemmas.List.{length-append}
 use Rattle.std.proofs.lemmas.List.Elements.{All-append}
 use Rattle.eh_bus.specs.Built.{zeros_at}
-use Rattle.machines_agree.specs.eh_list.Bytes.{zeros, length-zeros}
+use Rattle.eh_word.specs.Bytes.{zeros, length-zeros}
 use Rattle.eh_bus.specs.Map.{IsMap, flat_home}
 use Rattle.eh_bus.specs.Segment.{Segment}
 use Rattle.eh_bus.specs.declared.map.TheConstants.{IMAGE_END, POOL_SIZE, POOL_START, STACK_SIZE, STACK_START}
@@ -13,7 +13,7 @@ use Rattle.eh_bus.proofs.MapLaws.{Disjoint, disjoint_apart}
 use Rattle.elf_image.specs.Image.{Image, IsSound as IsImage}
 use Rattle.elf_image.specs.Segments.{Segment as Loaded, RiseFrom}
 use Rattle.frame_check.specs.Accepts.{AreBytes}
-use Rattle.image_memory.specs.Start.{memory_segment, image_start}
+use Rattle.run_images.specs.Start.{memory_segment, image_start}
 
 whole : (s : Loaded) → length s.bytes ≤ s.size → length (memory_segment s).bytes ≡ s.size
 whole s h = length-append s.bytes (zeros (s.size - length s.bytes)) ∙ ap (λ n. length s.bytes + n) (length-zeros (s.size - length s.bytes)) ∙ omega arith

@@ -1,7 +1,8 @@
--- What a call on an accepted image has done, told by the machine with recorded activations (docs/machine.md, "The same with recorded activations").
+-- What a call on an accepted image guarantees, told by the machine with recorded activations
+-- (docs/rules/machine.md, "With recorded activations").
 use Rattle.std.specs.Prelude.{◌≡◌, ℕ, List, Option, Some}
-use Rattle.machines_agree.specs.event_runs.Runs.{GoesOn, EndsBy, Runs}
-use Rattle.guest_gates.specs.Ends.{is_fault}
+use Rattle.run_events.specs.Runs.{GoesOn, EndsBy, Runs}
+use Rattle.run_gates.specs.Ends.{is_fault}
 use Rattle.thumb_core.specs.declared.ends.End.{End}
 use Rattle.eh_cxa.specs.Words.{block_slot}
 use Rattle.eh_phase.specs.declared.phase1.Barrier.{Barrier}
@@ -9,27 +10,27 @@ use Rattle.eh_gates.specs.declared.state.Turned.{Turned}
 use Rattle.eh_gates.specs.declared.state.Turned.TheVariants.{Went, Ended}
 use Rattle.eh_gates.specs.State.{State}
 use Rattle.frame_check.specs.Accepts.{Accepted}
-use Rattle.machines_agree.specs.two_machines.Program.{program_tables}
-use Rattle.machines_agree.specs.two_machines.Checked.{program_of}
-use Rattle.machines_agree.specs.two_machines.Activations.{Recorded, recorded_start}
-use Rattle.machines_agree.specs.two_machines.ActivationMachine.{Outcome, recorded_event, recorded_may_fail, recorded_machine, throw_to}
-use Rattle.machines_agree.specs.stands_for.Stands.{StandsFor}
-use Rattle.machines_agree.specs.Turned.{AreBytes}
-use Rattle.machines_agree.specs.resumes_keep.Flying.{CanFly}
+use Rattle.sim_machines.specs.Program.{program_tables}
+use Rattle.sim_machines.specs.Checked.{program_of}
+use Rattle.sim_machines.specs.Activations.{Recorded, recorded_start}
+use Rattle.sim_machines.specs.ActivationMachine.{Outcome, recorded_event, recorded_may_fail, recorded_machine, throw_to}
+use Rattle.sim_runs.specs.sim_relation.Stands.{StandsFor}
+use Rattle.sim_runs.specs.Turned.{AreBytes}
+use Rattle.sim_runs.specs.sim_resumes.Flying.{CanFly}
 
--- from each state with recorded activations that this one stands for
+-- for each state with recorded activations that this state stands for
 abbrev pub Follows : Accepted → State → (Recorded → Type 0) → Type 0
 Follows x old Done = (s : Recorded) → StandsFor x old s → Done s
 
 -- ---- one event
 
--- with recorded activations it went on, and what the call left stands for what it leads to
+-- the machine with recorded activations goes on too, and the new state stands for its new state
 pub record WentAlike (x : Accepted) (s : Recorded) (input : List ℕ) (new : State) (left before now : Option (List ℕ)) : Type 0 where
   pub state : Recorded
   pub goes : GoesOn (recorded_event (program_of x) s input) state left before now
   pub stands : StandsFor x new state
 
--- or it ended the run there, or a fault did that may come there too; and so again
+-- it ends there too, or a fault of the outside may end it there; and the new state stands for its state
 pub record EndedAlike (x : Accepted) (s : Recorded) (input : List ℕ) (end : End) (new : State) (left before now : Option (List ℕ)) : Type 0 where
   pub state : Recorded
   pub ends : EndsBy is_fault (recorded_may_fail (program_of x) s) (recorded_event (program_of x) s input) end s state input left before now
@@ -39,13 +40,14 @@ abbrev pub TurnedAlike : Accepted → Recorded → List ℕ → Turned → State
 TurnedAlike x s input Went new left before now = WentAlike x s input new left before now
 TurnedAlike x s input (Ended end) new left before now = EndedAlike x s input end new left before now
 
--- on an input of bytes
+-- the same for an input of bytes
 abbrev pub FollowsOnce : Accepted → State → List ℕ → Turned → State → Option (List ℕ) → Option (List ℕ) → Option (List ℕ) → Type 0
 FollowsOnce x old input result new left before now = AreBytes input → Follows x old (λ s. TurnedAlike x s input result new left before now)
 
 -- ---- a run
 
--- a run of at most n events with recorded activations was done, wholly or up to a fault, and what the call left stands for what that left
+-- A run of at most n events with recorded activations was done, wholly or up to a fault. The state that the call left stands for the state
+-- that this run left.
 pub record RanAlike (x : Accepted) (n : ℕ) (s : Recorded) (input : List ℕ)
     (end : End) (new : State) (unspent : ℕ) (left before now : Option (List ℕ)) : Type 0 where
   pub state : Recorded
@@ -63,7 +65,7 @@ StartsAlike x new = StandsFor x new (recorded_start (program_of x))
 
 -- ---- a flight to a barrier
 
--- what a throw does with recorded activations from a site, and what the call left stands for what it leaves
+-- The machine with recorded activations throws from the same site, and the state that the call left stands for the state after that throw.
 pub record FlownAlike (x : Accepted) (s : Recorded) (site control : ℕ) (b : Barrier) (result : Turned) (new : State) : Type 0 where
   pub state : Recorded
   pub is : ◌≡◌ {A = Outcome} (result, state) (throw_to (program_tables (program_of x)) site control b s)

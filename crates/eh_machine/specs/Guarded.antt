@@ -3,6 +3,6 @@ use Rattle.std.specs.Prelude.{ℕ, ◌+◌, ◌-◌, ◌*◌, ◌==◌, List, ma
 use Rattle.std.specs.Int.{bit_at}
 use Rattle.std.specs.List.{range_with_len}
 
--- of the words from number k up to below `count`, those that the bits of `saves` name
-unfoldable pub saved_from : ℕ → ℕ → ℕ → ℕ → List ℕ
-saved_from saves k count sp = map (λ j. sp + 4 * j) (filter (λ j. bit_at saves j == 1) (range_with_len k (count - k)))
+-- the addresses of words k to `count` - 1 that the bits of `saves` name
+unfoldable pub saved_words_from : ℕ → ℕ → ℕ → ℕ → List ℕ
+saved_words_from saves k count sp = map (λ j. sp + 4 * j) (filter (λ j. bit_at saves j == 1) (range_with_len k (count - k)))

@@ -1,4 +1,4 @@
-//! What the machine asks of an accepted image besides its look-ups (docs/machine.md).
+//! What the machine asks of an accepted image besides its look-ups (docs/rules/machine.md).
 ghost use Rattle.std.specs.Prelude.{◌≡◌};
 ghost use Rattle.elf_image.specs.Image.{IsSound as IsImage};
 ghost use Rattle.frame_check.specs.Accepts.{IsSound};
@@ -6,7 +6,7 @@ ghost use Rattle.frame_check.specs.Accepts.{IsSound};
 use eh_phase::Tables;
 use frame_check::Accepted;
 
-/// Its index and its types.
+/// The image's index and its types, as the exception runtime takes them.
 pub fn tables<'b, 'a>(a: &'b Accepted<'a>) -> Tables<'b, 'a>
     ensures index { result.index ≡ a.now.image }
     ensures types { result.types.now ≡ a.now.types }
@@ -17,7 +17,7 @@ pub fn tables<'b, 'a>(a: &'b Accepted<'a>) -> Tables<'b, 'a>
     }
 }
 
-/// What holds of every accepted image and of what the checker found.
+/// Tells the prover what holds of every accepted image and of what the checker found.
 pub(crate) fn holds(a: &Accepted)
     ensures image { IsImage a.now.image }
     ensures sound { IsSound a.now }

@@ -1,9 +1,9 @@
-//! Events of one accepted image, by a decode cache that is kept from one to the next (docs/machine.md, "An event").
+//! Single events of an accepted image, with a decode cache that is kept between them (docs/rules/machine.md, "An event").
 ghost use Rattle.std.specs.Prelude.{◌≡◌, IfSome};
 ghost use Rattle.eh_bus.specs.Memory.{Memory};
 ghost use Rattle.eh_gates.specs.State.{State, state_of};
-ghost use Rattle.given_input.specs.Given.{OnGiven};
-ghost use Rattle.machines_agree.specs.two_machines.Checked.{program_of};
+ghost use Rattle.run_gates.specs.Given.{OnGiven};
+ghost use Rattle.sim_machines.specs.Checked.{program_of};
 ghost use Rattle.eh_machine.specs.Turns.{TurnedOnce, CountsFaults};
 ghost use Rattle.eh_machine.specs.Ready.{IsReady};
 
@@ -16,7 +16,7 @@ use eh_trace::Events;
 use frame_check::Accepted;
 use std::marker::Model;
 
-/// An accepted image, with what was decoded of it. A run of several threads keeps one for all of them.
+/// An accepted image and the instructions decoded from it so far. A run of several threads shares one among them.
 #[derive(Drop)]
 pub struct CachedTurns<'a> {
     accepted: &'a Accepted<'a>,
@@ -24,11 +24,11 @@ pub struct CachedTurns<'a> {
 }
 
 impl<'a> Model for CachedTurns<'a> {
-    ghost use Rattle.machines_agree.specs.two_machines.Checked.{program_of};
+    ghost use Rattle.sim_machines.specs.Checked.{program_of};
     ghost use Rattle.eh_machine.specs.Cached.{IsCache, IsCounting};
-    ghost use Rattle.eh_machine.specs.Ready.{Decoded};
+    ghost use Rattle.eh_machine.specs.Ready.{CachedImage};
 
-    ghost Value = { Decoded };
+    ghost Value = { CachedImage };
 
     ghost view = { λ t. record { image = t.accepted.now; cache = t.cache } };
 
@@ -47,7 +47,8 @@ impl<'a> CachedTurns<'a> {
         }
     }
 
-    /// From here on what was decoded counts in no memory before it is compared there: so it is ready for every one. Takes no memory.
+    /// From here on each cached instruction is compared with memory again before it is used. So the cache is ready for every memory. Takes
+    /// no memory.
     pub fn doubt(&mut self)
         ensures image { self.new.image ≡ self.old.image }
         ensures ready { (m : Memory) → IsReady m self.new }
@@ -55,8 +56,9 @@ impl<'a> CachedTurns<'a> {
         self.cache.doubt();
     }
 
-    /// One event of a run of the image, as `turn` does it, in a memory that this is ready for, and after it is again. What was decoded before
-    /// isn't fetched again, and memory isn't asked for what was confirmed. Takes no memory.
+    /// Does one event of a run of the image, as `turn` does. The cache must be ready for this memory, and is ready for it afterwards too.
+    /// An instruction decoded before isn't fetched again. Memory isn't read for one whose bytes were found to lie where nothing may be
+    /// written. Takes no memory.
     #[inline(always)]
     #[tactic(auto, using(crate::proofs::Confirmed::counting))]
     pub fn turn_confirmed<B: Bus, I: Source, O: Sink>(

@@ -1,38 +1,40 @@
-//! One event of the machine (docs/machine.md, "An event").
+//! One event of the machine (docs/rules/machine.md, "An event").
 ghost use Rattle.std.specs.Prelude.{◌≡◌, IfSome, IfOk, IfErr, Err};
 ghost use Rattle.eh_bus.specs.Map.{SameMap};
 ghost use Rattle.eh_gates.specs.State.{State, state_of};
-ghost use Rattle.given_input.specs.Given.{OnGiven};
-ghost use Rattle.machines_agree.specs.two_machines.Checked.{program_of};
-ghost use Rattle.step_ahead.specs.Ahead.{IsAhead};
+ghost use Rattle.run_gates.specs.Given.{OnGiven};
+ghost use Rattle.sim_machines.specs.Checked.{program_of};
+ghost use Rattle.thumb_ahead.specs.Ahead.{IsAhead};
 ghost use Rattle.eh_machine.specs.Cached.{IsCache, IsConfirmed};
-ghost use Rattle.eh_machine.specs.Passes.{IsFetched, Passes, Tried};
+ghost use Rattle.eh_machine.specs.Passes.{IsFetched, Passes, TriesInstruction};
 ghost use Rattle.eh_machine.specs.Turns.{TurnedOnce, CountsFaults};
 ghost use Rattle.eh_machine.specs.Follows.{FollowsOnce};
 
 use crate::accepted::{holds, tables};
 use crate::decode_cache::DecodeCache;
-use crate::pass::{Fetched, fast_path, fetch_checked, pass};
+use crate::pass::{CheckedInstr, fast_path, fetch_checked, pass_instruction};
 use eh_bus::bus::Bus;
 use eh_gates::{Core, Turned, gate};
 use eh_port::{Sink, Source};
 use eh_trace::Events;
 use frame_check::Accepted;
-use guest_gates::INPUT_GATE;
-use step_ahead::{Ahead, look_ahead};
+use run_gates::INPUT_GATE;
+use thumb_ahead::{Ahead, look_ahead};
 use thumb_core::ends::End;
 use thumb_core::regs::Stepped;
 
-/// What the threads of a run have in common: the memory.
+/// What the threads of a run share: the memory.
 #[derive(Drop)]
 pub struct Shared<B> {
+    /// The memory.
     pub bus: B,
 }
 
-/// One event of a run of an accepted image: its instruction is done, and its gate. A trap, an exit and a fault leave registers, globals and
-/// memory as they were; so does a terminate before the exception flies. `ReadFault` comes only at the input gate, and `WriteFault` only at
-/// the output gate, where the count of the source or of the sink rose in this call. All this holds of a source that tells nothing too, on bytes
-/// that it gave (`given`). It does what the machine with recorded activations does. Takes no memory, and a constant time but for a throw.
+/// Does one event of a run of an accepted image: the instruction at pc, and its gate if it is an SVC. A trap, an exit and a fault leave
+/// registers, globals and memory as they were. So does a terminate before the exception flies. `ReadFault` comes only at the input gate,
+/// and `WriteFault` only at the output gate, where the fault count of the source or the sink rose in this call. `given` says the same of a
+/// source whose remaining bytes aren't known, on the bytes that it gave. The machine with recorded activations does the same event. Takes
+/// no memory, and constant time except for a throw.
 pub fn turn<B: Bus, I: Source, O: Sink>(
     a: &Accepted,
     core: &mut Core,
@@ -62,8 +64,8 @@ pub fn turn<B: Bus, I: Source, O: Sink>(
     }
 }
 
-/// The same by a decode cache, which is kept up, in a memory of which its confirmed lines tell: what was confirmed isn't fetched again. No event
-/// changes what segments are, so what was confirmed stays so.
+/// The same with a decode cache, which is updated. Its confirmed lines must hold of this memory. No event changes the segments, so they
+/// still hold afterwards.
 #[inline(always)]
 pub(crate) fn turn_confirmed<B: Bus, I: Source, O: Sink>(
     a: &Accepted,
@@ -88,16 +90,16 @@ pub(crate) fn turn_confirmed<B: Bus, I: Source, O: Sink>(
         TurnedOnce (program_of a.now) old bytes result new left (O.written out.old) (O.written out.new)) }
     ensures faults { CountsFaults (λ end. result ≡ Turned.Ended end) (I.faults input.old) (I.faults input.new) (O.faults out.old) (O.faults out.new) }
 {
-    if went_fast(a, cache, core, &mut shared.bus) {
+    if turn_fast(a, cache, core, &mut shared.bus) {
         return Turned::Went;
     }
-    turn_slowly(a, cache, core, shared, events, input, out)
+    turn_slow(a, cache, core, shared, events, input, out)
 }
 
-/// Whether what stands at pc is confirmed and took the fast path. Else nothing is changed. Most events are this and no more, so it answers
-/// nothing else.
+/// Whether the instruction at pc is confirmed and took the fast path. Otherwise nothing is changed. Most events are of this kind, so it
+/// answers nothing else.
 #[inline(always)]
-pub(crate) fn went_fast<B: Bus>(
+pub(crate) fn turn_fast<B: Bus>(
     a: &Accepted,
     cache: &DecodeCache,
     core: &mut Core,
@@ -105,7 +107,7 @@ pub(crate) fn went_fast<B: Bus>(
 ) -> bool
     requires cache { IsCache (program_of a.now) cache.now }
     requires confirmed { IsConfirmed (B.memory bus.old) cache.now }
-    ensures { Tried (program_of a.now) core.old (B.memory bus.old) result core.new (B.memory bus.new) }
+    ensures { TriesInstruction (program_of a.now) core.old (B.memory bus.old) result core.new (B.memory bus.new) }
 {
     let Some(at) = cache.find_confirmed(core.regs.pc) else {
         return false;
@@ -114,8 +116,8 @@ pub(crate) fn went_fast<B: Bus>(
     fast_path(a, Some(cache), at, ahead, core, bus)
 }
 
-/// An event of the others: of what isn't confirmed, and of what the fast path doesn't do.
-pub(crate) fn turn_slowly<B: Bus, I: Source, O: Sink>(
+/// Any other event: its instruction isn't confirmed, or the fast path doesn't do it.
+pub(crate) fn turn_slow<B: Bus, I: Source, O: Sink>(
     a: &Accepted,
     cache: &mut DecodeCache,
     core: &mut Core,
@@ -145,14 +147,14 @@ pub(crate) fn turn_slowly<B: Bus, I: Source, O: Sink>(
     slow_path(a, at, ahead, core, shared, events, input, out)
 }
 
-/// What stands at pc, which isn't confirmed: as its line has it, where the memory still gives it, and else fetched.
+/// The instruction at pc, which isn't confirmed: from its cache line if the memory still has its halfwords there, otherwise fetched.
 #[inline(always)]
-fn found_or_fetched<B: Bus>(
+fn find_or_fetch<B: Bus>(
     a: &Accepted,
     cache: &DecodeCache,
     core: &Core,
     bus: &B,
-) -> Result<Fetched, End>
+) -> Result<CheckedInstr, End>
     requires { IsCache (program_of a.now) cache.now }
     ensures fetched { IfOk result (λ at. IsFetched (program_of a.now) core.now.regs.pc (B.memory bus.now) at) }
     ensures ends { IfErr result (λ end. Passes (program_of a.now) core.now (B.memory bus.now) (Err end) core.now (B.memory bus.now)) }
@@ -163,7 +165,7 @@ fn found_or_fetched<B: Bus>(
     fetch_checked(a, core, bus)
 }
 
-/// The same, where what stands at pc isn't confirmed: it is found or fetched, and kept. A call of its own, so that no other event pays for it.
+/// An event whose instruction isn't confirmed: it is found or fetched, and kept. A call of its own, so that no other event pays for it.
 #[inline(never)]
 fn turn_unconfirmed<B: Bus, I: Source, O: Sink>(
     a: &Accepted,
@@ -188,7 +190,7 @@ fn turn_unconfirmed<B: Bus, I: Source, O: Sink>(
         TurnedOnce (program_of a.now) old bytes result new left (O.written out.old) (O.written out.new)) }
     ensures faults { CountsFaults (λ end. result ≡ Turned.Ended end) (I.faults input.old) (I.faults input.new) (O.faults out.old) (O.faults out.new) }
 {
-    let at = match found_or_fetched(a, cache, core, &shared.bus) {
+    let at = match find_or_fetch(a, cache, core, &shared.bus) {
         Ok(at) => at,
         Err(end) => return Turned::Ended(end),
     };
@@ -197,12 +199,13 @@ fn turn_unconfirmed<B: Bus, I: Source, O: Sink>(
     turn_at(a, Some(cache), &at, core, shared, events, input, out)
 }
 
-/// The event of the instruction `at` pc. Most take the fast path, by tests that are told before they are done; the others are done first.
+/// The event of the instruction `at` pc. Most instructions take the fast path: they are checked before they are done. The others are done
+/// first.
 #[inline(always)]
 fn turn_at<B: Bus, I: Source, O: Sink>(
     a: &Accepted,
     cache: Option<&DecodeCache>,
-    at: &Fetched,
+    at: &CheckedInstr,
     core: &mut Core,
     shared: &mut Shared<B>,
     events: &mut Events,
@@ -223,18 +226,19 @@ fn turn_at<B: Bus, I: Source, O: Sink>(
     ensures map { SameMap (B.memory shared.old.bus).segments (B.memory shared.new.bus).segments }
 {
     let ahead = look_ahead(at.instr, &core.regs);
-    // most instructions, and they are not to pay for what the others go on to
+    // most instructions end here, and don't pay for what the others need
     if fast_path(a, cache, at, ahead, core, &mut shared.bus) {
         return Turned::Went;
     }
     slow_path(a, at, ahead, core, shared, events, input, out)
 }
 
-/// Any other instruction `at` pc, in the order of the definition: it is done and tested, and its guards are set; then its gate.
+/// Any other instruction `at` pc, in the order of the definition: it is done and checked, its saved words are guarded, and then its gate is
+/// done.
 #[inline(always)]
 fn slow_path<B: Bus, I: Source, O: Sink>(
     a: &Accepted,
-    at: &Fetched,
+    at: &CheckedInstr,
     ahead: Ahead,
     core: &mut Core,
     shared: &mut Shared<B>,
@@ -256,7 +260,7 @@ fn slow_path<B: Bus, I: Source, O: Sink>(
     ensures map { SameMap (B.memory shared.old.bus).segments (B.memory shared.new.bus).segments }
 {
     let pc = core.regs.pc;
-    let what = match pass(a, at, ahead, core, &mut shared.bus) {
+    let what = match pass_instruction(a, at, ahead, core, &mut shared.bus) {
         Ok(what) => what,
         Err(end) => return Turned::Ended(end),
     };
@@ -268,7 +272,7 @@ fn slow_path<B: Bus, I: Source, O: Sink>(
         core.regs.pc = pc;
         return gate(&tables(a), number, next, core, &mut shared.bus, events);
     }
-    match given_input::gate(number, pc, &mut core.regs, input, out) {
+    match run_gates::given::gate(number, pc, &mut core.regs, input, out) {
         None => Turned::Went,
         Some(end) => Turned::Ended(end),
     }

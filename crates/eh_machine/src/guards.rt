@@ -1,12 +1,13 @@
-//! Guards of saved words (docs/machine.md, "Guards").
+//! Guards of saved words (docs/rules/machine.md, "An event").
 ghost use Rattle.std.specs.Prelude.{◌≡◌, ◌+◌, ◌*◌, ◌%◌, ◌<◌, ◌≤◌};
 ghost use Rattle.eh_bus.specs.Memory.{guard_all};
 ghost use Rattle.eh_bus.specs.declared.map.TheConstants.{STACK_START, STACK_END};
-ghost use Rattle.machines_agree.specs.two_machines.Machine.{saved_words, reguarded};
+ghost use Rattle.sim_machines.specs.Machine.{saved_words, update_guards};
 
 use eh_bus::bus::Bus;
 
-/// Guards, of `count` words of the stack from `sp` on, those that the bits of `saves` name: the last first.
+/// Guards saved words of a push. The push stored `count` words from `sp` up, and bit k of `saves` says whether word k is a save. The last
+/// word is guarded first.
 fn guard_saves<B: Bus>(saves: u16, count: u32, sp: u32, bus: &mut B)
     requires few { count ≤ 16 }
     requires aligned { 0 < count → sp % 4 ≡ 0 }
@@ -23,7 +24,7 @@ fn guard_saves<B: Bus>(saves: u16, count: u32, sp: u32, bus: &mut B)
     }
 }
 
-/// The same, and no call is made where no word was pushed.
+/// The same, with no call if no word was pushed.
 #[inline(always)]
 pub(crate) fn guard_pushed<B: Bus>(saves: u16, count: u32, sp: u32, bus: &mut B)
     requires few { count ≤ 16 }
@@ -38,14 +39,14 @@ pub(crate) fn guard_pushed<B: Bus>(saves: u16, count: u32, sp: u32, bus: &mut B)
     guard_saves(saves, count, sp, bus);
 }
 
-/// Guards the saves among the words that were pushed, and where sp rose releases what is guarded below it.
+/// Guards the saves among the pushed words. If sp rose, it releases the guarded words below it.
 #[inline(always)]
-pub(crate) fn reguard<B: Bus>(saves: u16, count: u32, old: u32, sp: u32, bus: &mut B)
+pub(crate) fn update_guards<B: Bus>(saves: u16, count: u32, old: u32, sp: u32, bus: &mut B)
     requires few { count ≤ 16 }
     requires aligned { 0 < count → sp % 4 ≡ 0 }
     requires low { 0 < count → STACK_START ≤ sp }
     requires high { 0 < count → sp + 4 * count ≤ STACK_END }
-    ensures { B.memory bus.new ≡ reguarded saves count old sp (B.memory bus.old) }
+    ensures { B.memory bus.new ≡ update_guards saves count old sp (B.memory bus.old) }
 {
     guard_pushed(saves, count, sp, bus);
     if old < sp {

@@ -1,5 +1,5 @@
-//! The machine that runs a checked program, unwinds the bytes on its stack by the tables of its image, and keeps the events
-//! (docs/machine.md).
+//! The machine that runs a checked program. It unwinds the bytes on the program's stack by the tables of its image, and records the events
+//! (docs/rules/machine.md).
 #![tactic(auto)]
 
 mod accepted;
@@ -18,7 +18,6 @@ pub use accepted::tables;
 pub use cached_turns::CachedTurns;
 pub use eh_gates::{Core, Turned};
 pub use event::{Shared, turn};
-pub use machines_agree::{beyond_stays, runs_guard, runs_same, turns_same};
 pub use memory::MachineMemory;
 pub use run::Machine;
 pub use start::{start_parts, throw_to};

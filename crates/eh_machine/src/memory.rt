@@ -1,4 +1,4 @@
-//! Want of memory at the start of a run.
+//! Lack of memory at the start of a run.
 ghost use Rattle.std.specs.Prelude.{◌≡◌};
 ghost use Rattle.eh_machine.specs.declared.memory.MachineMemory.TheVariants.{OutOfMemory};
 
@@ -8,6 +8,7 @@ use eh_trace::TraceMemory;
 /// There was no memory for a run.
 #[derive(Clone, Copy)]
 pub enum MachineMemory {
+    /// An allocation failed.
     OutOfMemory,
 }
 

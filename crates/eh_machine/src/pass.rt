@@ -1,49 +1,51 @@
-//! One instruction up to its gate: it is checked, fetched once, done and tested, and its guards are set (docs/machine.md, "An event"). Most are
-//! tested before they are done (`fast_path`), the others after (`pass`).
+//! One instruction before its gate: it is fetched once, done and checked, and its saved words are guarded (docs/rules/machine.md, "An event").
+//! Most instructions are checked before they are done (`fast_path`), the others after (`pass`).
 ghost use Rattle.std.specs.Prelude.{◌≡◌, ℕ, true, None, IfSome, IfOk, IfErr};
 ghost use Rattle.thumb_isa.specs.Range.{InRange};
 ghost use Rattle.thumb_isa.specs.declared.instr.Instr.{Instr};
 ghost use Rattle.thumb_isa.specs.declared.instr.Instr.TheVariants.{Svc};
 ghost use Rattle.thumb_core.specs.declared.regs.Regs.{Regs};
-ghost use Rattle.step_ahead.specs.Ahead.{IsAhead, IsFallThrough, IsJump, IsOther};
-ghost use Rattle.step_ahead.specs.UndoRecord.{Restores};
-ghost use Rattle.machines_agree.specs.two_machines.Checked.{program_of};
-ghost use Rattle.machines_agree.specs.two_machines.Program.{Program, profile_in};
+ghost use Rattle.thumb_ahead.specs.Ahead.{IsAhead, IsFallThrough, IsJump, IsOther};
+ghost use Rattle.thumb_ahead.specs.UndoRecord.{Restores};
+ghost use Rattle.sim_machines.specs.Checked.{program_of};
+ghost use Rattle.sim_machines.specs.Program.{Program, profile_in};
 ghost use Rattle.eh_cxa.specs.Words.{word};
 ghost use Rattle.eh_cxa.specs.Cleanup.{innermost_of};
 ghost use Rattle.eh_machine.specs.Cached.{IsCache};
-ghost use Rattle.eh_machine.specs.Passes.{IsCall, IsFetched, Passes, Tells, Tried, goes_to};
+ghost use Rattle.eh_machine.specs.Passes.{IsCall, IsFetched, Passes, Tells, TriesInstruction, next_address};
 
 use crate::decode_cache::DecodeCache;
-use crate::guards::{guard_pushed, reguard};
-use crate::tests_of::{has_room, lets_pass, refusal};
+use crate::guards::{guard_pushed, update_guards};
+use crate::tests_of::{has_room, may_continue, refusal};
 use eh_bus::bus::Bus;
 use eh_cxa::{Globals, innermost_sp};
 use eh_gates::Core;
 use frame_check::Accepted;
-use guest_gates::trap_end;
-use step_ahead::{Ahead, UndoRecord, look_ahead, undo_record_of};
+use run_gates::trap_end;
+use thumb_ahead::{Ahead, UndoRecord, look_ahead, undo_record_of};
 use thumb_core::ends::{End, TrapKind};
 use thumb_core::regs::{SP, Stepped, are_words};
 use thumb_core::step::{execute, fetch_for};
 use thumb_isa::instr::Instr;
 
-/// The instruction at an address, its size in bytes, and what the checker says there.
+/// The instruction at an address, with what the checker says of it.
 #[derive(Clone, Copy)]
-pub(crate) struct Fetched {
+pub(crate) struct CheckedInstr {
+    /// The decoded instruction.
     pub(crate) instr: Instr,
+    /// Its size in bytes: 2 or 4.
     pub(crate) size: u32,
-    /// Whether it is a lowering place.
+    /// Whether sp may not rise here (a lowering place).
     pub(crate) lowers: bool,
-    /// Whether a function begins where it goes on to by itself: at the target of a BL, and behind any other.
+    /// Whether a function begins where the instruction goes on by itself: at the target of a BL, and after any other.
     pub(crate) meets_function: bool,
-    /// Which of the words that it pushes are saves: bit k stands for word k.
+    /// Which of the words that it pushes are saved registers: bit k stands for word k.
     pub(crate) saves: u16,
 }
 
-/// Whether a function begins where an instruction of `size` bytes goes on to by itself.
+/// Whether a function begins where an instruction of `size` bytes goes on by itself.
 fn meets_function(a: &Accepted, address: u32, i: Instr, size: u32) -> bool
-    ensures { result ≡ ((program_of a.now).look (goes_to i size address)).is_function }
+    ensures { result ≡ ((program_of a.now).look (next_address i size address)).is_function }
 {
     let next = match i {
         Instr::Bl { off } => address.wrapping_add(4).wrapping_add_signed(off),
@@ -52,9 +54,10 @@ fn meets_function(a: &Accepted, address: u32, i: Instr, size: u32) -> bool
     a.is_function(next - next % 2)
 }
 
-/// The instruction at pc by the rows of the image's profile, where the checker reached it; or the end by what stands there, which is no fault of the outside.
+/// The instruction at pc by the rows of the image's profile, if the checker reached it. Otherwise the end of the run: FellOff, or the
+/// trap of the fetch.
 #[inline(always)]
-pub(crate) fn fetch_checked<B: Bus>(a: &Accepted, core: &Core, bus: &B) -> Result<Fetched, End>
+pub(crate) fn fetch_checked<B: Bus>(a: &Accepted, core: &Core, bus: &B) -> Result<CheckedInstr, End>
     ensures fetched { IfOk result (λ at. IsFetched (program_of a.now) core.now.regs.pc (B.memory bus.now) at) }
     ensures ends { IfErr result (λ end. Passes (program_of a.now) core.now (B.memory bus.now) (Err end) core.now (B.memory bus.now)) }
 {
@@ -64,7 +67,7 @@ pub(crate) fn fetch_checked<B: Bus>(a: &Accepted, core: &Core, bus: &B) -> Resul
         return Err(End::Trap(TrapKind::FellOff, pc, pc));
     }
     match fetch_for(a.profile(), &core.regs, bus) {
-        Ok(at) => Ok(Fetched {
+        Ok(at) => Ok(CheckedInstr {
             instr: at.0,
             size: at.1,
             lowers: a.lowers_at(pc),
@@ -77,13 +80,13 @@ pub(crate) fn fetch_checked<B: Bus>(a: &Accepted, core: &Core, bus: &B) -> Resul
 
 // ---- most instructions
 
-/// Does the instruction `at` pc where its tests let it pass and where it doesn't trap; whether it was done. Else nothing is changed. Of those
-/// that go straight on, and of branches, the tests are told beforehand, so there is nothing to keep.
+/// Does the instruction `at` pc if its checks pass and it doesn't trap, and says whether it did. Otherwise nothing is changed.
+/// Straight-line instructions and branches are checked beforehand, so nothing has to be kept for them.
 #[inline(always)]
 pub(crate) fn fast_path<B: Bus>(
     a: &Accepted,
     cache: Option<&DecodeCache>,
-    at: &Fetched,
+    at: &CheckedInstr,
     ahead: Ahead,
     core: &mut Core,
     bus: &mut B,
@@ -91,22 +94,22 @@ pub(crate) fn fast_path<B: Bus>(
     requires cache { IfSome cache (λ c. IsCache (program_of a.now) c.now) }
     requires fetched { IsFetched (program_of a.now) core.old.regs.pc (B.memory bus.old) at.now }
     requires told { IsAhead at.now.instr core.old.regs ahead }
-    ensures { Tried (program_of a.now) core.old (B.memory bus.old) result core.new (B.memory bus.new) }
+    ensures { TriesInstruction (program_of a.now) core.old (B.memory bus.old) result core.new (B.memory bus.new) }
 {
     match ahead {
         Ahead::FallThrough => fall_through(at, 0, core, bus),
         Ahead::Pushes { count } => fall_through(at, count, core, bus),
         Ahead::Jumps { to } => jump(at, to, core, bus),
-        Ahead::Other { branches } => fast_other(a, cache, at, branches, core, bus),
+        Ahead::Other { branches } => fast_call_or_return(a, cache, at, branches, core, bus),
     }
 }
 
-/// The same of those that move sp or leave their function: the kinds that a function's calls consist of.
+/// The same for instructions that move sp or leave their function: those that calls and returns consist of.
 #[inline(always)]
-fn fast_other<B: Bus>(
+fn fast_call_or_return<B: Bus>(
     a: &Accepted,
     cache: Option<&DecodeCache>,
-    at: &Fetched,
+    at: &CheckedInstr,
     branches: bool,
     core: &mut Core,
     bus: &mut B,
@@ -114,21 +117,21 @@ fn fast_other<B: Bus>(
     requires cache { IfSome cache (λ c. IsCache (program_of a.now) c.now) }
     requires fetched { IsFetched (program_of a.now) core.old.regs.pc (B.memory bus.old) at.now }
     requires told { IsOther at.now.instr core.old.regs branches }
-    ensures { Tried (program_of a.now) core.old (B.memory bus.old) result core.new (B.memory bus.new) }
+    ensures { TriesInstruction (program_of a.now) core.old (B.memory bus.old) result core.new (B.memory bus.new) }
 {
     match at.instr {
         Instr::Bl { off } => call(at, Instr::Bl { off }, core, bus),
         Instr::Pop { list } => do_and_test(a, cache, at, Instr::Pop { list }, branches, core, bus),
-        _ => fast_seldom(a, cache, at, branches, core, bus),
+        _ => fast_rest(a, cache, at, branches, core, bus),
     }
 }
 
-/// The same of the others, by a call of its own: so that what most functions have at their calls and returns is built into the loop.
+/// The same for the remaining kinds, in a call of its own: so the common calls and returns are built into the loop.
 #[inline(never)]
-fn fast_seldom<B: Bus>(
+fn fast_rest<B: Bus>(
     a: &Accepted,
     cache: Option<&DecodeCache>,
-    at: &Fetched,
+    at: &CheckedInstr,
     branches: bool,
     core: &mut Core,
     bus: &mut B,
@@ -136,7 +139,7 @@ fn fast_seldom<B: Bus>(
     requires cache { IfSome cache (λ c. IsCache (program_of a.now) c.now) }
     requires fetched { IsFetched (program_of a.now) core.old.regs.pc (B.memory bus.old) at.now }
     requires told { IsOther at.now.instr core.old.regs branches }
-    ensures { Tried (program_of a.now) core.old (B.memory bus.old) result core.new (B.memory bus.new) }
+    ensures { TriesInstruction (program_of a.now) core.old (B.memory bus.old) result core.new (B.memory bus.new) }
 {
     match at.instr {
         Instr::Bx { m } => do_and_test(a, cache, at, Instr::Bx { m }, branches, core, bus),
@@ -162,7 +165,7 @@ fn fast_seldom<B: Bus>(
     }
 }
 
-/// Whether no cleanup is in progress, told by the head of their chain alone; the memory, which has the rest of it, isn't asked.
+/// Whether no cleanup is in progress. The head of their chain says it, so memory isn't read.
 #[inline(always)]
 #[tactic(auto, using(crate::proofs::Passing::no_cleanup))]
 fn has_no_cleanup<B: Bus>(_bus: &B, globals: &Globals) -> bool
@@ -171,13 +174,13 @@ fn has_no_cleanup<B: Bus>(_bus: &B, globals: &Globals) -> bool
     globals.cleanup == 0
 }
 
-/// An instruction `at` pc that stores nothing and is no gate, done and then tested, where no cleanup is in progress. Where a test forbids it the
-/// registers are put back.
+/// Does an instruction `at` pc that stores nothing and is no gate, and then checks it. No cleanup is in progress. If a check fails the
+/// registers are restored.
 #[inline(always)]
 fn do_and_test<B: Bus>(
     a: &Accepted,
     cache: Option<&DecodeCache>,
-    at: &Fetched,
+    at: &CheckedInstr,
     i: Instr,
     branches: bool,
     core: &mut Core,
@@ -188,7 +191,7 @@ fn do_and_test<B: Bus>(
     requires is { i ≡ at.now.instr }
     requires told { IsOther i core.old.regs branches }
     requires no_gate { (imm : ℕ) → i ≡ Svc imm → ⊥ }
-    ensures { Tried (program_of a.now) core.old (B.memory bus.old) result core.new (B.memory bus.new) }
+    ensures { TriesInstruction (program_of a.now) core.old (B.memory bus.old) result core.new (B.memory bus.new) }
 {
     let kept = core.regs;
     are_words(&core.regs.r);
@@ -201,20 +204,20 @@ fn do_and_test<B: Bus>(
         return false;
     }
     let from = (kept.pc, kept.r[SP as usize]);
-    if !lets_pass(a, cache, at.lowers, low, from, branches, what, &core.regs) {
+    if !may_continue(a, cache, at.lowers, low, from, branches, what, &core.regs) {
         core.regs = kept;
         return false;
     }
-    reguard(at.saves, 0, from.1, core.regs.r[SP as usize], bus);
+    update_guards(at.saves, 0, from.1, core.regs.r[SP as usize], bus);
     true
 }
 
-/// An instruction `at` pc that falls through and pushes so many words.
+/// Does an instruction `at` pc that falls through and pushes `pushes` words.
 #[inline(always)]
-fn fall_through<B: Bus>(at: &Fetched, pushes: u32, core: &mut Core, bus: &mut B) -> bool
+fn fall_through<B: Bus>(at: &CheckedInstr, pushes: u32, core: &mut Core, bus: &mut B) -> bool
     requires range { InRange at.now.instr }
     requires told { IsFallThrough at.now.instr core.old.regs pushes }
-    ensures { (p : Program) → IsFetched p core.old.regs.pc (B.memory bus.old) at.now → Tried p core.old (B.memory bus.old) result core.new (B.memory bus.new) }
+    ensures { (p : Program) → IsFetched p core.old.regs.pc (B.memory bus.old) at.now → TriesInstruction p core.old (B.memory bus.old) result core.new (B.memory bus.new) }
 {
     let (low, _) = bus.home();
     are_words(&core.regs.r);
@@ -232,11 +235,11 @@ fn fall_through<B: Bus>(at: &Fetched, pushes: u32, core: &mut Core, bus: &mut B)
     true
 }
 
-/// A branch `at` pc that is taken, to an address: pc alone changes. Where sp stands in the running stack no test forbids it.
+/// Takes a branch `at` pc to an address: only pc changes. No check can fail if sp stands in the running stack.
 #[inline(always)]
-fn jump<B: Bus>(at: &Fetched, to: u32, core: &mut Core, bus: &mut B) -> bool
+fn jump<B: Bus>(at: &CheckedInstr, to: u32, core: &mut Core, bus: &mut B) -> bool
     requires told { IsJump at.now.instr core.old.regs to }
-    ensures { (p : Program) → IsFetched p core.old.regs.pc (B.memory bus.old) at.now → Tried p core.old (B.memory bus.old) result core.new (B.memory bus.new) }
+    ensures { (p : Program) → IsFetched p core.old.regs.pc (B.memory bus.old) at.now → TriesInstruction p core.old (B.memory bus.old) result core.new (B.memory bus.new) }
 {
     let (low, _) = bus.home();
     if core.regs.r[SP as usize] < low {
@@ -246,14 +249,14 @@ fn jump<B: Bus>(at: &Fetched, to: u32, core: &mut Core, bus: &mut B) -> bool
     true
 }
 
-/// A BL `at` pc: lr and pc alone change. Where a function begins at its target, which is known with it, and where sp stands in the running stack
-/// no test forbids it.
+/// Does a BL `at` pc: only lr and pc change. No check can fail if a function begins at its target, which is known with it, and sp stands in
+/// the running stack.
 #[inline(always)]
-fn call<B: Bus>(at: &Fetched, i: Instr, core: &mut Core, bus: &mut B) -> bool
+fn call<B: Bus>(at: &CheckedInstr, i: Instr, core: &mut Core, bus: &mut B) -> bool
     requires range { InRange i }
     requires is { i ≡ at.now.instr }
     requires call { IsCall i }
-    ensures { (p : Program) → IsFetched p core.old.regs.pc (B.memory bus.old) at.now → Tried p core.old (B.memory bus.old) result core.new (B.memory bus.new) }
+    ensures { (p : Program) → IsFetched p core.old.regs.pc (B.memory bus.old) at.now → TriesInstruction p core.old (B.memory bus.old) result core.new (B.memory bus.new) }
 {
     let (low, _) = bus.home();
     are_words(&core.regs.r);
@@ -269,13 +272,13 @@ fn call<B: Bus>(at: &Fetched, i: Instr, core: &mut Core, bus: &mut B) -> bool
 
 // ---- the others
 
-/// The instruction `at` pc, done and then tested: what was done, or the end by what forbids it, which leaves everything as before the instruction
-/// and is no fault of the outside. A gate's instruction changes pc alone. Where one is told to go on, what it may store over is kept; any other
-/// stores nothing.
+/// Does the instruction `at` pc and then checks it. Gives what was done, or the end by a failed check, which leaves everything as before
+/// and is no fault of the input or the output. An SVC changes only pc. If the look-ahead lets a store go on, the bytes that it may
+/// overwrite are recorded; no other instruction stores.
 #[inline(always)]
-pub(crate) fn pass<B: Bus>(
+pub(crate) fn pass_instruction<B: Bus>(
     a: &Accepted,
-    at: &Fetched,
+    at: &CheckedInstr,
     ahead: Ahead,
     core: &mut Core,
     bus: &mut B,
@@ -287,7 +290,7 @@ pub(crate) fn pass<B: Bus>(
     are_words(&core.regs.r);
     match ahead {
         Ahead::FallThrough | Ahead::Pushes { .. } | Ahead::Jumps { .. } => {
-            pass_recorded(a, core, bus)
+            pass_with_undo(a, core, bus)
         }
         Ahead::Other { branches } => match at.instr {
             Instr::Svc { imm } => pass_gate(a, at, imm, branches, core, bus),
@@ -296,11 +299,11 @@ pub(crate) fn pass<B: Bus>(
     }
 }
 
-/// The SVC `at` pc. It changes pc alone: so it leaves no cleanup, and the landing sp of one in progress isn't asked for.
+/// Does the SVC `at` pc. It changes only pc, so it leaves no cleanup, and the landing sp of one in progress isn't asked for.
 #[inline(always)]
 fn pass_gate<B: Bus>(
     a: &Accepted,
-    at: &Fetched,
+    at: &CheckedInstr,
     imm: u32,
     branches: bool,
     core: &mut Core,
@@ -326,11 +329,11 @@ fn pass_gate<B: Bus>(
     Ok(what)
 }
 
-/// The same with what stands where the instruction may store. It is seldom, since an event that comes here ends the run. So it fetches again, and
-/// is lent nothing that the others would have to keep in memory for it.
+/// The same with a record of the bytes that the instruction may overwrite. This is rare, since such an event ends the run. So it fetches
+/// again, and takes nothing by reference that the others would have to keep in memory for it.
 #[cold]
 #[inline(never)]
-fn pass_recorded<B: Bus>(a: &Accepted, core: &mut Core, bus: &mut B) -> Result<Stepped, End>
+fn pass_with_undo<B: Bus>(a: &Accepted, core: &mut Core, bus: &mut B) -> Result<Stepped, End>
     ensures passes { Passes (program_of a.now) core.old (B.memory bus.old) result core.new (B.memory bus.new) }
 {
     let at = match fetch_checked(a, core, bus) {
@@ -344,7 +347,7 @@ fn pass_recorded<B: Bus>(a: &Accepted, core: &mut Core, bus: &mut B) -> Result<S
 
 /// Whether an instruction branches, and how many words it pushes.
 #[inline(always)]
-fn told_of(ahead: Ahead) -> (bool, u32)
+fn branch_and_push_count(ahead: Ahead) -> (bool, u32)
     ensures { (i : Instr) (regs : Regs) → IsAhead i regs ahead → Tells i regs result.0 result.1 }
 {
     match ahead {
@@ -355,12 +358,12 @@ fn told_of(ahead: Ahead) -> (bool, u32)
     }
 }
 
-/// The instruction `at` pc, in the order of the definition: it is done and tested, and its guards are set. Where a test ends the run the registers
-/// are put back, and what was kept of the memory.
+/// The instruction `at` pc, in the order of the definition: it is done and checked, and its saved words are guarded. If a check ends the
+/// run, the registers and the recorded bytes are restored.
 #[inline(always)]
 fn pass_with<B: Bus>(
     a: &Accepted,
-    at: &Fetched,
+    at: &CheckedInstr,
     ahead: Ahead,
     undo_record: &UndoRecord,
     core: &mut Core,
@@ -371,7 +374,7 @@ fn pass_with<B: Bus>(
     requires restores { Restores (profile_in (program_of a.now)) undo_record.now core.old.regs (B.memory bus.old) }
     ensures passes { Passes (program_of a.now) core.old (B.memory bus.old) result core.new (B.memory bus.new) }
 {
-    let (branches, pushes) = told_of(ahead);
+    let (branches, pushes) = branch_and_push_count(ahead);
     let before = core.regs;
     let pc = before.pc;
     are_words(&core.regs.r);
@@ -382,7 +385,7 @@ fn pass_with<B: Bus>(
     if let Stepped::Trap(trap) = what {
         return Err(trap_end(trap, pc));
     }
-    // its tests
+    // its checks
     let old = before.r[SP as usize];
     let sp = core.regs.r[SP as usize];
     let stack = (landing, low);
@@ -394,6 +397,6 @@ fn pass_with<B: Bus>(
         return Err(end);
     }
     // its guards
-    reguard(at.saves, pushes, old, sp, bus);
+    update_guards(at.saves, pushes, old, sp, bus);
     Ok(what)
 }

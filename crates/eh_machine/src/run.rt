@@ -1,16 +1,16 @@
-//! The run of at most so many events (docs/machine.md).
+//! Runs of at most a given number of events (docs/rules/machine.md).
 ghost use Rattle.std.specs.Prelude.{◌≡◌, IfSome};
-ghost use Rattle.machines_agree.specs.event_runs.Runs.{Runs};
+ghost use Rattle.run_events.specs.Runs.{Runs};
 ghost use Rattle.eh_gates.specs.State.{State, state_of};
-ghost use Rattle.given_input.specs.Runs.{RunsGiven};
-ghost use Rattle.machines_agree.specs.two_machines.Checked.{program_of};
-ghost use Rattle.machines_agree.specs.two_machines.Machine.{machine_of};
+ghost use Rattle.run_gates.specs.Runs.{RunsGiven};
+ghost use Rattle.sim_machines.specs.Checked.{program_of};
+ghost use Rattle.sim_machines.specs.Machine.{machine_of};
 ghost use Rattle.eh_machine.specs.Turns.{CountsFaults};
 ghost use Rattle.eh_machine.specs.Follows.{FollowsRun};
 
 use crate::accepted::holds;
 use crate::decode_cache::DecodeCache;
-use crate::event::{Shared, turn_slowly, went_fast};
+use crate::event::{Shared, turn_fast, turn_slow};
 use eh_bus::bus::Bus;
 use eh_gates::{Core, Turned};
 use eh_port::{Sink, Source};
@@ -18,21 +18,25 @@ use eh_trace::Events;
 use frame_check::Accepted;
 use thumb_core::ends::End;
 
-/// A run of an accepted image: all that it has besides its input and output.
+/// A run of an accepted image: its whole state except input and output.
 #[derive(Drop)]
 pub struct Machine<'a, B: Bus> {
+    /// The image that runs.
     pub accepted: &'a Accepted<'a>,
+    /// The registers, and the heads of the runtime's chains of exceptions.
     pub core: Core,
+    /// The memory, with its guarded words.
     pub shared: Shared<B>,
+    /// The trace so far.
     pub events: Events,
-    /// How many events are left of the budget.
+    /// The number of events left of the budget.
     pub left: u64,
 }
 
 impl<'a, B: Bus> Machine<'a, B> {
-    /// Runs until an event ends the run or none is left of the budget; the event that ends it counts too. A further run goes on from where
-    /// this one came to. Where the source tells nothing each event is on bytes that it gave (`given`). It is a run with recorded activations.
-    /// Takes no memory.
+    /// Runs until an event ends the run or the budget is spent. The event that ends the run counts too. A further call goes on where this
+    /// one stopped. If the source doesn't tell what it holds, each event is one on bytes that it gave (`given`). The machine with recorded
+    /// activations makes the same run. Takes no memory.
     pub fn run<I: Source, O: Sink>(&mut self, input: &mut I, out: &mut O) -> End
         ensures told { IfSome (I.left input.old) (λ bytes.
             let old : State = state_of self.old.core (B.memory self.old.shared.bus) self.old.events in
@@ -51,14 +55,14 @@ impl<'a, B: Bus> Machine<'a, B> {
         let accepted = self.accepted;
         holds(accepted);
         let mut cache = DecodeCache::new();
-        // counted here, so that an event needn't write it to where the machine stands
+        // counted in a local, so that an event needn't write it to the machine
         let mut left = self.left;
         while left > 0 {
-            if went_fast(accepted, &cache, &mut self.core, &mut self.shared.bus) {
+            if turn_fast(accepted, &cache, &mut self.core, &mut self.shared.bus) {
                 left -= 1;
                 continue;
             }
-            match turn_slowly(
+            match turn_slow(
                 accepted,
                 &mut cache,
                 &mut self.core,
@@ -85,7 +89,7 @@ impl<'a, B: Bus> Machine<'a, B> {
         &self.events
     }
 
-    /// The registers, and what the runtime keeps of exceptions outside the pool.
+    /// The registers, and the runtime's state of exceptions outside the pool.
     pub fn core(&self) -> &Core
         ensures { result.now ≡ self.now.core }
     {

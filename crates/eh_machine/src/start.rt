@@ -1,31 +1,31 @@
-//! The state that a run starts in (docs/machine.md, "The start").
+//! The initial state of a run (docs/rules/machine.md, "The start").
 ghost use Rattle.std.specs.Prelude.{◌≡◌, IfOk, IsSome};
-ghost use Rattle.bus_memories.specs.Paged.{memory_of};
+ghost use Rattle.mem_buses.specs.Paged.{memory_of};
 ghost use Rattle.eh_cxa.specs.Words.{block_slot};
 ghost use Rattle.eh_gates.specs.State.{state_of};
 ghost use Rattle.eh_gates.specs.Throwing.{throw_to};
 ghost use Rattle.eh_trace.specs.Trace.{no_events};
-ghost use Rattle.machines_agree.specs.two_machines.Checked.{program_of};
-ghost use Rattle.machines_agree.specs.two_machines.Program.{program_tables};
-ghost use Rattle.machines_agree.specs.two_machines.Start.{start_of};
+ghost use Rattle.sim_machines.specs.Checked.{program_of};
+ghost use Rattle.sim_machines.specs.Program.{program_tables};
+ghost use Rattle.sim_machines.specs.Start.{start_of};
 ghost use Rattle.eh_machine.specs.Follows.{StartsAlike, FollowsFlight};
 
 use crate::accepted::{holds, tables};
 use crate::event::Shared;
 use crate::memory::MachineMemory;
 use crate::run::Machine;
-use bus_memories::paged::PagedBus;
 use eh_bus::bus::Bus;
 use eh_cxa::Globals;
 use eh_gates::{Core, Turned};
 use eh_phase::Barrier;
 use eh_trace::Events;
 use frame_check::Accepted;
-use image_memory::{image_memory, start_regs};
+use mem_buses::paged::PagedBus;
+use run_images::{image_memory, start_regs};
 use std::alloc::Global;
 
-/// The state at the start: the image's segments in memory with the stack and the pool, sp at the end of the stack, pc at the entry, no
-/// exceptions and no events, with room for those that are kept.
+/// The initial state. Memory has the image's segments, the stack and the pool; sp is the end of the stack, pc the entry. There are no
+/// exceptions and no events, and room for all events that are kept is reserved. `OutOfMemory` if there was none.
 pub fn start_parts(
     alloc: Global,
     a: &Accepted,
@@ -45,7 +45,7 @@ pub fn start_parts(
 }
 
 impl<'a> Machine<'a, PagedBus> {
-    /// A run from the start, of at most `budget` events.
+    /// A run from the initial state, of at most `budget` events. `OutOfMemory` if there was no memory for it.
     pub fn start(alloc: Global, a: &'a Accepted<'a>, budget: u64) -> Result<Self, MachineMemory>
         ensures state { IfOk result (λ m. state_of m.core (memory_of m.shared.bus) m.events ≡ start_of (program_of a.now)) }
         ensures recorded { IfOk result (λ m. StartsAlike a.now (state_of m.core (memory_of m.shared.bus) m.events)) }
@@ -64,7 +64,7 @@ impl<'a> Machine<'a, PagedBus> {
 }
 
 impl<'a, B: Bus + Drop> Machine<'a, B> {
-    /// A run from any registers, globals and memory, of at most `budget` events.
+    /// A run from any registers, globals and memory, of at most `budget` events. `OutOfMemory` if there was no memory for the trace.
     pub fn from_parts(
         alloc: Global,
         a: &'a Accepted<'a>,
@@ -87,8 +87,8 @@ impl<'a, B: Bus + Drop> Machine<'a, B> {
     }
 }
 
-/// What a throw and a rethrow do once the exception of a control block flies, from the registers as they are and a site, to its barrier:
-/// see `eh_gates::throw_to`.
+/// Takes an exception that has begun to fly to its barrier, as a throw and a rethrow do. `ucb` is the address of its control block; the
+/// registers are those of the frame at `site`. See `eh_gates::throw_to`.
 pub fn throw_to<B: Bus>(
     a: &Accepted,
     core: &mut Core,

@@ -1,19 +1,19 @@
-//! The tests between an instruction and what it goes on to (docs/machine.md, "An event").
+//! The checks between an instruction and the place where it goes on (docs/rules/machine.md, "An event").
 ghost use Rattle.std.specs.Prelude.{◌≡◌, ℕ, ◌<◌, ◌≤◌, ◌*◌, true, false, None, IfSome};
-ghost use Rattle.guest_gates.specs.Ends.{is_fault};
-ghost use Rattle.step_ahead.specs.UndoRecord.{lowest};
-ghost use Rattle.machines_agree.specs.two_machines.Checked.{program_of};
+ghost use Rattle.run_gates.specs.Ends.{is_fault};
+ghost use Rattle.thumb_ahead.specs.UndoRecord.{lowest};
+ghost use Rattle.sim_machines.specs.Checked.{program_of};
 ghost use Rattle.eh_machine.specs.Cached.{IsCache};
-ghost use Rattle.machines_agree.specs.two_machines.Machine.{leaves_cleanup, sp_end, fell_off, goes_after, control_flow_trap, refusal};
+ghost use Rattle.sim_machines.specs.Machine.{leaves_cleanup, sp_end, fell_off, gate_goes_on, control_flow_trap, refusal};
 
 use crate::decode_cache::DecodeCache;
 use eh_gates::gates::{ALLOCATE_GATE, BEGIN_CATCH_GATE, END_CATCH_GATE, FREE_GATE, UNCAUGHT_GATE};
 use frame_check::Accepted;
-use guest_gates::{INPUT_GATE, NO_CALLER, OUTPUT_GATE};
+use run_gates::{INPUT_GATE, NO_CALLER, OUTPUT_GATE};
 use thumb_core::ends::{End, TrapKind};
 use thumb_core::regs::{Regs, SP, Stepped};
 
-/// Whether sp, which rises, stands above the landing sp of the innermost cleanup in progress.
+/// Whether a new sp stands above the landing sp of the innermost cleanup in progress.
 #[inline(always)]
 fn is_above(new: u32, landing: Option<u32>) -> bool
     ensures { (old : ℕ) → old < new → result ≡ leaves_cleanup landing old new }
@@ -24,8 +24,8 @@ fn is_above(new: u32, landing: Option<u32>) -> bool
     }
 }
 
-/// The end by sp: it rises at a lowering place, or out of a cleanup, or stands below the running stack, which begins at `low`. The
-/// first two are asked only where it rises.
+/// The end that a new sp gives: it rose at a lowering place or out of a cleanup, or stands below the running stack, which begins at `low`.
+/// The first two are checked only if sp rose.
 #[inline(always)]
 fn sp_end(lowers: bool, landing: Option<u32>, low: u32, pc: u32, old: u32, new: u32) -> Option<End>
     ensures { result ≡ sp_end lowers landing low pc old new }
@@ -56,9 +56,9 @@ fn fell_off(a: &Accepted, pc: u32, to: u32) -> Option<End>
     }
 }
 
-/// Whether a run goes on after a gate.
-fn goes_after(number: u8) -> bool
-    ensures { result ≡ goes_after number }
+/// Whether a run goes on after the gate of this number.
+fn gate_goes_on(number: u8) -> bool
+    ensures { result ≡ gate_goes_on number }
 {
     number == OUTPUT_GATE
         || number == INPUT_GATE
@@ -69,7 +69,7 @@ fn goes_after(number: u8) -> bool
         || number == UNCAUGHT_GATE
 }
 
-/// The end by where the run would go on. The registers are those after the instruction; `branches` says whether it took a branch.
+/// The end that the next pc gives. The registers are those after the instruction; `branches` says whether it took a branch.
 #[inline(always)]
 fn control_flow_trap(
     a: &Accepted,
@@ -103,7 +103,7 @@ fn control_flow_trap(
             }
         }
         Stepped::Gate(number) => {
-            if goes_after(number) {
+            if gate_goes_on(number) {
                 fell_off(a, pc, regs.pc)
             } else {
                 None
@@ -113,8 +113,8 @@ fn control_flow_trap(
     }
 }
 
-/// The end by a test: first of sp, then of where the run would go on. `lowers` says whether it is a lowering place, `stack` has the landing sp of the innermost cleanup and the start of the
-/// running stack, `at` pc and sp before the instruction.
+/// The end by a failed check: first of sp, then of where the run would go on. `lowers` says whether this is a lowering place. `stack` has
+/// the landing sp of the innermost cleanup and the start of the running stack, `at` the pc and sp before the instruction.
 #[inline(always)]
 pub(crate) fn refusal(
     a: &Accepted,
@@ -138,7 +138,7 @@ pub(crate) fn refusal(
     control_flow_trap(a, branches, pc, what, regs)
 }
 
-/// Whether sp stays at or above the start of the running stack where so many words are pushed.
+/// Whether sp stays at or above the start of the running stack when `pushes` words are pushed.
 #[inline(always)]
 pub(crate) fn has_room(sp: u32, pushes: u32, low: u32) -> bool
     requires { pushes ≤ 16 }
@@ -151,7 +151,7 @@ pub(crate) fn has_room(sp: u32, pushes: u32, low: u32) -> bool
     }
 }
 
-/// Whether a function begins at an address, asked of a decode cache where there is one.
+/// Whether a function begins at an address. A decode cache is asked first if there is one.
 #[inline(always)]
 fn begins_at(a: &Accepted, cache: Option<&DecodeCache>, address: u32) -> bool
     requires { IfSome cache (λ c. IsCache (program_of a.now) c.now) }
@@ -163,10 +163,10 @@ fn begins_at(a: &Accepted, cache: Option<&DecodeCache>, address: u32) -> bool
     }
 }
 
-/// Whether no test forbids what was done, where no cleanup is in progress. `lowers` says whether
-/// it is a lowering place, `low` is the start of the running stack, `at` has pc and sp before the instruction. What is no return and doesn't go straight on is not let pass.
+/// Whether no check fails after an instruction, if no cleanup is in progress. `lowers` says whether this is a lowering place, `low` is the
+/// start of the running stack, `at` has the pc and sp before the instruction. Only straight-line instructions and returns can pass.
 #[inline(always)]
-pub(crate) fn lets_pass(
+pub(crate) fn may_continue(
     a: &Accepted,
     cache: Option<&DecodeCache>,
     lowers: bool,

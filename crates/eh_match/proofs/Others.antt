@@ -10,14 +10,14 @@ use Rattle.eh_types.specs.declared.kind.TypeKind.{TypeKind}
 use Rattle.eh_types.specs.declared.kind.TypeKind.TheVariants.{Other, Fundamental, Class, Si, Vmi, Pointer}
 use Rattle.eh_types.specs.declared.graph.TheConstants.{LOCAL_MARK}
 use Rattle.eh_types.specs.Graph.{Row, row_of, kind_of, name_of, name_in, same_type, same_name}
-use Rattle.eh_match.specs.declared.rules.TheConstants.{VOID_NAME, CONST_BIT, VOLATILE_BIT}
+use Rattle.eh_match.specs.declared.rules.TheConstants.{VOID_NAME, CONST_BIT, VOLATILE_BIT, TRANSACTION_SAFE_BIT, NOEXCEPT_BIT}
 use Rattle.eh_match.specs.declared.rules.Match.{Match}
 use Rattle.eh_match.specs.declared.rules.Match.TheVariants.{Failed, Object, Unreadable}
 use Rattle.eh_match.specs.declared.rules.Pointing.{Pointing}
-use Rattle.eh_match.specs.Address.{read, or_address, address}
+use Rattle.eh_match.specs.Address.{load_or_address, or_address, address}
 use Rattle.eh_match.specs.Subobjects.{chosen}
-use Rattle.eh_match.specs.Rules.{is_class, is_fundamental, is_class_type, is_void, is_function, object_at, pointer_at, base_at, is_dropped, loses_qualifier, pointee_match, pointer_match, pointer_of, match_of}
-use Rattle.eh_match.specs.Laws.{TypesMatchThemselves, ZeroMatchesNothing, UnheldTypesStandAlone, ArePointers, AreClasses, QualifiersAreKept, PointersFollowTheirPointees, UnreadPointersAreNamed, pointed, unread}
+use Rattle.eh_match.specs.Rules.{is_class, is_fundamental, is_class_type, is_void, is_function, object_at, pointer_at, base_at, is_dropped, loses_qualifier, adds_promise, pointee_match, pointer_match, pointer_of, match_of}
+use Rattle.eh_match.specs.Laws.{TypesMatchThemselves, ZeroMatchesNothing, UnheldTypesStandAlone, ArePointers, AreClasses, QualifiersAreKept, Suits, PromisesAreKept, PointersFollowTheirPointees, UnreadPointersAreNamed, pointer_result, unreadable_pointer_result}
 use Rattle.eh_match.proofs.Equal.{same_type-refl}
 use Rattle.eh_match.proofs.Classes.{class_rule, neither, match_of-classes}
 
@@ -86,7 +86,7 @@ unheld_types_stand_alone g segments ty other object e apart = (
 
 -- two pointers that aren't equal
 match_of-pointers : (g : List Row) (segments : List Segment) (thrown object wanted flags from wanted_flags to : ℕ) → ArePointers g thrown wanted flags from wanted_flags to
-    → match_of g segments thrown object wanted ≡ (if loses_qualifier flags wanted_flags then Failed else pointee_match g segments from object to)
+    → match_of g segments thrown object wanted ≡ (if loses_qualifier flags wanted_flags || adds_promise flags wanted_flags then Failed else pointee_match g segments from object to)
 unfolding match_of
 match_of-pointers g segments thrown object wanted flags from wanted_flags to p =
     ap (λ b. class_rule b (same_type g thrown wanted) (is_class_type g thrown && is_class_type g wanted) (Object object) (object_at (base_at g segments thrown (Ok object) wanted)) (pointer_match g segments object (pointer_of (kind_of g thrown)) (pointer_of (kind_of g wanted))))
@@ -110,8 +110,22 @@ lost_second flags wanted e f = ap (λ b. is_dropped CONST_BIT flags wanted || b)
 pub qualifiers_are_kept : QualifiersAreKept
 qualifiers_are_kept g segments thrown object wanted flags from wanted_flags to p =
     let by = match_of-pointers g segments thrown object wanted flags from wanted_flags to p in (
-      λ e f. by ∙ ap (λ b. if b then Failed else pointee_match g segments from object to) (lost_first flags wanted_flags e f),
-      λ e f. by ∙ ap (λ b. if b then Failed else pointee_match g segments from object to) (lost_second flags wanted_flags e f),
+      λ e f. by ∙ ap (λ b. if b || adds_promise flags wanted_flags then Failed else pointee_match g segments from object to) (lost_first flags wanted_flags e f),
+      λ e f. by ∙ ap (λ b. if b || adds_promise flags wanted_flags then Failed else pointee_match g segments from object to) (lost_second flags wanted_flags e f),
+    )
+
+-- a promise of the wanted flags that the thrown ones don't give: is_dropped of bit 5 or 6, the flags the other way round
+added_first : (flags wanted : ℕ) → wanted / 32 % 2 ≡ 1 → flags / 32 % 2 ≡ 0 → adds_promise flags wanted ≡ true
+added_first flags wanted e f = ap (λ b. b || is_dropped NOEXCEPT_BIT wanted flags) (lost (wanted / 32 % 2) (flags / 32 % 2) e f)
+
+added_second : (flags wanted : ℕ) → wanted / 64 % 2 ≡ 1 → flags / 64 % 2 ≡ 0 → adds_promise flags wanted ≡ true
+added_second flags wanted e f = ap (λ b. is_dropped TRANSACTION_SAFE_BIT wanted flags || b) (lost (wanted / 64 % 2) (flags / 64 % 2) e f) ∙ or_true (is_dropped TRANSACTION_SAFE_BIT wanted flags)
+
+pub promises_are_kept : PromisesAreKept
+promises_are_kept g segments thrown object wanted flags from wanted_flags to p =
+    let by = match_of-pointers g segments thrown object wanted flags from wanted_flags to p in (
+      λ e f. by ∙ ap (λ b. if b then Failed else pointee_match g segments from object to) (ap (λ b. loses_qualifier flags wanted_flags || b) (added_first flags wanted_flags e f) ∙ or_true (loses_qualifier flags wanted_flags)),
+      λ e f. by ∙ ap (λ b. if b then Failed else pointee_match g segments from object to) (ap (λ b. loses_qualifier flags wanted_flags || b) (added_second flags wanted_flags e f) ∙ or_true (loses_qualifier flags wanted_flags)),
     )
 
 kept_by : (flags wanted : ℕ) → (flags ≡ 1 → wanted ≡ 1) → (flags == 1 && wanted == 0) ≡ false
@@ -120,11 +134,15 @@ kept_by flags wanted h = elim (eqb_tells flags 1) [
   | inr other ↦ ap (λ b. b && wanted == 0) other.0
 ]
 
-kept : (flags wanted : ℕ) → (flags % 2 ≡ 1 → wanted % 2 ≡ 1) → (flags / 2 % 2 ≡ 1 → wanted / 2 % 2 ≡ 1) → loses_qualifier flags wanted ≡ false
-kept flags wanted h k =
-    neither (is_dropped CONST_BIT flags wanted) (is_dropped VOLATILE_BIT flags wanted)
-    (kept_by (bit_at flags CONST_BIT) (bit_at wanted CONST_BIT) (λ e. const_at wanted ∙ h (sym (const_at flags) ∙ e)))
-    (kept_by (flags / 2 % 2) (wanted / 2 % 2) k)
+kept : (flags wanted : ℕ) → Suits flags wanted → (loses_qualifier flags wanted || adds_promise flags wanted) ≡ false
+kept flags wanted h =
+    neither (loses_qualifier flags wanted) (adds_promise flags wanted)
+    (neither (is_dropped CONST_BIT flags wanted) (is_dropped VOLATILE_BIT flags wanted)
+    (kept_by (bit_at flags CONST_BIT) (bit_at wanted CONST_BIT) (λ e. const_at wanted ∙ h.const (sym (const_at flags) ∙ e)))
+    (kept_by (flags / 2 % 2) (wanted / 2 % 2) h.volatile))
+    (neither (is_dropped TRANSACTION_SAFE_BIT wanted flags) (is_dropped NOEXCEPT_BIT wanted flags)
+    (kept_by (wanted / 32 % 2) (flags / 32 % 2) h.transaction_safe)
+    (kept_by (wanted / 64 % 2) (flags / 64 % 2) h.noexcept))
 
 class_not_fundamental : (k : Option TypeKind) → is_class k ≡ true → is_fundamental k ≡ false
 class_not_fundamental None e = refl
@@ -142,7 +160,7 @@ class_pointees same void classes function object base s v c =
     ∙ ap (λ b. if b then (if function then Failed else Object object) else (if classes then base else Failed)) v
     ∙ ap (λ b. if b then base else Failed) c
 
-pointed_at : (p : ℕ) (o : Option (Result ℕ ℕ)) → pointer_at (Ok p) o ≡ pointed p (object_at o)
+pointed_at : (p : ℕ) (o : Option (Result ℕ ℕ)) → pointer_at (Ok p) o ≡ pointer_result p (object_at o)
 pointed_at p None = refl
 pointed_at zero (Some (Ok a)) = refl
 pointed_at zero (Some (Err refused)) = refl
@@ -151,34 +169,34 @@ pointed_at (suc p) (Some (Err refused)) = refl
 
 -- two pointers to classes, whose qualifiers are kept
 match_of-pointees : (g : List Row) (segments : List Segment) (thrown object wanted flags from wanted_flags to : ℕ) → ArePointers g thrown wanted flags from wanted_flags to
-    → AreClasses g from to → (flags % 2 ≡ 1 → wanted_flags % 2 ≡ 1) → (flags / 2 % 2 ≡ 1 → wanted_flags / 2 % 2 ≡ 1)
-    → match_of g segments thrown object wanted ≡ pointer_at (read segments object) (base_at g segments from (read segments object) to)
-match_of-pointees g segments thrown object wanted flags from wanted_flags to pointers classes const volatile =
+    → AreClasses g from to → Suits flags wanted_flags
+    → match_of g segments thrown object wanted ≡ pointer_at (load_or_address segments object) (base_at g segments from (load_or_address segments object) to)
+match_of-pointees g segments thrown object wanted flags from wanted_flags to pointers classes suits =
     match_of-pointers g segments thrown object wanted flags from wanted_flags to pointers
-    ∙ ap (λ b. if b then Failed else pointee_match g segments from object to) (kept flags wanted_flags const volatile)
-    ∙ class_pointees (same_type g from to) (is_void g to) (is_class_type g from && is_class_type g to) (is_function g from) object (pointer_at (read segments object) (base_at g segments from (read segments object) to))
+    ∙ ap (λ b. if b then Failed else pointee_match g segments from object to) (kept flags wanted_flags suits)
+    ∙ class_pointees (same_type g from to) (is_void g to) (is_class_type g from && is_class_type g to) (is_function g from) object (pointer_at (load_or_address segments object) (base_at g segments from (load_or_address segments object) to))
     classes.unequal
     (ap (λ b. b && (length (name_of g to) == 1 && slice_index (name_of g to) 0 == VOID_NAME)) (class_not_fundamental (kind_of g to) classes.wanted_class))
     (ap (λ b. b && is_class_type g to) classes.thrown_class ∙ classes.wanted_class)
 
 pub pointers_follow_their_pointees : PointersFollowTheirPointees
-pointers_follow_their_pointees g segments thrown object wanted flags from wanted_flags to p pointers classes const volatile word =
-    match_of-pointees g segments thrown object wanted flags from wanted_flags to pointers classes const volatile
+pointers_follow_their_pointees g segments thrown object wanted flags from wanted_flags to p pointers classes suits word =
+    match_of-pointees g segments thrown object wanted flags from wanted_flags to pointers classes suits
     ∙ ap (λ w. pointer_at (or_address object w) (base_at g segments from (or_address object w) to)) word
     ∙ pointed_at p (base_at g segments from (Ok p) to)
-    ∙ ap (pointed p) (sym (match_of-classes g segments from p to classes))
+    ∙ ap (pointer_result p) (sym (match_of-classes g segments from p to classes))
 
-unread_at : (segments : List Segment) (object a : ℕ) (o : Option (List Base)) → pointer_at (Err object) (option_map (address segments (Err object)) o) ≡ unread object (object_at (option_map (address segments (Ok a)) o))
+unread_at : (segments : List Segment) (object a : ℕ) (o : Option (List Base)) → pointer_at (Err object) (option_map (address segments (Err object)) o) ≡ unreadable_pointer_result object (object_at (option_map (address segments (Ok a)) o))
 unread_at segments object a None = refl
 unread_at segments object a (Some steps) = by (address segments (Ok a) steps)
   where
-    by : (r : Result ℕ ℕ) → Unreadable object ≡ unread object (object_at (Some r))
+    by : (r : Result ℕ ℕ) → Unreadable object ≡ unreadable_pointer_result object (object_at (Some r))
     by (Ok b) = refl
     by (Err refused) = refl
 
 pub unread_pointers_are_named : UnreadPointersAreNamed
-unread_pointers_are_named g segments thrown object wanted flags from wanted_flags to a fault pointers classes const volatile word =
-    match_of-pointees g segments thrown object wanted flags from wanted_flags to pointers classes const volatile
+unread_pointers_are_named g segments thrown object wanted flags from wanted_flags to a fault pointers classes suits word =
+    match_of-pointees g segments thrown object wanted flags from wanted_flags to pointers classes suits
     ∙ ap (λ w. pointer_at (or_address object w) (base_at g segments from (or_address object w) to)) word
     ∙ unread_at segments object a (chosen g from to)
-    ∙ ap (unread object) (sym (match_of-classes g segments from a to classes))
+    ∙ ap (unreadable_pointer_result object) (sym (match_of-classes g segments from a to classes))

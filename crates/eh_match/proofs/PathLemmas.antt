@@ -7,7 +7,7 @@ use Rattle.eh_types.specs.declared.kind.Base.{Base}
 use Rattle.eh_match.specs.declared.path.Path.{Path}
 use Rattle.eh_match.specs.Paths.{end_of, is_public, root_of, offset_of, at_offset}
 use Rattle.eh_match.specs.Address.{address}
-use Rattle.eh_match.specs.Walk.{whole, along, path_of}
+use Rattle.eh_match.specs.Walk.{empty_path, along, path_of}
 
 and_assoc : (a b c : Bool) → (a && b) && c ≡ a && (b && c)
 and_assoc true b c = refl
@@ -31,5 +31,5 @@ path_of_further : (segments : List Segment) (p : Path) (steps : List Base) → p
 path_of_further segments p [] = grind arith
 path_of_further segments p (b ∷ more) = path_of_further segments (along segments p b) more ∙ ap (λ is_public. record (further segments (along segments p b) more) { is_public = is_public }) (and_assoc p.is_public b.is_public (list_all (λ (c : Base). c.is_public) more))
 
-pub path_of_whole : (segments : List Segment) (ty : ℕ) (at : Result ℕ ℕ) (steps : List Base) → path_of segments (whole ty at) steps ≡ summary segments ty at steps
-path_of_whole segments ty at steps = path_of_further segments (whole ty at) steps
+pub path_of_whole : (segments : List Segment) (ty : ℕ) (at : Result ℕ ℕ) (steps : List Base) → path_of segments (empty_path ty at) steps ≡ summary segments ty at steps
+path_of_whole segments ty at steps = path_of_further segments (empty_path ty at) steps

@@ -6,9 +6,9 @@ use Rattle.eh_bus.specs.Segment.{Segment}
 use Rattle.eh_types.specs.declared.kind.Base.{Base}
 use Rattle.eh_types.specs.Graph.{Row, bases_of}
 use Rattle.eh_match.specs.declared.path.Path.{Path}
-use Rattle.eh_match.specs.declared.seen.Seen.{Seen}
+use Rattle.eh_match.specs.declared.seen.BaseLookup.{BaseLookup}
 use Rattle.eh_match.specs.Paths.{paths}
-use Rattle.eh_match.specs.Walk.{along, path_of, noted}
+use Rattle.eh_match.specs.Walk.{along, path_of, with_path_if_wanted}
 
 -- the paths that go on from a path
 abbrev pub walked : List Row → List Segment → ℕ → Path → List Path
@@ -41,18 +41,18 @@ paths_some g segments zero p h = grind arith
 paths_some g segments (suc n) p h = rw (let e : suc n - 1 ≡ n = omega arith in e) (ap (λ rest. p ∷ rest) (by_bases g segments n p (bases_of g p.ty)))
 
 -- where a walk over the bases begins, and a base further on
-pub walk_begun : (g : List Row) (segments : List Segment) (w n : ℕ) (p : Path) (s noted_s : Seen) (bases : List Base) → 0 < n → noted_s ≡ noted g w s p → bases ≡ bases_of g p.ty
-    → fold (noted g w) noted_s (flat_map (λ b. walked g segments (n - 1) (along segments p b)) bases) ≡ fold (noted g w) s (walked g segments n p)
+pub walk_begun : (g : List Row) (segments : List Segment) (w n : ℕ) (p : Path) (s noted_s : BaseLookup) (bases : List Base) → 0 < n → noted_s ≡ with_path_if_wanted g w s p → bases ≡ bases_of g p.ty
+    → fold (with_path_if_wanted g w) noted_s (flat_map (λ b. walked g segments (n - 1) (along segments p b)) bases) ≡ fold (with_path_if_wanted g w) s (walked g segments n p)
 walk_begun g segments w n p s noted_s bases h k e =
     let all : List Base → List Path = flat_map (λ b. walked g segments (n - 1) (along segments p b)) in
-    ap (λ t. fold (noted g w) t (all bases)) k ∙ ap (λ bs. fold (noted g w) (noted g w s p) (all bs)) e ∙ sym (ap (fold (noted g w) s) (paths_some g segments n p h))
+    ap (λ t. fold (with_path_if_wanted g w) t (all bases)) k ∙ ap (λ bs. fold (with_path_if_wanted g w) (with_path_if_wanted g w s p) (all bs)) e ∙ sym (ap (fold (with_path_if_wanted g w) s) (paths_some g segments n p h))
 
-pub walk_on : (g : List Row) (segments : List Segment) (w n : ℕ) (p : Path) (seen next : Seen) (left : List Base) (b : Base) (more : List Base) (end : Seen) → left ≡ b ∷ more
-    → next ≡ fold (noted g w) seen (walked g segments (n - 1) (along segments p b)) → fold (noted g w) seen (flat_map (λ b. walked g segments (n - 1) (along segments p b)) left) ≡ end
-    → fold (noted g w) next (flat_map (λ b. walked g segments (n - 1) (along segments p b)) more) ≡ end
+pub walk_on : (g : List Row) (segments : List Segment) (w n : ℕ) (p : Path) (seen next : BaseLookup) (left : List Base) (b : Base) (more : List Base) (end : BaseLookup) → left ≡ b ∷ more
+    → next ≡ fold (with_path_if_wanted g w) seen (walked g segments (n - 1) (along segments p b)) → fold (with_path_if_wanted g w) seen (flat_map (λ b. walked g segments (n - 1) (along segments p b)) left) ≡ end
+    → fold (with_path_if_wanted g w) next (flat_map (λ b. walked g segments (n - 1) (along segments p b)) more) ≡ end
 walk_on g segments w n p seen next left b more end e k h =
     let all : List Base → List Path = flat_map (λ b. walked g segments (n - 1) (along segments p b)) in
-    ap (λ t. fold (noted g w) t (all more)) k
-    ∙ sym (fold-append (noted g w) seen (walked g segments (n - 1) (along segments p b)) (all more))
-    ∙ sym (ap (λ bs. fold (noted g w) seen (all bs)) e)
+    ap (λ t. fold (with_path_if_wanted g w) t (all more)) k
+    ∙ sym (fold-append (with_path_if_wanted g w) seen (walked g segments (n - 1) (along segments p b)) (all more))
+    ∙ sym (ap (λ bs. fold (with_path_if_wanted g w) seen (all bs)) e)
     ∙ h

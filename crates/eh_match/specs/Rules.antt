@@ -1,15 +1,15 @@
--- Whether a thrown type is caught as a wanted one, and what is caught (docs/matching.md).
+-- Whether a thrown type is caught as a wanted one, and what is caught (docs/rules/types-and-matching.md).
 use Rattle.std.specs.Prelude.{ℕ, zero, suc, Bool, true, false, not, ◌==◌, ◌&&◌, ◌||◌, List, length, slice_index, Option, Some, None, Result, Ok, Err, option_map, if◌then◌else◌}
 use Rattle.std.specs.Int.{bit_at}
 use Rattle.eh_bus.specs.Segment.{Segment}
 use Rattle.eh_types.specs.declared.kind.TypeKind.{TypeKind}
 use Rattle.eh_types.specs.declared.kind.TypeKind.TheVariants.{Other, Fundamental, Class, Si, Vmi, Pointer}
 use Rattle.eh_types.specs.Graph.{Row, kind_of, name_of, same_type}
-use Rattle.eh_match.specs.declared.rules.TheConstants.{VOID_NAME, FUNCTION_MARK, CONST_BIT, VOLATILE_BIT}
+use Rattle.eh_match.specs.declared.rules.TheConstants.{VOID_NAME, FUNCTION_MARK, CONST_BIT, VOLATILE_BIT, TRANSACTION_SAFE_BIT, NOEXCEPT_BIT}
 use Rattle.eh_match.specs.declared.rules.Match.{Match}
 use Rattle.eh_match.specs.declared.rules.Match.TheVariants.{Failed, Object, PointerToBase, Unreadable}
 use Rattle.eh_match.specs.declared.rules.Pointing.{Pointing}
-use Rattle.eh_match.specs.Address.{read, address}
+use Rattle.eh_match.specs.Address.{load_or_address, address}
 use Rattle.eh_match.specs.Subobjects.{chosen}
 
 abbrev pub is_class : Option TypeKind → Bool
@@ -57,7 +57,7 @@ object_at None = Failed
 object_at (Some (Ok a)) = Object a
 object_at (Some (Err refused)) = Unreadable refused
 
--- a null pointer stays one, and where the pointer itself can't be loaded no base is sought
+-- a null pointer stays null; if the pointer itself can't be loaded, no base is looked for
 abbrev pub pointer_to : Result ℕ ℕ → Result ℕ ℕ → Match
 pointer_to (Ok zero) at = PointerToBase 0
 pointer_to (Ok (suc p)) (Ok a) = PointerToBase a
@@ -68,7 +68,7 @@ abbrev pub pointer_at : Result ℕ ℕ → Option (Result ℕ ℕ) → Match
 pointer_at pointer None = Failed
 pointer_at pointer (Some at) = pointer_to pointer at
 
--- where the subobject of a wanted type stands in an object, by the first public path to it
+-- the address of the subobject of a wanted type in an object, by the first public path to it
 abbrev pub base_at : List Row → List Segment → ℕ → Result ℕ ℕ → ℕ → Option (Result ℕ ℕ)
 base_at g segments ty at wanted = option_map (address segments at) (chosen g ty wanted)
 
@@ -78,19 +78,24 @@ abbrev pub pointee_match : List Row → List Segment → ℕ → ℕ → ℕ →
 pointee_match g segments from object to =
     if same_type g from to then Object object else (
     if is_void g to then (if is_function g from then Failed else Object object) else (
-    if is_class_type g from && is_class_type g to then pointer_at (read segments object) (base_at g segments from (read segments object) to) else Failed))
+    if is_class_type g from && is_class_type g to then pointer_at (load_or_address segments object) (base_at g segments from (load_or_address segments object) to) else Failed))
 
--- a bit of the thrown pointee's qualifiers isn't among the wanted one's
+-- a bit is set in the first flags and not in the second
 abbrev pub is_dropped : ℕ → ℕ → ℕ → Bool
 is_dropped bit flags wanted = bit_at flags bit == 1 && bit_at wanted bit == 0
 
+-- the thrown pointer's pointee is const or volatile, and the wanted one's isn't
 abbrev pub loses_qualifier : ℕ → ℕ → Bool
 loses_qualifier flags wanted = is_dropped CONST_BIT flags wanted || is_dropped VOLATILE_BIT flags wanted
+
+-- the wanted pointer's function is transaction-safe or noexcept, and the thrown one's isn't
+abbrev pub adds_promise : ℕ → ℕ → Bool
+adds_promise flags wanted = is_dropped TRANSACTION_SAFE_BIT wanted flags || is_dropped NOEXCEPT_BIT wanted flags
 
 abbrev pub pointer_match : List Row → List Segment → ℕ → Option Pointing → Option Pointing → Match
 pointer_match g segments object None wanted = Failed
 pointer_match g segments object (Some thrown) None = Failed
-pointer_match g segments object (Some thrown) (Some wanted) = if loses_qualifier thrown.flags wanted.flags then Failed else pointee_match g segments thrown.pointee object wanted.pointee
+pointer_match g segments object (Some thrown) (Some wanted) = if loses_qualifier thrown.flags wanted.flags || adds_promise thrown.flags wanted.flags then Failed else pointee_match g segments thrown.pointee object wanted.pointee
 
 -- ---- all types
 

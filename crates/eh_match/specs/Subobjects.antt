@@ -1,4 +1,4 @@
--- The condition on the paths: one subobject of a wanted type, and a public path to it (docs/matching.md).
+-- The condition on the paths: one subobject of a wanted type, and a public path to it (docs/rules/types-and-matching.md).
 use Rattle.std.specs.Prelude.{ℕ, Bool, false, ◌==◌, ◌&&◌, List, [], ◌∷◌, Option, Some, None, filter, find, if◌then◌else◌}
 use Rattle.std.specs.List.{list_all}
 use Rattle.std.specs.Option.{is_none}
@@ -7,7 +7,7 @@ use Rattle.eh_types.specs.declared.graph.TheConstants.{MOST_PATHS}
 use Rattle.eh_types.specs.Graph.{Row, same_type}
 use Rattle.eh_match.specs.Paths.{paths, end_of, is_public, root_of, offset_of}
 
--- equal types name the same virtual base; the whole object is none of them
+-- equal types are the same virtual base; None, the whole object, is only equal to itself
 abbrev pub same_root : List Row → Option ℕ → Option ℕ → Bool
 same_root g None other = is_none other
 same_root g (Some ty) None = false

@@ -1,21 +1,21 @@
-//! What the rules come to, in the words of the standard: laws above the list of paths. docs/matching.md states them.
-ghost use Rattle.eh_match.specs.Laws.{TypesMatchThemselves, ZeroMatchesNothing, UnheldTypesStandAlone, PathsAreAllChains, PathsGoDepthFirst, PlainPathsAreNamed, VirtualPathsAreNamed, SubobjectsAreTold, PathsArePublicByStep, PlainStepsAdd, OffsetsAreSigned, VirtualStepsGoByTheVtable, AddressesFollow, NoPublicPathFails, PartedBasesFail, OneBaseIsCaught, OnePathIsCaught, OnePlainPathIsCaught, TwoPlainBasesFail, PlainAndVirtualBaseFail, VirtualBaseIsOne, QualifiersAreKept, PointersFollowTheirPointees, UnreadPointersAreNamed};
+//! The consequences of the rules, in the terms of the standard: laws of the list of paths. docs/rules/types-and-matching.md states them.
+ghost use Rattle.eh_match.specs.Laws.{TypesMatchThemselves, ZeroMatchesNothing, UnheldTypesStandAlone, PathsAreAllChains, PathsGoDepthFirst, PlainPathsAreNamed, VirtualPathsAreNamed, SubobjectsAreTold, PathsArePublicByStep, PlainStepsAdd, OffsetsAreSigned, VirtualStepsGoByTheVtable, AddressesFollow, NoPublicPathFails, PartedBasesFail, OneBaseIsCaught, OnePathIsCaught, OnePlainPathIsCaught, TwoPlainBasesFail, PlainAndVirtualBaseFail, VirtualBaseIsOne, QualifiersAreKept, PromisesAreKept, PointersFollowTheirPointees, UnreadPointersAreNamed};
 
-/// A type is caught as itself; type 0 matches nothing; a type that the graph doesn't hold matches no other.
+/// A type is caught as itself. Type 0 matches nothing. A type that the graph doesn't have matches no other type.
 pub fn equal_types_match()
     ensures themselves { TypesMatchThemselves }
     ensures zero { ZeroMatchesNothing }
     ensures unheld { UnheldTypesStandAlone }
 {}
 
-/// The paths of a type are all chains of base steps from it, depth first in the order of bases: no bound cuts one off.
+/// The paths of a type are all chains of steps to a base, depth first in the order of the bases; no bound cuts one off.
 pub fn paths_are_all_chains()
     ensures chains { PathsAreAllChains }
     ensures order { PathsGoDepthFirst }
 {}
 
-/// A subobject is named by the type that the last virtual step to it reaches, and the sum of the offsets after that; and so two are
-/// told apart. A path is public where each of its steps is.
+/// A subobject is identified by the type that the last virtual step to it reaches, and the sum of the offsets after that step. A path
+/// is public if all its steps are.
 pub fn subobjects_are_named()
     ensures plain { PlainPathsAreNamed }
     ensures by_virtual { VirtualPathsAreNamed }
@@ -23,7 +23,8 @@ pub fn subobjects_are_named()
     ensures public { PathsArePublicByStep }
 {}
 
-/// A step adds its signed offset, or, a virtual one, the word that the vtable has at that offset.
+/// A step to a base adds the base's signed offset to the address. A step to a virtual base adds the word that the vtable has at that
+/// offset.
 pub fn addresses_follow_the_steps()
     ensures plain { PlainStepsAdd }
     ensures signed { OffsetsAreSigned }
@@ -31,30 +32,32 @@ pub fn addresses_follow_the_steps()
     ensures parts { AddressesFollow }
 {}
 
-/// A class is caught as a base of it exactly where all paths to that base lead to one subobject and one of them is public; and at the
-/// address that the first public one gives.
+/// A class is caught as a base if and only if all paths to the base lead to one subobject and one of them is public. The handler is
+/// given the address that the first public path gives.
 pub fn a_class_is_caught_as_its_one_public_base()
     ensures not_public { NoPublicPathFails }
     ensures parted { PartedBasesFail }
     ensures caught { OneBaseIsCaught }
 {}
 
-/// Where one path alone leads to a base, and it is public, the base's address is the answer.
+/// If there is only one path to a base, and it is public, then the handler is given the base's address.
 pub fn a_base_with_one_path_is_caught_at_its_address()
     ensures path { OnePathIsCaught }
     ensures plain { OnePlainPathIsCaught }
 {}
 
-/// A base that stands twice in a class isn't caught; a base that is virtual on each path stands once.
+/// A base that is in a class twice isn't caught. A base that is virtual on every path is in the class once.
 pub fn diamonds_are_told_apart()
     ensures two { TwoPlainBasesFail }
     ensures mixed { PlainAndVirtualBaseFail }
     ensures one { VirtualBaseIsOne }
 {}
 
-/// A pointer keeps its qualifiers, and follows what it points to; a null pointer stays one.
+/// A caught pointer keeps the qualifiers, doesn't gain `noexcept` or transaction safety, and converts as its pointee does. A null
+/// pointer stays null.
 pub fn pointers_follow_their_pointees()
     ensures qualifiers { QualifiersAreKept }
+    ensures promises { PromisesAreKept }
     ensures pointees { PointersFollowTheirPointees }
     ensures unread { UnreadPointersAreNamed }
 {}

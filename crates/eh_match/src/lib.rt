@@ -1,4 +1,4 @@
-//! Whether a thrown type is caught as another one: the rules of docs/matching.md over a graph of types and a memory.
+//! Whether a thrown type is caught as another type: the rules of docs/rules/types-and-matching.md, over a graph of types and a memory.
 #![tactic(auto)]
 
 pub mod laws;

@@ -1,29 +1,29 @@
-//! A path of base steps, by what is asked of it. docs/matching.md says how a subobject is named.
+//! A path of steps to bases, with what the walk needs to know of it. docs/rules/types-and-matching.md says how a subobject is identified.
 ghost use Rattle.std.specs.Prelude.{◌≡◌, Result};
-ghost use Rattle.eh_match.specs.Address.{read, stepped_to};
-ghost use Rattle.eh_match.specs.Walk.{along, whole};
+ghost use Rattle.eh_match.specs.Address.{load_or_address, address_after_step};
+ghost use Rattle.eh_match.specs.Walk.{along, empty_path};
 
 use eh_bus::bus::Bus;
 use eh_types::Base;
 
-/// What a walk knows of a path of base steps.
+/// What the walk knows of a path of steps to bases.
 #[derive(Clone, Copy)]
 pub struct Path {
-    /// The type that the path leads to.
+    /// The address of the type that the path leads to.
     pub ty: u32,
-    /// Whether each of its steps is public.
+    /// Whether each of its steps is to a public base.
     pub is_public: bool,
-    /// The type that its last virtual step reaches.
+    /// The type that its last virtual step reaches; None if it has no virtual step.
     pub root: Option<u32>,
-    /// The sum of the offsets after that step, modulo 2^32.
+    /// The sum of the offsets after that step in bytes, modulo 2^32.
     pub offset: u32,
-    /// The address of its subobject, or the first address along it that can't be loaded.
+    /// The address of the subobject that it leads to; Err with the first address on the way that can't be loaded.
     pub at: Result<u32, u32>,
 }
 
-/// The word at an address, or that address where it can't be loaded.
-pub fn read<B: Bus>(bus: &B, a: u32) -> Result<u32, u32>
-    ensures { result ≡ read (B.memory bus.now).segments a }
+/// The word at an address; Err with the address if it can't be loaded.
+pub fn load_or_address<B: Bus>(bus: &B, a: u32) -> Result<u32, u32>
+    ensures { result ≡ load_or_address (B.memory bus.now).segments a }
 {
     match bus.load32(a) {
         Ok(word) => Ok(word),
@@ -31,17 +31,20 @@ pub fn read<B: Bus>(bus: &B, a: u32) -> Result<u32, u32>
     }
 }
 
-/// The address after a step from an address.
-fn stepped_to<B: Bus>(bus: &B, at: Result<u32, u32>, base: &Base) -> Result<u32, u32>
-    ensures { result ≡ stepped_to (B.memory bus.now).segments at base.now }
+/// The address of a base, from the address of the object; Err with the first address that can't be loaded.
+fn address_after_step<B: Bus>(bus: &B, at: Result<u32, u32>, base: &Base) -> Result<u32, u32>
+    ensures { result ≡ address_after_step (B.memory bus.now).segments at base.now }
 {
     match at {
         Err(refused) => Err(refused),
         Ok(a) => {
             if base.is_virtual {
-                match read(bus, a) {
+                match load_or_address(bus, a) {
                     Err(refused) => Err(refused),
-                    Ok(vtable) => match read(bus, vtable.wrapping_add_signed(base.offset)) {
+                    Ok(vtable) => match load_or_address(
+                        bus,
+                        vtable.wrapping_add_signed(base.offset),
+                    ) {
                         Err(refused) => Err(refused),
                         Ok(distance) => Ok(a.wrapping_add(distance)),
                     },
@@ -54,9 +57,9 @@ fn stepped_to<B: Bus>(bus: &B, at: Result<u32, u32>, base: &Base) -> Result<u32,
 }
 
 impl Path {
-    /// The path of no step, to the whole object.
-    pub fn whole(ty: u32, at: Result<u32, u32>) -> Self
-        ensures { result ≡ whole ty at }
+    /// The path without steps, to the whole object of type `ty` at `at`.
+    pub fn empty_path(ty: u32, at: Result<u32, u32>) -> Self
+        ensures { result ≡ empty_path ty at }
     {
         Path {
             ty,
@@ -67,8 +70,8 @@ impl Path {
         }
     }
 
-    /// The path one step further.
-    pub fn along<B: Bus>(&self, base: &Base, bus: &B) -> Self
+    /// This path with one more step, to `base`.
+    pub fn with_step<B: Bus>(&self, base: &Base, bus: &B) -> Self
         ensures { result ≡ along (B.memory bus.now).segments self.now base.now }
     {
         Path {
@@ -84,7 +87,7 @@ impl Path {
             } else {
                 self.offset.wrapping_add_signed(base.offset)
             },
-            at: stepped_to(bus, self.at, base),
+            at: address_after_step(bus, self.at, base),
         }
     }
 }

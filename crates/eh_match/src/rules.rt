@@ -1,39 +1,45 @@
-//! The rules by which a thrown type is caught as a wanted one, in their order. docs/matching.md states them.
+//! The rules by which a thrown type is caught as a wanted type, in their order. docs/rules/types-and-matching.md states them.
 ghost use Rattle.std.specs.Prelude.{◌≡◌, ◌<◌, Option, Result};
 ghost use Rattle.eh_types.specs.Graph.{kind_of};
-ghost use Rattle.eh_match.specs.Rules.{is_class_type, is_fundamental, is_void, is_function, pointer_of, object_at, pointer_at, pointee_match, is_dropped, loses_qualifier, pointer_match, unequal_match, match_of};
+ghost use Rattle.eh_match.specs.Rules.{is_class_type, is_fundamental, is_void, is_function, pointer_of, object_at, pointer_at, pointee_match, is_dropped, loses_qualifier, adds_promise, pointer_match, unequal_match, match_of};
 
-use crate::path::read;
-use crate::walk::reached;
+use crate::path::load_or_address;
+use crate::walk::base_at;
 use eh_bus::bus::Bus;
 use eh_types::{TypeGraph, TypeKind};
 
-/// The name of void in its type information.
+/// The name of `void` in type information.
 pub const VOID_NAME: u8 = b'v';
 
-/// The first byte of a function type's name.
+/// The first byte of the name of a function type.
 pub const FUNCTION_MARK: u8 = b'F';
 
-/// The bit of a pointer's flags that says that its pointee is const.
+/// The number of the pointer flag for a const pointee.
 pub const CONST_BIT: u32 = 0;
 
-/// The bit of a pointer's flags that says that its pointee is volatile.
+/// The number of the pointer flag for a volatile pointee.
 pub const VOLATILE_BIT: u32 = 1;
 
-/// What a catch of a wanted type makes of a thrown object.
+/// The number of the pointer flag for a pointee that is a transaction-safe function.
+pub const TRANSACTION_SAFE_BIT: u32 = 5;
+
+/// The number of the pointer flag for a pointee that is a `noexcept` function.
+pub const NOEXCEPT_BIT: u32 = 6;
+
+/// How a thrown object matches the type of a catch.
 #[derive(Clone, Copy, PartialEq, Eq)]
 pub enum Match {
-    /// It doesn't catch it.
+    /// It isn't caught.
     Failed,
-    /// It catches the object, or a base of it, at this address.
+    /// The object, or a base of it, is caught: its address.
     Object(u32),
-    /// It catches a pointer to a base of what the thrown pointer points to: this address, 0 for a null pointer.
+    /// A pointer to a base of the thrown pointer's pointee is caught: the base's address, 0 for a null pointer.
     PointerToBase(u32),
-    /// It would catch it, but the word at this address, which is needed to find the base, can't be loaded.
+    /// It can't be decided: the word at this address is needed to find the base, and can't be loaded.
     Unreadable(u32),
 }
 
-/// What a pointer's type says: the qualifiers of what it points to, and its type.
+/// A pointer type: the qualifiers of its pointee, and the pointee's type.
 #[derive(Clone, Copy)]
 struct Pointing {
     flags: u32,
@@ -121,7 +127,7 @@ fn pointer_at(pointer: Result<u32, u32>, found: Option<Result<u32, u32>>) -> Mat
     }
 }
 
-/// A thrown pointer to `from` as a wanted one to `to`, whose qualifiers are kept.
+/// The match of a thrown pointer to `from` with a wanted pointer to `to`, if the qualifiers allow it.
 fn pointee_match<B: Bus>(graph: &TypeGraph, bus: &B, from: u32, object: u32, to: u32) -> Match
     ensures { result ≡ pointee_match graph.now (B.memory bus.now).segments from object to }
 {
@@ -134,14 +140,14 @@ fn pointee_match<B: Bus>(graph: &TypeGraph, bus: &B, from: u32, object: u32, to:
             Match::Object(object)
         }
     } else if is_class_type(graph, from) && is_class_type(graph, to) {
-        let pointer = read(bus, object);
-        pointer_at(pointer, reached(graph, bus, from, pointer, to))
+        let pointer = load_or_address(bus, object);
+        pointer_at(pointer, base_at(graph, bus, from, pointer, to))
     } else {
         Match::Failed
     }
 }
 
-/// Whether a qualifier is among the flags and not among the wanted ones.
+/// Whether bit `bit` is set in `flags` and not in `wanted`.
 fn is_dropped(bit: u32, flags: u32, wanted: u32) -> bool
     requires { bit < 32 }
     ensures { result ≡ is_dropped bit flags wanted }
@@ -153,6 +159,13 @@ fn loses_qualifier(flags: u32, wanted: u32) -> bool
     ensures { result ≡ loses_qualifier flags wanted }
 {
     is_dropped(CONST_BIT, flags, wanted) || is_dropped(VOLATILE_BIT, flags, wanted)
+}
+
+/// Whether the wanted pointer's function is transaction-safe or `noexcept` while the thrown one's isn't.
+fn adds_promise(flags: u32, wanted: u32) -> bool
+    ensures { result ≡ adds_promise flags wanted }
+{
+    is_dropped(TRANSACTION_SAFE_BIT, wanted, flags) || is_dropped(NOEXCEPT_BIT, wanted, flags)
 }
 
 fn pointer_match<B: Bus>(
@@ -169,7 +182,9 @@ fn pointer_match<B: Bus>(
         Some(thrown) => match wanted {
             None => Match::Failed,
             Some(wanted) => {
-                if loses_qualifier(thrown.flags, wanted.flags) {
+                if loses_qualifier(thrown.flags, wanted.flags)
+                    || adds_promise(thrown.flags, wanted.flags)
+                {
                     Match::Failed
                 } else {
                     pointee_match(graph, bus, thrown.pointee, object, wanted.pointee)
@@ -183,7 +198,7 @@ fn unequal_match<B: Bus>(graph: &TypeGraph, bus: &B, thrown: u32, object: u32, w
     ensures { result ≡ unequal_match graph.now (B.memory bus.now).segments thrown object wanted }
 {
     if is_class_type(graph, thrown) && is_class_type(graph, wanted) {
-        object_at(reached(graph, bus, thrown, Ok(object), wanted))
+        object_at(base_at(graph, bus, thrown, Ok(object), wanted))
     } else {
         pointer_match(
             graph,
@@ -195,9 +210,9 @@ fn unequal_match<B: Bus>(graph: &TypeGraph, bus: &B, thrown: u32, object: u32, w
     }
 }
 
-/// What a catch of the type `wanted` makes of the object at `object`, of the type `thrown`. Type 0 matches nothing. Whether a catch is
-/// by reference plays no part. It reads memory and takes none; it meets each path of base steps of the thrown type, or of what that
-/// points to, once.
+/// How an object of type `thrown` at `object` matches a catch of the type `wanted`. Type 0 matches nothing. Catching by value or by
+/// reference makes no difference. It reads memory and allocates nothing. It visits each path to a base of the thrown type, or of its
+/// pointee, once.
 #[tactic(auto, unfolding(crate::specs::Rules::match_of))]
 pub fn type_match<B: Bus>(
     graph: &TypeGraph,

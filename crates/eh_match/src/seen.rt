@@ -1,17 +1,18 @@
-//! What the paths so far say of a wanted type: none leads to it, they name one subobject of it, or more. docs/matching.md states the rules.
+//! What the paths so far tell of a wanted type: none leads to it, they lead to one subobject, or to more. docs/rules/types-and-matching.md states the
+//! rules.
 ghost use Rattle.std.specs.Prelude.{◌≡◌, ℕ, Bool, Option, Result};
 ghost use Rattle.eh_match.specs.Subobjects.{same_root};
-ghost use Rattle.eh_match.specs.Walk.{is_alike, public_at, noted, held_of};
+ghost use Rattle.eh_match.specs.Walk.{is_alike, public_at, with_path_if_wanted, public_address};
 
 use crate::path::Path;
 use eh_types::TypeGraph;
 
-/// What the paths so far say of a wanted type.
+/// What the paths so far tell of a wanted type.
 #[derive(Clone, Copy)]
-pub enum Seen {
+pub enum BaseLookup {
     /// No path leads to it.
     Nothing,
-    /// They lead to one subobject: the first path, and where the first public one leads.
+    /// They lead to one subobject. Has the first such path, and where the first public one leads (None if none is public).
     One(Path, Option<Result<u32, u32>>),
     /// They lead to more than one subobject.
     Parted,
@@ -41,18 +42,18 @@ fn public_at(path: &Path) -> Option<Result<u32, u32>>
     if path.is_public { Some(path.at) } else { None }
 }
 
-impl Seen {
-    /// What is seen with a path more.
-    #[tactic(auto, unfolding(crate::specs::Walk::noted))]
-    pub fn note(self, graph: &TypeGraph, wanted: u32, path: &Path) -> Seen
-        ensures { result ≡ noted graph.now wanted self path.now }
+impl BaseLookup {
+    /// The result with one more path.
+    #[tactic(auto, unfolding(crate::specs::Walk::with_path_if_wanted))]
+    pub fn note(self, graph: &TypeGraph, wanted: u32, path: &Path) -> BaseLookup
+        ensures { result ≡ with_path_if_wanted graph.now wanted self path.now }
     {
         if graph.is_same(path.ty, wanted) {
             match self {
-                Seen::Nothing => Seen::One(*path, public_at(path)),
-                Seen::One(first, held) => {
+                BaseLookup::Nothing => BaseLookup::One(*path, public_at(path)),
+                BaseLookup::One(first, held) => {
                     if is_alike(graph, &first, path) {
-                        Seen::One(
+                        BaseLookup::One(
                             first,
                             if held.is_some() {
                                 held
@@ -61,23 +62,23 @@ impl Seen {
                             },
                         )
                     } else {
-                        Seen::Parted
+                        BaseLookup::Parted
                     }
                 }
-                Seen::Parted => Seen::Parted,
+                BaseLookup::Parted => BaseLookup::Parted,
             }
         } else {
             self
         }
     }
 
-    /// Where the one subobject stands by a public path, if there is one.
+    /// Where the first public path to the one subobject leads; None if there is no such path or subobject.
     pub fn held(self) -> Option<Result<u32, u32>>
-        ensures { result ≡ held_of self }
+        ensures { result ≡ public_address self }
     {
         match self {
-            Seen::One(_, held) => held,
-            Seen::Nothing | Seen::Parted => None,
+            BaseLookup::One(_, held) => held,
+            BaseLookup::Nothing | BaseLookup::Parted => None,
         }
     }
 }

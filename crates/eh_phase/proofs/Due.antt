@@ -13,7 +13,7 @@ use Rattle.eh_phase.specs.declared.phase2.Goal.{Goal}
 use Rattle.eh_phase.specs.declared.phase2.Entered.{Entered}
 use Rattle.eh_phase.specs.declared.phase2.Entered.TheVariants as enters
 use Rattle.eh_phase.specs.Verdict.{in_scope}
-use Rattle.eh_phase.specs.Phases.{Frame, Place, is_goal, vrs_of, entered_item, entered_at}
+use Rattle.eh_phase.specs.Phases.{Frame, Place, is_goal, vrs_of, enter_item, enter_at_place}
 use Rattle.eh_phase.specs.Cleanups.{is_barrier_item, is_barrier, cleanup_item, cleanup_at, cleanups_in, due_in, can_be_read, is_reached_in}
 
 -- an entered barrier: neither a cleanup nor an end
@@ -26,11 +26,11 @@ Stops (enters.Terminate cause) = ⊥
 
 -- an item can't be read; or nothing comes of it; or it is a cleanup in scope; or the barrier
 pub data Sort (g : Goal) (f : Frame) (i : Result Desc DescFault) : Type 0 where
-  Unread : can_be_read i ≡ false → (entered_item g f i ≡ Some (enters.Terminate CannotUnwind)) → Sort g f i
-  Quiet : can_be_read i ≡ true → entered_item g f i ≡ None → cleanup_item f i ≡ None → is_barrier_item g f i ≡ false → Sort g f i
-  Clean : (d : Desc) (pad : ℕ) → i ≡ Ok d → entered_item g f i ≡ Some (enters.Cleanup (vrs_of f) pad d.next f.site)
+  Unread : can_be_read i ≡ false → (enter_item g f i ≡ Some (enters.Terminate CannotUnwind)) → Sort g f i
+  Quiet : can_be_read i ≡ true → enter_item g f i ≡ None → cleanup_item f i ≡ None → is_barrier_item g f i ≡ false → Sort g f i
+  Clean : (d : Desc) (pad : ℕ) → i ≡ Ok d → enter_item g f i ≡ Some (enters.Cleanup (vrs_of f) pad d.next f.site)
       → cleanup_item f i ≡ Some (enters.Cleanup (vrs_of f) pad d.next f.site) → is_barrier_item g f i ≡ false → Sort g f i
-  Stop : (e : Entered) → Stops e → can_be_read i ≡ true → entered_item g f i ≡ Some e → is_barrier_item g f i ≡ true → Sort g f i
+  Stop : (e : Entered) → Stops e → can_be_read i ≡ true → enter_item g f i ≡ Some e → is_barrier_item g f i ≡ true → Sort g f i
 
 pub sort : (g : Goal) (f : Frame) (i : Result Desc DescFault) → Sort g f i
 sort g f (Err fault) = Unread refl refl
@@ -66,7 +66,7 @@ unfolding due_in cleanups_in
 due_past g p ps e =
     rw (take_while-cons (λ x. not (is_barrier g x)) p ps, e) (cons-append (cleanup_at p) _ _)
 
-pub due_stop : (g : Goal) (p : Place) (ps : List Place) → is_barrier g p ≡ true → due_in g (p ∷ ps) ≡ option_to_list (entered_at g p)
+pub due_stop : (g : Goal) (p : Place) (ps : List Place) → is_barrier g p ≡ true → due_in g (p ∷ ps) ≡ option_to_list (enter_at_place g p)
 unfolding due_in cleanups_in
 due_stop g p ps e = rw (take_while-cons (λ x. not (is_barrier g x)) p ps, e) refl
 

@@ -1,17 +1,17 @@
 -- The first of a list that gives something.
 use Rattle.std.proofs.Common.{◌≡◌, List, [], ◌∷◌, ◌++◌, map, refl, sym, ◌∙◌, ap, Option, Some, None, true}
 use Rattle.std.specs.Option.{is_some}
-use Rattle.eh_phase.specs.Firsts.{first_some, or_next}
+use Rattle.eh_phase.specs.Firsts.{first_some, or_else}
 
-pub or_past : {B : Type 0} (o more : Option B) → o ≡ None → or_next o more ≡ more
+pub or_past : {B : Type 0} (o more : Option B) → o ≡ None → or_else o more ≡ more
 or_past None more e = refl
 or_past (Some x) more e = absurd cc
 
-pub or_here : {B : Type 0} (o more : Option B) → is_some o ≡ true → or_next o more ≡ o
+pub or_here : {B : Type 0} (o more : Option B) → is_some o ≡ true → or_else o more ≡ o
 or_here None more e = absurd cc
 or_here (Some x) more e = refl
 
-pub or_assoc : {B : Type 0} (o p q : Option B) → or_next (or_next o p) q ≡ or_next o (or_next p q)
+pub or_assoc : {B : Type 0} (o p q : Option B) → or_else (or_else o p) q ≡ or_else o (or_else p q)
 or_assoc None p q = refl
 or_assoc (Some x) p q = refl
 
@@ -29,22 +29,22 @@ pub first_none : {A B : Type 0} (f : A → Option B) → first_some f [] ≡ Non
 unfolding first_some
 first_none f = refl
 
-pub first-append : {A B : Type 0} (f : A → Option B) (xs ys : List A) → first_some f (xs ++ ys) ≡ or_next (first_some f xs) (first_some f ys)
+pub first-append : {A B : Type 0} (f : A → Option B) (xs ys : List A) → first_some f (xs ++ ys) ≡ or_else (first_some f xs) (first_some f ys)
 unfolding first_some
 first-append f [] ys = refl
-first-append f (x ∷ more) ys = ap (or_next (f x)) (first-append f more ys) ∙ sym (or_assoc (f x) (first_some f more) (first_some f ys))
+first-append f (x ∷ more) ys = ap (or_else (f x)) (first-append f more ys) ∙ sym (or_assoc (f x) (first_some f more) (first_some f ys))
 
 pub first-map : {A B C : Type 0} (f : B → Option C) (h : A → B) (xs : List A) → first_some f (map h xs) ≡ first_some (λ x. f (h x)) xs
 unfolding first_some
 first-map f h [] = refl
-first-map f h (x ∷ more) = ap (or_next (f (h x))) (first-map f h more)
+first-map f h (x ∷ more) = ap (or_else (f (h x))) (first-map f h more)
 
 -- two functions that give the same
 pub first_same : {A B : Type 0} (f g : A → Option B) (xs : List A) → ((x : A) → f x ≡ g x) → first_some f xs ≡ first_some g xs
 unfolding first_some
 first_same f g [] same = refl
-first_same f g (x ∷ more) same = ap (λ o. or_next o (first_some f more)) (same x) ∙ ap (or_next (g x)) (first_same f g more same)
+first_same f g (x ∷ more) same = ap (λ o. or_else o (first_some f more)) (same x) ∙ ap (or_else (g x)) (first_same f g more same)
 
 pub first_gives : {A B : Type 0} (f : A → Option B) (x : A) (more : List A) (y : B) → f x ≡ Some y → first_some f (x ∷ more) ≡ Some y
 unfolding first_some
-first_gives f x more y e = ap (λ o. or_next o (first_some f more)) e
+first_gives f x more y e = ap (λ o. or_else o (first_some f more)) e

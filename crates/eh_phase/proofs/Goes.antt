@@ -11,8 +11,8 @@ use Rattle.eh_desc.specs.Laws.{Follow, Rise}
 use Rattle.eh_phase.specs.declared.phase2.Goal.{Goal}
 use Rattle.eh_phase.specs.declared.phase2.Entered.{Entered}
 use Rattle.eh_phase.specs.declared.phase2.Entered.TheVariants as enters
-use Rattle.eh_phase.specs.Firsts.{first_some, or_next}
-use Rattle.eh_phase.specs.Phases.{Frame, Frames, Place, placed, places, stands_at, from_descriptor, from_address, vrs_of, entered_item, entered_at, phase2}
+use Rattle.eh_phase.specs.Firsts.{first_some, or_else}
+use Rattle.eh_phase.specs.Phases.{Frame, Frames, Place, descriptor_places, places, stands_at, from_descriptor, from_address, vrs_of, enter_item, enter_at_place, phase2}
 use Rattle.eh_phase.specs.Cleanups.{due_in, can_be_read, is_reached_in}
 use Rattle.eh_phase.specs.Laws.{IsInOrder, GoesOn, CleanupsGoOn}
 use Rattle.eh_phase.proofs.First.{first_past, first_gives, first_none}
@@ -29,8 +29,8 @@ pub record Cleans (g : Goal) (f : Frame) (items : List (Result Desc DescFault)) 
   pub next_is : desc.next ≡ next
   pub registers : vrs_of f ≡ vrs
   pub stands : f.site ≡ site
-  pub due : due_in g (placed f items ++ qs) ≡ enters.Cleanup vrs pad next site ∷ due_in g (placed f later ++ qs)
-  pub reach : is_reached_in g (placed f items ++ qs) ≡ true → is_reached_in g (placed f later ++ qs) ≡ true
+  pub due : due_in g (descriptor_places f items ++ qs) ≡ enters.Cleanup vrs pad next site ∷ due_in g (descriptor_places f later ++ qs)
+  pub reach : is_reached_in g (descriptor_places f items ++ qs) ≡ true → is_reached_in g (descriptor_places f later ++ qs) ≡ true
 
 abbrev IsCleanup : Entered → Type 0
 IsCleanup (enters.Cleanup vrs pad next site) = Unit {0}
@@ -50,11 +50,11 @@ abbrev placed_item : Frame → Result Desc DescFault → Place
 placed_item f i = record { frame = f; item = i }
 
 cleans_by : (g : Goal) (f : Frame) (i : Result Desc DescFault) (more : List (Result Desc DescFault)) (qs : List Place) (vrs : Vrs) (pad next site : ℕ)
-    → (first_some (entered_item g f) more ≡ Some (enters.Cleanup vrs pad next site) → Cleans g f more qs vrs pad next site)
-    → first_some (entered_item g f) (i ∷ more) ≡ Some (enters.Cleanup vrs pad next site) → Sort g f i → Cleans g f (i ∷ more) qs vrs pad next site
-cleans_by g f i more qs vrs pad next site further e (Unread r k) = let h = first_gives (entered_item g f) i more _ k in absurd cc
+    → (first_some (enter_item g f) more ≡ Some (enters.Cleanup vrs pad next site) → Cleans g f more qs vrs pad next site)
+    → first_some (enter_item g f) (i ∷ more) ≡ Some (enters.Cleanup vrs pad next site) → Sort g f i → Cleans g f (i ∷ more) qs vrs pad next site
+cleans_by g f i more qs vrs pad next site further e (Unread r k) = let h = first_gives (enter_item g f) i more _ k in absurd cc
 cleans_by g f i more qs vrs pad next site further e (Quiet r n c b) =
-    let h = further (sym (first_past (entered_item g f) i more n) ∙ e) in
+    let h = further (sym (first_past (enter_item g f) i more n) ∙ e) in
     record {
       before = i ∷ h.before;
       desc = h.desc;
@@ -63,11 +63,11 @@ cleans_by g f i more qs vrs pad next site further e (Quiet r n c b) =
       next_is = h.next_is;
       registers = h.registers;
       stands = h.stands;
-      due = due_past g (placed_item f i) (placed f more ++ qs) b ∙ ap (λ o. cons_option o (due_in g (placed f more ++ qs))) c ∙ h.due;
-      reach = λ t. h.reach (sym (reached_past g (placed_item f i) (placed f more ++ qs) r b) ∙ t);
+      due = due_past g (placed_item f i) (descriptor_places f more ++ qs) b ∙ ap (λ o. cons_option o (due_in g (descriptor_places f more ++ qs))) c ∙ h.due;
+      reach = λ t. h.reach (sym (reached_past g (placed_item f i) (descriptor_places f more ++ qs) r b) ∙ t);
     }
 cleans_by g f i more qs vrs pad next site further e (Clean d at is n c b) =
-    let same : Some (enters.Cleanup (vrs_of f) at d.next f.site) ≡ Some (enters.Cleanup vrs pad next site) = sym (first_gives (entered_item g f) i more _ n) ∙ e in
+    let same : Some (enters.Cleanup (vrs_of f) at d.next f.site) ≡ Some (enters.Cleanup vrs pad next site) = sym (first_gives (enter_item g f) i more _ n) ∙ e in
     let whole : enters.Cleanup (vrs_of f) at d.next f.site ≡ enters.Cleanup vrs pad next site = cc in
     record {
       before = [];
@@ -77,37 +77,37 @@ cleans_by g f i more qs vrs pad next site further e (Clean d at is n c b) =
       next_is = cc;
       registers = cc;
       stands = cc;
-      due = due_past g (placed_item f i) (placed f more ++ qs) b ∙ ap (λ o. cons_option o (due_in g (placed f more ++ qs))) c ∙ ap (λ t. t ∷ due_in g (placed f more ++ qs)) whole;
-      reach = λ t. sym (reached_past g (placed_item f i) (placed f more ++ qs) (ap can_be_read is) b) ∙ t;
+      due = due_past g (placed_item f i) (descriptor_places f more ++ qs) b ∙ ap (λ o. cons_option o (due_in g (descriptor_places f more ++ qs))) c ∙ ap (λ t. t ∷ due_in g (descriptor_places f more ++ qs)) whole;
+      reach = λ t. sym (reached_past g (placed_item f i) (descriptor_places f more ++ qs) (ap can_be_read is) b) ∙ t;
     }
 cleans_by g f i more qs vrs pad next site further e (Stop t s r n b) =
-    let same : Some t ≡ Some (enters.Cleanup vrs pad next site) = sym (first_gives (entered_item g f) i more _ n) ∙ e in
+    let same : Some t ≡ Some (enters.Cleanup vrs pad next site) = sym (first_gives (enter_item g f) i more _ n) ∙ e in
     let is : t ≡ enters.Cleanup vrs pad next site = cc in
     absurd (not_both t s (subst IsCleanup (sym is) tt))
 
 cleans : (g : Goal) (f : Frame) (items : List (Result Desc DescFault)) (qs : List Place) (vrs : Vrs) (pad next site : ℕ)
-    → first_some (entered_item g f) items ≡ Some (enters.Cleanup vrs pad next site) → Cleans g f items qs vrs pad next site
-cleans g f [] qs vrs pad next site e = let h = first_none (entered_item g f) in absurd cc
+    → first_some (enter_item g f) items ≡ Some (enters.Cleanup vrs pad next site) → Cleans g f items qs vrs pad next site
+cleans g f [] qs vrs pad next site e = let h = first_none (enter_item g f) in absurd cc
 cleans g f (i ∷ more) qs vrs pad next site e = cleans_by g f i more qs vrs pad next site (cleans g f more qs vrs pad next site) e (sort g f i)
 
 -- a frame of which nothing is entered
 pub record Passes (g : Goal) (f : Frame) (items : List (Result Desc DescFault)) (qs : List Place) : Type 0 where
-  pub due : due_in g (placed f items ++ qs) ≡ due_in g qs
-  pub reach : is_reached_in g (placed f items ++ qs) ≡ is_reached_in g qs
+  pub due : due_in g (descriptor_places f items ++ qs) ≡ due_in g qs
+  pub reach : is_reached_in g (descriptor_places f items ++ qs) ≡ is_reached_in g qs
 
 passes_by : (g : Goal) (f : Frame) (i : Result Desc DescFault) (more : List (Result Desc DescFault)) (qs : List Place)
-    → (first_some (entered_item g f) more ≡ None → Passes g f more qs) → first_some (entered_item g f) (i ∷ more) ≡ None → Sort g f i → Passes g f (i ∷ more) qs
-passes_by g f i more qs further e (Unread r k) = let h = first_gives (entered_item g f) i more _ k in absurd cc
+    → (first_some (enter_item g f) more ≡ None → Passes g f more qs) → first_some (enter_item g f) (i ∷ more) ≡ None → Sort g f i → Passes g f (i ∷ more) qs
+passes_by g f i more qs further e (Unread r k) = let h = first_gives (enter_item g f) i more _ k in absurd cc
 passes_by g f i more qs further e (Quiet r n c b) =
-    let h = further (sym (first_past (entered_item g f) i more n) ∙ e) in
+    let h = further (sym (first_past (enter_item g f) i more n) ∙ e) in
     record {
-      due = due_past g (placed_item f i) (placed f more ++ qs) b ∙ ap (λ o. cons_option o (due_in g (placed f more ++ qs))) c ∙ h.due;
-      reach = reached_past g (placed_item f i) (placed f more ++ qs) r b ∙ h.reach;
+      due = due_past g (placed_item f i) (descriptor_places f more ++ qs) b ∙ ap (λ o. cons_option o (due_in g (descriptor_places f more ++ qs))) c ∙ h.due;
+      reach = reached_past g (placed_item f i) (descriptor_places f more ++ qs) r b ∙ h.reach;
     }
-passes_by g f i more qs further e (Clean d at is n c b) = let h = first_gives (entered_item g f) i more _ n in absurd cc
-passes_by g f i more qs further e (Stop t s r n b) = let h = first_gives (entered_item g f) i more _ n in absurd cc
+passes_by g f i more qs further e (Clean d at is n c b) = let h = first_gives (enter_item g f) i more _ n in absurd cc
+passes_by g f i more qs further e (Stop t s r n b) = let h = first_gives (enter_item g f) i more _ n in absurd cc
 
-pub passes : (g : Goal) (f : Frame) (items : List (Result Desc DescFault)) (qs : List Place) → first_some (entered_item g f) items ≡ None → Passes g f items qs
+pub passes : (g : Goal) (f : Frame) (items : List (Result Desc DescFault)) (qs : List Place) → first_some (enter_item g f) items ≡ None → Passes g f items qs
 passes g f [] qs e = record { due = refl; reach = refl }
 passes g f (i ∷ more) qs e = passes_by g f i more qs (passes g f more qs) e (sort g f i)
 
@@ -178,9 +178,9 @@ from_tail at items = go (at == 0)
 
 -- ---- frames
 
-pub places-from : (from : ℕ) (f : Frame) (more : List Frame) → places from (f ∷ more) ≡ placed f (from_address from f.items) ++ places 0 more
+pub places-from : (from : ℕ) (f : Frame) (more : List Frame) → places from (f ∷ more) ≡ descriptor_places f (from_address from f.items) ++ places 0 more
 unfolding places
-places-from from f more = ap (λ l. placed f (from_address from f.items) ++ l) (all_places more)
+places-from from f more = ap (λ l. descriptor_places f (from_address from f.items) ++ l) (all_places more)
 
 -- the items after a cleanup, as they are looked at from its next address on
 left_after : (f : Frame) (from : ℕ) (before : List (Result Desc DescFault)) (d : Desc) (later : List (Result Desc DescFault))
@@ -197,7 +197,7 @@ goes_here : (g : Goal) (from : ℕ) (f : Frame) (more : List Frame) (vrs : Vrs) 
     → Cleans g f (from_address from f.items) (places 0 more) vrs pad next site → GoesOn g from (f ∷ more) vrs pad next site
 goes_here g from f more vrs pad next site o c =
     let left : from_address next f.items ≡ c.later = ap (λ a. from_address a f.items) (sym c.next_is) ∙ left_after f from c.before c.desc c.later o c.parts in
-    let here : places next (f ∷ more) ≡ placed f c.later ++ places 0 more = places-from next f more ∙ ap (λ l. placed f l ++ places 0 more) left in
+    let here : places next (f ∷ more) ≡ descriptor_places f c.later ++ places 0 more = places-from next f more ∙ ap (λ l. descriptor_places f l ++ places 0 more) left in
     record {
       inner = [];
       frame = f;
@@ -222,28 +222,28 @@ goes_further g from f more vrs pad next site p r = record {
   reach = λ t. r.reach (sym (ap (is_reached_in g) (places-from from f more) ∙ p.reach) ∙ t);
 }
 
-no_places : (g : Goal) (from : ℕ) → first_some (entered_at g) (places from []) ≡ None
+no_places : (g : Goal) (from : ℕ) → first_some (enter_at_place g) (places from []) ≡ None
 unfolding places first_some
 no_places g from = refl
 
 goes_by : (g : Goal) (from : ℕ) (f : Frame) (more : List Frame) (vrs : Vrs) (pad next site : ℕ) → IsInOrder f
-    → (first_some (entered_at g) (places 0 more) ≡ Some (enters.Cleanup vrs pad next site) → GoesOn g 0 more vrs pad next site)
-    → (o : Option Entered) → first_some (entered_item g f) (from_address from f.items) ≡ o
-    → or_next o (first_some (entered_at g) (places 0 more)) ≡ Some (enters.Cleanup vrs pad next site) → GoesOn g from (f ∷ more) vrs pad next site
+    → (first_some (enter_at_place g) (places 0 more) ≡ Some (enters.Cleanup vrs pad next site) → GoesOn g 0 more vrs pad next site)
+    → (o : Option Entered) → first_some (enter_item g f) (from_address from f.items) ≡ o
+    → or_else o (first_some (enter_at_place g) (places 0 more)) ≡ Some (enters.Cleanup vrs pad next site) → GoesOn g from (f ∷ more) vrs pad next site
 goes_by g from f more vrs pad next site o further None e k = goes_further g from f more vrs pad next site (passes g f (from_address from f.items) (places 0 more) e) (further k)
 goes_by g from f more vrs pad next site o further (Some t) e k = goes_here g from f more vrs pad next site o (cleans g f (from_address from f.items) (places 0 more) vrs pad next site (e ∙ k))
 
 pub goes : (g : Goal) (from : ℕ) (fs : List Frame) (vrs : Vrs) (pad next site : ℕ) → All IsInOrder fs
-    → first_some (entered_at g) (places from fs) ≡ Some (enters.Cleanup vrs pad next site) → GoesOn g from fs vrs pad next site
+    → first_some (enter_at_place g) (places from fs) ≡ Some (enters.Cleanup vrs pad next site) → GoesOn g from fs vrs pad next site
 goes g from [] vrs pad next site a e = let h = no_places g from in absurd cc
 goes g from (f ∷ more) vrs pad next site a e =
     goes_by g from f more vrs pad next site (All-head IsInOrder f more a) (goes g 0 more vrs pad next site (All-tail IsInOrder f more a))
-    (first_some (entered_item g f) (from_address from f.items)) refl (sym (parted g from f more) ∙ e)
+    (first_some (enter_item g f) (from_address from f.items)) refl (sym (parted g from f more) ∙ e)
 
 -- phase 2 gives what its places give first
-first_of_phase2 : (g : Goal) (from : ℕ) (fs : Frames) (e : Entered) → IsCleanup e → phase2 g from fs ≡ e → first_some (entered_at g) (places from fs.frames) ≡ Some e
+first_of_phase2 : (g : Goal) (from : ℕ) (fs : Frames) (e : Entered) → IsCleanup e → phase2 g from fs ≡ e → first_some (enter_at_place g) (places from fs.frames) ≡ Some e
 unfolding phase2
-first_of_phase2 g from fs e c k = go (first_some (entered_at g) (places from fs.frames)) k
+first_of_phase2 g from fs e c k = go (first_some (enter_at_place g) (places from fs.frames)) k
   where
     go : (o : Option Entered) → unwrap_or o (enters.Terminate fs.last) ≡ e → o ≡ Some e
     go (Some t) k = ap (λ x. Some x) k

@@ -5,8 +5,8 @@ use Rattle.std.specs.Option.{option_to_list}
 use Rattle.std.specs.List.{cons_option, flat_map}
 use Rattle.thumb_core.specs.declared.ends.Cause.{Cause}
 use Rattle.elf_image.specs.Image.{Image}
-use Rattle.eh_bytecode.specs.Meaning.{unwound}
-use Rattle.unwind_codes.specs.Cut.{cut}
+use Rattle.eh_bytecode.specs.Meaning.{unwind_result}
+use Rattle.eh_codes.specs.Cut.{split_codes}
 use Rattle.eh_bytecode.specs.declared.frame.Vrs.{Vrs}
 use Rattle.eh_match.specs.declared.rules.Match.{Match}
 use Rattle.eh_match.specs.declared.rules.Match.TheVariants.{Failed, Object, PointerToBase, Unreadable}
@@ -24,13 +24,13 @@ use Rattle.eh_phase.specs.declared.phase1.Found.TheVariants as found
 use Rattle.eh_phase.specs.declared.phase2.Goal.{Goal}
 use Rattle.eh_phase.specs.declared.phase2.Entered.{Entered}
 use Rattle.eh_phase.specs.declared.phase2.Entered.TheVariants as enters
-use Rattle.eh_phase.specs.declared.walk.Covered.{Covered}
-use Rattle.eh_phase.specs.Firsts.{first_some, or_next}
-use Rattle.eh_phase.specs.Verdict.{Meeting, in_scope, by_match, catch_says, unless_named, says_by, heard, verdict_of}
-use Rattle.eh_phase.specs.Phases.{Frame, Frames, Place, placed, places_in, places, is_goal, found_by, phase1, phase2, entered_at}
-use Rattle.eh_phase.specs.Frames.{Stack, MOST_FRAMES, frames_in, frames_of, covered_at, outer, caller_of, checked, is_no_frame, is_above, site_of}
+use Rattle.eh_phase.specs.declared.walk.CoveringEntry.{CoveringEntry}
+use Rattle.eh_phase.specs.Firsts.{first_some, or_else}
+use Rattle.eh_phase.specs.Verdict.{Meeting, in_scope, by_match, catch_says, unless_named, desc_verdict_by, heard, verdict_of}
+use Rattle.eh_phase.specs.Phases.{Frame, Frames, Place, descriptor_places, places_in, places, is_goal, verdict_result, phase1, phase2, enter_at_place}
+use Rattle.eh_phase.specs.Frames.{Stack, MOST_FRAMES, frames_in, frames_of, entry_contents_at, outer, caller_of, check_caller, is_no_frame, is_above, site_of}
 use Rattle.eh_phase.specs.Cleanups.{is_barrier_item, is_barrier, due_in, can_be_read, is_reached_in, is_reached}
-use Rattle.eh_phase.specs.Laws.{goal_of, Lands, up_to, Reaches, BarriersAreReached}
+use Rattle.eh_phase.specs.Laws.{goal_of, Lands, frames_up_to_verdict, Reaches, BarriersAreReached}
 use Rattle.eh_phase.proofs.First.{first_past, first_gives, first-append}
 use Rattle.eh_phase.proofs.Steps.{said_here, silent_here, all_places, phase1_uncovered, phase1_said, phase1_ended, phase1_on}
 use Rattle.eh_phase.proofs.Due.{Stops, Sort, Unread, Quiet, Clean, Stop, sort, due_past, due_stop, reached_unread, reached_past, reached_stop, reached_none}
@@ -41,7 +41,7 @@ pub record Heads (g : Goal) (ps : List Place) : Type 0 where
   pub entered : Entered
   pub later : List Entered
   pub lands : Lands entered
-  pub first : first_some (entered_at g) ps ≡ Some entered
+  pub first : first_some (enter_at_place g) ps ≡ Some entered
   pub due : due_in g ps ≡ entered ∷ later
   pub last : Stops entered → later ≡ []
 
@@ -60,7 +60,7 @@ heads_of g p ps e further (Quiet r n c b) =
       entered = h.entered;
       later = h.later;
       lands = h.lands;
-      first = first_past (entered_at g) p ps n ∙ h.first;
+      first = first_past (enter_at_place g) p ps n ∙ h.first;
       due = due_past g p ps b ∙ ap (λ o. cons_option o (due_in g ps)) c ∙ h.due;
       last = h.last;
     }
@@ -68,7 +68,7 @@ heads_of g p ps e further (Clean d pad is n c b) = record {
   entered = _;
   later = due_in g ps;
   lands = tt;
-  first = first_gives (entered_at g) p ps _ n;
+  first = first_gives (enter_at_place g) p ps _ n;
   due = due_past g p ps b ∙ ap (λ o. cons_option o (due_in g ps)) c;
   last = λ s. absurd s;
 }
@@ -76,7 +76,7 @@ heads_of g p ps e further (Stop t s r n b) = record {
   entered = t;
   later = [];
   lands = stops_land t s;
-  first = first_gives (entered_at g) p ps _ n;
+  first = first_gives (enter_at_place g) p ps _ n;
   due = due_stop g p ps b ∙ ap option_to_list n;
   last = λ _. refl;
 }
@@ -110,9 +110,9 @@ flat-append (f ∷ xs) ys = ap (λ l. places_in f ++ l) (flat-append xs ys) ∙ 
 pub places-append : (xs ys : List Frame) → places 0 (xs ++ ys) ≡ places 0 xs ++ places 0 ys
 places-append xs ys = sym (all_places (xs ++ ys)) ∙ flat-append xs ys ∙ ap (λ l. l ++ flat_map places_in ys) (all_places xs) ∙ ap (λ l. places 0 xs ++ l) (all_places ys)
 
-pub places-cons : (f : Frame) (fs : List Frame) → places 0 (f ∷ fs) ≡ placed f f.items ++ places 0 fs
+pub places-cons : (f : Frame) (fs : List Frame) → places 0 (f ∷ fs) ≡ descriptor_places f f.items ++ places 0 fs
 unfolding places
-places-cons f fs = ap (λ l. placed f f.items ++ l) (all_places fs)
+places-cons f fs = ap (λ l. descriptor_places f f.items ++ l) (all_places fs)
 
 -- ---- what phase 1 says of a frame
 
@@ -144,7 +144,7 @@ speaks : (m : Meeting) (g : Goal) (f : Frame) (i : Result Desc DescFault) (hit :
 speaks m g f (Err fault) hit sp e = absurd cc
 speaks m g f (Ok d) hit sp e = scoped (in_scope f.site d) refl d.kind refl e
   where
-    scoped : (b : Bool) → in_scope f.site d ≡ b → (k : DescKind) → d.kind ≡ k → cond b (says_by m d.at k) None ≡ Some (says.Barrier g.desc hit) → Speaks g f (Ok d)
+    scoped : (b : Bool) → in_scope f.site d ≡ b → (k : DescKind) → d.kind ≡ k → cond b (desc_verdict_by m d.at k) None ≡ Some (says.Barrier g.desc hit) → Speaks g f (Ok d)
     scoped false s k is e = absurd cc
     scoped true s (kind.Cleanup pad) is e = absurd cc
     scoped true s (kind.Catch pad reference type) is e = (refl, rw (s, is, same_goal g f d.at sp (catch_at m d.at type g.desc hit e)) refl)
@@ -156,26 +156,26 @@ silent m site (Ok d) e = refl
 silent m site (Err fault) e = absurd cc
 
 said_places : (m : Meeting) (g : Goal) (f : Frame) (items : List (Result Desc DescFault)) (hit : Match) (qs : List Place) → f.sp ≡ g.sp
-    → first_some (heard m f.site) items ≡ Some (says.Barrier g.desc hit) → is_reached_in g (placed f items ++ qs) ≡ true
+    → first_some (heard m f.site) items ≡ Some (says.Barrier g.desc hit) → is_reached_in g (descriptor_places f items ++ qs) ≡ true
 unfolding first_some
 said_places m g f [] hit qs sp e = absurd cc
 said_places m g f (i ∷ more) hit qs sp e = go (heard m f.site i) refl e (said_places m g f more hit qs sp)
   where
-    go : (o : Option Verdict) → heard m f.site i ≡ o → or_next o (first_some (heard m f.site) more) ≡ Some (says.Barrier g.desc hit)
-        → (first_some (heard m f.site) more ≡ Some (says.Barrier g.desc hit) → is_reached_in g (placed f more ++ qs) ≡ true)
-        → is_reached_in g ((record { frame = f; item = i }) ∷ (placed f more ++ qs)) ≡ true
+    go : (o : Option Verdict) → heard m f.site i ≡ o → or_else o (first_some (heard m f.site) more) ≡ Some (says.Barrier g.desc hit)
+        → (first_some (heard m f.site) more ≡ Some (says.Barrier g.desc hit) → is_reached_in g (descriptor_places f more ++ qs) ≡ true)
+        → is_reached_in g ((record { frame = f; item = i }) ∷ (descriptor_places f more ++ qs)) ≡ true
     go None h e further = reached_more g _ _ (silent m f.site i h) (further e)
     go (Some v) h e further = let s = speaks m g f i hit sp (h ∙ e) in reached_stop g _ _ s.0 s.1
 
 silent_places : (m : Meeting) (g : Goal) (f : Frame) (items : List (Result Desc DescFault)) (qs : List Place)
-    → first_some (heard m f.site) items ≡ None → is_reached_in g qs ≡ true → is_reached_in g (placed f items ++ qs) ≡ true
+    → first_some (heard m f.site) items ≡ None → is_reached_in g qs ≡ true → is_reached_in g (descriptor_places f items ++ qs) ≡ true
 unfolding first_some
 silent_places m g f [] qs e h = h
 silent_places m g f (i ∷ more) qs e h = go (heard m f.site i) refl e (λ k. silent_places m g f more qs k h)
   where
-    go : (o : Option Verdict) → heard m f.site i ≡ o → or_next o (first_some (heard m f.site) more) ≡ None
-        → (first_some (heard m f.site) more ≡ None → is_reached_in g (placed f more ++ qs) ≡ true)
-        → is_reached_in g ((record { frame = f; item = i }) ∷ (placed f more ++ qs)) ≡ true
+    go : (o : Option Verdict) → heard m f.site i ≡ o → or_else o (first_some (heard m f.site) more) ≡ None
+        → (first_some (heard m f.site) more ≡ None → is_reached_in g (descriptor_places f more ++ qs) ≡ true)
+        → is_reached_in g ((record { frame = f; item = i }) ∷ (descriptor_places f more ++ qs)) ≡ true
     go None k e further = reached_more g _ _ (silent m f.site i k) (further e)
     go (Some v) k e further = absurd cc
 
@@ -187,12 +187,12 @@ stop_of (found.Terminate cause) = record { sp = 0; desc = 0; site = 0; hit = Fai
 stop_of (found.ObjectRead a) = record { sp = 0; desc = 0; site = 0; hit = Failed }
 
 pub record UpTo (m : Meeting) (b : Barrier) (fs : List Frame) : Type 0 where
-  pub reach : is_reached_in (goal_of b) (places 0 (up_to m fs)) ≡ true
+  pub reach : is_reached_in (goal_of b) (places 0 (frames_up_to_verdict m fs)) ≡ true
   pub beyond : List Frame
-  pub parts : fs ≡ up_to m fs ++ beyond
+  pub parts : fs ≡ frames_up_to_verdict m fs ++ beyond
 
-found_at : (m : Meeting) (f : Frame) (qs : List Place) (b : Barrier) (v : Verdict) → verdict_of m f.site f.items ≡ Some v → found_by f v ≡ found.Barrier b
-    → is_reached_in (goal_of b) (placed f f.items ++ qs) ≡ true
+found_at : (m : Meeting) (f : Frame) (qs : List Place) (b : Barrier) (v : Verdict) → verdict_of m f.site f.items ≡ Some v → verdict_result f v ≡ found.Barrier b
+    → is_reached_in (goal_of b) (descriptor_places f f.items ++ qs) ≡ true
 unfolding verdict_of
 found_at m f qs b (says.Barrier desc hit) e k =
     let sp : f.sp ≡ b.sp = ap (λ x. (stop_of x).sp) k in
@@ -201,16 +201,16 @@ found_at m f qs b (says.Barrier desc hit) e k =
 found_at m f qs b (says.ObjectRead a) e k = absurd cc
 found_at m f qs b (says.Terminate cause) e k = absurd cc
 
-quiet_frame : (m : Meeting) (g : Goal) (f : Frame) (qs : List Place) → verdict_of m f.site f.items ≡ None → is_reached_in g qs ≡ true → is_reached_in g (placed f f.items ++ qs) ≡ true
+quiet_frame : (m : Meeting) (g : Goal) (f : Frame) (qs : List Place) → verdict_of m f.site f.items ≡ None → is_reached_in g qs ≡ true → is_reached_in g (descriptor_places f f.items ++ qs) ≡ true
 unfolding verdict_of
 quiet_frame m g f qs h e = silent_places m g f f.items qs h e
 
-up_to_said : (m : Meeting) (f : Frame) (more : List Frame) (v : Verdict) → verdict_of m f.site f.items ≡ Some v → up_to m (f ∷ more) ≡ f ∷ []
-unfolding up_to
+up_to_said : (m : Meeting) (f : Frame) (more : List Frame) (v : Verdict) → verdict_of m f.site f.items ≡ Some v → frames_up_to_verdict m (f ∷ more) ≡ f ∷ []
+unfolding frames_up_to_verdict
 up_to_said m f more v e = rw e refl
 
-up_to_silent : (m : Meeting) (f : Frame) (more : List Frame) → verdict_of m f.site f.items ≡ None → up_to m (f ∷ more) ≡ f ∷ up_to m more
-unfolding up_to
+up_to_silent : (m : Meeting) (f : Frame) (more : List Frame) → verdict_of m f.site f.items ≡ None → frames_up_to_verdict m (f ∷ more) ≡ f ∷ frames_up_to_verdict m more
+unfolding frames_up_to_verdict
 up_to_silent m f more e = rw e refl
 
 no_frames : (m : Meeting) (last : Cause) → phase1 m (record { frames = []; last = last }) ≡ found.Terminate last
@@ -221,7 +221,7 @@ up_to_by : (m : Meeting) (last : Cause) (b : Barrier) (f : Frame) (more : List F
     → (phase1 m (record { frames = more; last = last }) ≡ found.Barrier b → UpTo m b more) → phase1 m (record { frames = f ∷ more; last = last }) ≡ found.Barrier b → UpTo m b (f ∷ more)
 up_to_by m last b f more (Some v) h further e =
     let up = up_to_said m f more v h in
-    let k : found_by f v ≡ found.Barrier b = sym (said_here m f (record { frames = more; last = last }) v h) ∙ e in
+    let k : verdict_result f v ≡ found.Barrier b = sym (said_here m f (record { frames = more; last = last }) v h) ∙ e in
     record {
       reach = ap (λ l. is_reached_in (goal_of b) (places 0 l)) up ∙ ap (is_reached_in (goal_of b)) (places-cons f []) ∙ found_at m f (places 0 []) b v h k;
       beyond = more;
@@ -231,7 +231,7 @@ up_to_by m last b f more None h further e =
     let up = up_to_silent m f more h in
     let u = further (sym (silent_here m f (record { frames = more; last = last }) h) ∙ e) in
     record {
-      reach = ap (λ l. is_reached_in (goal_of b) (places 0 l)) up ∙ ap (is_reached_in (goal_of b)) (places-cons f (up_to m more)) ∙ quiet_frame m (goal_of b) f (places 0 (up_to m more)) h u.reach;
+      reach = ap (λ l. is_reached_in (goal_of b) (places 0 l)) up ∙ ap (is_reached_in (goal_of b)) (places-cons f (frames_up_to_verdict m more)) ∙ quiet_frame m (goal_of b) f (places 0 (frames_up_to_verdict m more)) h u.reach;
       beyond = u.beyond;
       parts = ap (λ l. f ∷ l) u.parts ∙ ap (λ l. l ++ u.beyond) (sym up);
     }
@@ -244,18 +244,18 @@ up_to_barrier m last b (f ∷ more) e = up_to_by m last b f more (verdict_of m f
 
 free_tests : (end : ℕ) (limit : Option ℕ) (innermost : Bool) (sp : ℕ) (v next : Vrs) (a b : Bool)
     → is_no_frame end innermost sp (slice_index v.r 13) ≡ a → is_above limit (slice_index v.r 13) ≡ b
-    → checked end limit innermost sp (Some v) ≡ Ok next → checked end None innermost sp (Some v) ≡ Ok next
+    → check_caller end limit innermost sp (Some v) ≡ Ok next → check_caller end None innermost sp (Some v) ≡ Ok next
 free_tests end limit innermost sp v next true b ea eb e = absurd (grind arith)
 free_tests end limit innermost sp v next false true ea eb e = absurd (grind arith)
 free_tests end limit innermost sp v next false false ea eb e = grind arith
 
-free_end : (end : ℕ) (limit : Option ℕ) (innermost : Bool) (sp : ℕ) (o : Option Vrs) (next : Vrs) → checked end limit innermost sp o ≡ Ok next → checked end None innermost sp o ≡ Ok next
+free_end : (end : ℕ) (limit : Option ℕ) (innermost : Bool) (sp : ℕ) (o : Option Vrs) (next : Vrs) → check_caller end limit innermost sp o ≡ Ok next → check_caller end None innermost sp o ≡ Ok next
 free_end end limit innermost sp None next e = e
 free_end end limit innermost sp (Some v) next e = free_tests end limit innermost sp v next _ _ refl refl e
 
 free : (stack : Stack) (limit : Option ℕ) (innermost : Bool) (codes r : List ℕ) (next : Vrs) → outer stack limit innermost codes r ≡ Ok next → outer stack None innermost codes r ≡ Ok next
 unfolding outer
-free stack limit innermost codes r next e = free_end stack.end limit innermost (slice_index r 13) (caller_of (unwound stack.segments r (cut codes))) next e
+free stack limit innermost codes r next e = free_end stack.end limit innermost (slice_index r 13) (caller_of (unwind_result stack.segments r (split_codes codes))) next e
 
 none_cut : (m : Meeting) (image : Image) (stack : Stack) (limit : Option ℕ) (innermost : Bool) (site : ℕ) (r : List ℕ)
     → phase1 m (frames_in zero image stack None innermost site r) ≡ phase1 m (frames_in zero image stack limit innermost site r)
@@ -267,7 +267,7 @@ Freed m n image stack limit innermost site r b =
     phase1 m (frames_in n image stack limit innermost site r) ≡ found.Barrier b → phase1 m (frames_in n image stack None innermost site r) ≡ found.Barrier b
 
 by_outer : (m : Meeting) (n : ℕ) (image : Image) (stack : Stack) (limit : Option ℕ) (innermost : Bool) (site : ℕ) (r : List ℕ) (b : Barrier)
-    → ((at : ℕ) (new : List ℕ) → Freed m n image stack limit false at new b) → (c : Covered) → covered_at image site ≡ Some c → verdict_of m site c.descs ≡ None
+    → ((at : ℕ) (new : List ℕ) → Freed m n image stack limit false at new b) → (c : CoveringEntry) → entry_contents_at image site ≡ Some c → verdict_of m site c.descs ≡ None
     → (o : Result Vrs Cause) → outer stack limit innermost c.codes r ≡ o → Freed m (suc n) image stack limit innermost site r b
 by_outer m n image stack limit innermost site r b further c is k (Err cause) h e =
     let ends = phase1_ended m (suc n) image stack limit innermost site r c cause (omega arith) is k h in absurd cc
@@ -279,14 +279,14 @@ by_outer m n image stack limit innermost site r b further c is k (Ok next) h e =
     ∙ further (site_of next.r) next.r (ap (λ j. phase1 m (frames_in j image stack limit false (site_of next.r) next.r)) (sym z) ∙ sym on ∙ e)
 
 by_verdict : (m : Meeting) (n : ℕ) (image : Image) (stack : Stack) (limit : Option ℕ) (innermost : Bool) (site : ℕ) (r : List ℕ) (b : Barrier)
-    → ((at : ℕ) (new : List ℕ) → Freed m n image stack limit false at new b) → (c : Covered) → covered_at image site ≡ Some c
+    → ((at : ℕ) (new : List ℕ) → Freed m n image stack limit false at new b) → (c : CoveringEntry) → entry_contents_at image site ≡ Some c
     → (o : Option Verdict) → verdict_of m site c.descs ≡ o → Freed m (suc n) image stack limit innermost site r b
 by_verdict m n image stack limit innermost site r b further c is (Some v) k e =
     phase1_said m (suc n) image stack None innermost site r c v (omega arith) is k ∙ sym (phase1_said m (suc n) image stack limit innermost site r c v (omega arith) is k) ∙ e
 by_verdict m n image stack limit innermost site r b further c is None k e = by_outer m n image stack limit innermost site r b further c is k (outer stack limit innermost c.codes r) refl e
 
 by_cover : (m : Meeting) (n : ℕ) (image : Image) (stack : Stack) (limit : Option ℕ) (innermost : Bool) (site : ℕ) (r : List ℕ) (b : Barrier)
-    → ((at : ℕ) (new : List ℕ) → Freed m n image stack limit false at new b) → (o : Option Covered) → covered_at image site ≡ o → Freed m (suc n) image stack limit innermost site r b
+    → ((at : ℕ) (new : List ℕ) → Freed m n image stack limit false at new b) → (o : Option CoveringEntry) → entry_contents_at image site ≡ o → Freed m (suc n) image stack limit innermost site r b
 by_cover m n image stack limit innermost site r b further None is e = let ends = phase1_uncovered m (suc n) image stack limit innermost site r is in absurd cc
 by_cover m n image stack limit innermost site r b further (Some c) is e = by_verdict m n image stack limit innermost site r b further c is (verdict_of m site c.descs) refl e
 
@@ -294,29 +294,29 @@ pub unlimited : (m : Meeting) (n : ℕ) (image : Image) (stack : Stack) (limit :
     → phase1 m (frames_in n image stack limit innermost site r) ≡ found.Barrier b → phase1 m (frames_in n image stack None innermost site r) ≡ found.Barrier b
 unlimited m zero image stack limit innermost site r b e = none_cut m image stack limit innermost site r ∙ e
 unlimited m (suc n) image stack limit innermost site r b e =
-    by_cover m n image stack limit innermost site r b (λ at new. unlimited m n image stack limit false at new b) (covered_at image site) refl e
+    by_cover m n image stack limit innermost site r b (λ at new. unlimited m n image stack limit false at new b) (entry_contents_at image site) refl e
 
 -- ---- the law
 
-entered_first : (g : Goal) (from : ℕ) (fs : List Frame) (last : Cause) (e : Entered) → first_some (entered_at g) (places from fs) ≡ Some e → phase2 g from (record { frames = fs; last = last }) ≡ e
+entered_first : (g : Goal) (from : ℕ) (fs : List Frame) (last : Cause) (e : Entered) → first_some (enter_at_place g) (places from fs) ≡ Some e → phase2 g from (record { frames = fs; last = last }) ≡ e
 unfolding phase2
 entered_first g from fs last e k = ap (λ o. unwrap_or o (enters.Terminate last)) k
 
-further_first : (g : Goal) (ps qs : List Place) (e : Entered) → first_some (entered_at g) ps ≡ Some e → first_some (entered_at g) (ps ++ qs) ≡ Some e
-further_first g ps qs e k = first-append (entered_at g) ps qs ∙ ap (λ o. or_next o (first_some (entered_at g) qs)) k
+further_first : (g : Goal) (ps qs : List Place) (e : Entered) → first_some (enter_at_place g) ps ≡ Some e → first_some (enter_at_place g) (ps ++ qs) ≡ Some e
+further_first g ps qs e k = first-append (enter_at_place g) ps qs ∙ ap (λ o. or_else o (first_some (enter_at_place g) qs)) k
 
 pub whole_reached : (m : Meeting) (b : Barrier) (fs : Frames) → UpTo m b fs.frames → is_reached (goal_of b) 0 fs.frames ≡ true
 whole_reached m b fs u =
     let g = goal_of b in
-    ap (λ l. is_reached_in g (places 0 l)) u.parts ∙ ap (is_reached_in g) (places-append (up_to m fs.frames) u.beyond) ∙ reached_append g (places 0 (up_to m fs.frames)) (places 0 u.beyond) u.reach
+    ap (λ l. is_reached_in g (places 0 l)) u.parts ∙ ap (is_reached_in g) (places-append (frames_up_to_verdict m fs.frames) u.beyond) ∙ reached_append g (places 0 (frames_up_to_verdict m fs.frames)) (places 0 u.beyond) u.reach
 
 reaches : (m : Meeting) (b : Barrier) (fs : Frames) → UpTo m b fs.frames → Reaches m b fs
 reaches m b fs u =
     let g = goal_of b in
-    let h = heads g (places 0 (up_to m fs.frames)) u.reach in
-    let first : (more : List Frame) → first_some (entered_at g) (places 0 (up_to m fs.frames ++ more)) ≡ Some h.entered =
-    λ more. ap (first_some (entered_at g)) (places-append (up_to m fs.frames) more) ∙ further_first g (places 0 (up_to m fs.frames)) (places 0 more) h.entered h.first in
-    let here : first_some (entered_at g) (places 0 fs.frames) ≡ Some h.entered = ap (λ l. first_some (entered_at g) (places 0 l)) u.parts ∙ first u.beyond in
+    let h = heads g (places 0 (frames_up_to_verdict m fs.frames)) u.reach in
+    let first : (more : List Frame) → first_some (enter_at_place g) (places 0 (frames_up_to_verdict m fs.frames ++ more)) ≡ Some h.entered =
+    λ more. ap (first_some (enter_at_place g)) (places-append (frames_up_to_verdict m fs.frames) more) ∙ further_first g (places 0 (frames_up_to_verdict m fs.frames)) (places 0 more) h.entered h.first in
+    let here : first_some (enter_at_place g) (places 0 fs.frames) ≡ Some h.entered = ap (λ l. first_some (enter_at_place g) (places 0 l)) u.parts ∙ first u.beyond in
     let k = heads g (places 0 fs.frames) (whole_reached m b fs u) in
     let both : Some k.entered ≡ Some h.entered = sym k.first ∙ here in
     let same : k.entered ≡ h.entered = cc in
@@ -326,7 +326,7 @@ reaches m b fs u =
       lands = h.lands;
       first = k.due ∙ ap (λ e. e ∷ k.later) same;
       enters = entered_first g 0 fs.frames fs.last h.entered here;
-      no_further = λ more last. entered_first g 0 (up_to m fs.frames ++ more) last h.entered (first more);
+      no_further = λ more last. entered_first g 0 (frames_up_to_verdict m fs.frames ++ more) last h.entered (first more);
     }
 
 pub barriers_are_reached : BarriersAreReached

@@ -3,21 +3,21 @@ use Rattle.std.proofs.Common.{◌≡◌, ◌⊎◌, inl, inr, ℕ, zero, suc, �
 use Rattle.std.proofs.lemmas.Bool.Decides.{nat_tests}
 use Rattle.elf_image.specs.Image.{Image}
 use Rattle.thumb_core.specs.declared.ends.Cause.{Cause}
-use Rattle.guest_gates.specs.declared.gates.TheConstants.{NO_CALLER}
-use Rattle.unwind_codes.specs.Cut.{cut}
-use Rattle.eh_bytecode.specs.Meaning.{unwound}
+use Rattle.run_gates.specs.declared.gates.TheConstants.{NO_CALLER}
+use Rattle.eh_codes.specs.Cut.{split_codes}
+use Rattle.eh_bytecode.specs.Meaning.{unwind_result}
 use Rattle.eh_bytecode.specs.declared.frame.Vrs.{Vrs}
-use Rattle.eh_phase.specs.declared.walk.Covered.{Covered}
+use Rattle.eh_phase.specs.declared.walk.CoveringEntry.{CoveringEntry}
 use Rattle.std.specs.Prelude.{◌&&◌}
 use Rattle.eh_desc.specs.declared.descriptor.Desc.{Desc}
 use Rattle.eh_desc.specs.declared.descriptor.DescFault.{DescFault}
 use Rattle.eh_phase.specs.declared.phase2.Goal.{Goal}
-use Rattle.eh_phase.specs.Phases.{Frame, Frames, Place, placed, places, from_address}
+use Rattle.eh_phase.specs.Phases.{Frame, Frames, Place, descriptor_places, places, from_address}
 use Rattle.eh_phase.specs.Verdict.{in_scope}
 use Rattle.eh_phase.specs.Cleanups.{can_stop, is_barrier_item, can_be_read, is_reached_in, is_reached}
 use Rattle.eh_phase.proofs.Due.{reached_unread, reached_past}
 use Rattle.eh_phase.proofs.Goes.{places-from}
-use Rattle.eh_phase.specs.Frames.{Stack, MOST_FRAMES, frames_in, covered_at, is_no_frame, is_above, caller_of, checked, outer, site_of, then_outer, walked}
+use Rattle.eh_phase.specs.Frames.{Stack, MOST_FRAMES, frames_in, entry_contents_at, is_no_frame, is_above, caller_of, check_caller, outer, site_of, frames_of_caller, frames_of_entry}
 use Rattle.eh_phase.specs.Laws.{IsAbove, IsWithin, RiseFrom, RiseOutwards, FramesRise, SitesStandInCalls, BarriersStandOutside}
 
 abbrev Stands : ℕ → Option ℕ → Bool → ℕ → ℕ → Type 0
@@ -33,7 +33,7 @@ stands end limit false sp next e k = (grind (arith, nat_tests), grind (arith, na
 
 by_tests : (end : ℕ) (limit : Option ℕ) (innermost : Bool) (sp : ℕ) (v next : Vrs) (a b c : Bool)
     → is_no_frame end innermost sp (slice_index v.r 13) ≡ a → is_above limit (slice_index v.r 13) ≡ b → nat_eq (slice_index v.r 15) NO_CALLER ≡ c
-    → checked end limit innermost sp (Some v) ≡ Ok next → Stands end limit innermost sp (slice_index next.r 13)
+    → check_caller end limit innermost sp (Some v) ≡ Ok next → Stands end limit innermost sp (slice_index next.r 13)
 by_tests end limit innermost sp v next true b c ea eb ec e = absurd (grind arith)
 by_tests end limit innermost sp v next false true c ea eb ec e = absurd (grind arith)
 by_tests end limit innermost sp v next false false true ea eb ec e = absurd (grind arith)
@@ -42,14 +42,14 @@ by_tests end limit innermost sp v next false false false ea eb ec e =
     let P : Vrs → Type 0 = λ x. Stands end limit innermost sp (slice_index x.r 13) in
     subst P same (stands end limit innermost sp (slice_index v.r 13) ea eb)
 
-by_end : (end : ℕ) (limit : Option ℕ) (innermost : Bool) (sp : ℕ) (o : Option Vrs) (next : Vrs) → checked end limit innermost sp o ≡ Ok next → Stands end limit innermost sp (slice_index next.r 13)
+by_end : (end : ℕ) (limit : Option ℕ) (innermost : Bool) (sp : ℕ) (o : Option Vrs) (next : Vrs) → check_caller end limit innermost sp o ≡ Ok next → Stands end limit innermost sp (slice_index next.r 13)
 by_end end limit innermost sp None next e = absurd cc
 by_end end limit innermost sp (Some v) next e = by_tests end limit innermost sp v next _ _ _ refl refl refl e
 
 outer_stands : (stack : Stack) (limit : Option ℕ) (innermost : Bool) (codes r : List ℕ) (next : Vrs) → outer stack limit innermost codes r ≡ Ok next
     → Stands stack.end limit innermost (slice_index r 13) (slice_index next.r 13)
 unfolding outer
-outer_stands stack limit innermost codes r next e = by_end stack.end limit innermost (slice_index r 13) (caller_of (unwound stack.segments r (cut codes))) next e
+outer_stands stack limit innermost codes r next e = by_end stack.end limit innermost (slice_index r 13) (caller_of (unwind_result stack.segments r (split_codes codes))) next e
 
 -- frames that begin at a stack pointer
 abbrev Begin : ℕ → List Frame → Type 0
@@ -68,11 +68,11 @@ after stack limit innermost sp next (f ∷ more) s b h =
     (at.0, at.1, at.2, h)
 
 rising_by : (stack : Stack) (limit : Option ℕ) (innermost : Bool) (site : ℕ) (r : List ℕ) (further : List ℕ → Frames) → ((new : List ℕ) → Rising stack limit false (slice_index new 13) (further new))
-    → (o : Option Covered) → Rising stack limit innermost (slice_index r 13) (walked further stack limit innermost site r o)
+    → (o : Option CoveringEntry) → Rising stack limit innermost (slice_index r 13) (frames_of_entry further stack limit innermost site r o)
 rising_by stack limit innermost site r further each None = (tt, tt)
 rising_by stack limit innermost site r further each (Some c) = (refl, go (outer stack limit innermost c.codes r) refl)
   where
-    go : (o : Result Vrs Cause) → outer stack limit innermost c.codes r ≡ o → RiseFrom stack.end limit innermost (slice_index r 13) (then_outer further o).frames
+    go : (o : Result Vrs Cause) → outer stack limit innermost c.codes r ≡ o → RiseFrom stack.end limit innermost (slice_index r 13) (frames_of_caller further o).frames
     go (Err cause) e = tt
     go (Ok next) e =
         let h = each next.r in
@@ -82,7 +82,7 @@ rising : (n : ℕ) (image : Image) (stack : Stack) (limit : Option ℕ) (innermo
 unfolding frames_in
 rising zero image stack limit innermost site r = (tt, tt)
 rising (suc n) image stack limit innermost site r =
-    rising_by stack limit innermost site r (λ new. frames_in n image stack limit false (site_of new) new) (λ new. rising n image stack limit false (site_of new) new) (covered_at image site)
+    rising_by stack limit innermost site r (λ new. frames_in n image stack limit false (site_of new) new) (λ new. rising n image stack limit false (site_of new) new) (entry_contents_at image site)
 
 pub frames_rise : FramesRise
 frames_rise image stack limit site r = (rising MOST_FRAMES image stack limit true site r).1
@@ -119,14 +119,14 @@ barrier_sp g f (Ok d) e = go (in_scope f.site d) (can_stop d.kind) (nat_eq f.sp 
     go true false false h e = absurd cc
     go true true false h e = absurd cc
 
-in_frame : (g : Goal) (f : Frame) (items : List (Result Desc DescFault)) (qs : List Place) → is_reached_in g (placed f items ++ qs) ≡ true → (f.sp ≡ g.sp) ⊎ (is_reached_in g qs ≡ true)
+in_frame : (g : Goal) (f : Frame) (items : List (Result Desc DescFault)) (qs : List Place) → is_reached_in g (descriptor_places f items ++ qs) ≡ true → (f.sp ≡ g.sp) ⊎ (is_reached_in g qs ≡ true)
 in_frame g f [] qs e = inr e
 in_frame g f (i ∷ more) qs e = go (can_be_read i) refl (is_barrier_item g f i) refl (in_frame g f more qs)
   where
-    go : (r : Bool) → can_be_read i ≡ r → (b : Bool) → is_barrier_item g f i ≡ b → (is_reached_in g (placed f more ++ qs) ≡ true → (f.sp ≡ g.sp) ⊎ (is_reached_in g qs ≡ true)) → (f.sp ≡ g.sp) ⊎ (is_reached_in g qs ≡ true)
-    go false r b h further = absurd (let k = reached_unread g (record { frame = f; item = i }) (placed f more ++ qs) r in cc)
+    go : (r : Bool) → can_be_read i ≡ r → (b : Bool) → is_barrier_item g f i ≡ b → (is_reached_in g (descriptor_places f more ++ qs) ≡ true → (f.sp ≡ g.sp) ⊎ (is_reached_in g qs ≡ true)) → (f.sp ≡ g.sp) ⊎ (is_reached_in g qs ≡ true)
+    go false r b h further = absurd (let k = reached_unread g (record { frame = f; item = i }) (descriptor_places f more ++ qs) r in cc)
     go true r true h further = inl (barrier_sp g f i h)
-    go true r false h further = further (sym (reached_past g (record { frame = f; item = i }) (placed f more ++ qs) r h) ∙ e)
+    go true r false h further = further (sym (reached_past g (record { frame = f; item = i }) (descriptor_places f more ++ qs) r h) ∙ e)
 
 none_reached : (g : Goal) (from : ℕ) → is_reached g from [] ≡ false
 unfolding places is_reached_in

@@ -5,19 +5,19 @@ use Rattle.std.specs.List.{cons_option}
 use Rattle.eh_bus.specs.declared.map.TheConstants.{STACK_END}
 use Rattle.elf_image.specs.Image.{Image, IsSound}
 use Rattle.thumb_core.specs.declared.ends.Cause.{Cause}
-use Rattle.guest_gates.specs.declared.gates.TheConstants.{NO_CALLER}
-use Rattle.unwind_codes.specs.Cut.{cut}
-use Rattle.eh_bytecode.specs.Meaning.{unwound}
+use Rattle.run_gates.specs.declared.gates.TheConstants.{NO_CALLER}
+use Rattle.eh_codes.specs.Cut.{split_codes}
+use Rattle.eh_bytecode.specs.Meaning.{unwind_result}
 use Rattle.eh_bytecode.specs.declared.frame.Vrs.{Vrs}
-use Rattle.eh_phase.specs.declared.walk.Covered.{Covered}
+use Rattle.eh_phase.specs.declared.walk.CoveringEntry.{CoveringEntry}
 use Rattle.eh_phase.specs.declared.phase2.Goal.{Goal}
 use Rattle.eh_phase.specs.declared.phase2.Entered.{Entered}
 use Rattle.eh_phase.specs.declared.phase2.Entered.TheVariants as enters
 use Rattle.eh_phase.specs.Firsts.{first_some}
-use Rattle.eh_phase.specs.Phases.{Frame, Frames, Place, placed, places, from_address, vrs_of, entered_at, phase2}
-use Rattle.eh_phase.specs.Frames.{Stack, MOST_FRAMES, frames_in, frames_of, covered_at, is_no_frame, caller_of, checked, outer, site_of, frame_of, then_outer, framed}
-use Rattle.eh_phase.specs.Cleanups.{cleanup_at, is_barrier, due_in, due, can_be_read, is_reached_in, is_reached}
-use Rattle.eh_phase.specs.Laws.{goal_of, Lands, enters_on, entered_in_turn, PadsAreInOrder}
+use Rattle.eh_phase.specs.Phases.{Frame, Frames, Place, descriptor_places, places, from_address, vrs_of, enter_at_place, phase2}
+use Rattle.eh_phase.specs.Frames.{Stack, MOST_FRAMES, frames_in, frames_of, entry_contents_at, is_no_frame, caller_of, check_caller, outer, site_of, frame_of, frames_of_caller, frame_and_outer}
+use Rattle.eh_phase.specs.Cleanups.{cleanup_at, is_barrier, due_in, remaining_landings, can_be_read, is_reached_in, is_reached}
+use Rattle.eh_phase.specs.Laws.{goal_of, Lands, enters_on, landings_in_turn, PadsAreInOrder}
 use Rattle.eh_phase.proofs.Outer.{height, few, outer_lower}
 use Rattle.eh_phase.proofs.Due.{Stops, due_past, due_stop, reached_unread, reached_past, reached_none}
 use Rattle.eh_phase.proofs.Reached.{heads, reached_append, up_to_barrier, unlimited, whole_reached}
@@ -40,7 +40,7 @@ due_append g (p ∷ ps) qs e = go (can_be_read p.item) refl (is_barrier g p) ref
 
 -- what has a frame outside it has the same one where it is the innermost
 inner_tests : (end sp : ℕ) (v next : Vrs) (a c : Bool) → is_no_frame end false sp (slice_index v.r 13) ≡ a → nat_eq (slice_index v.r 15) NO_CALLER ≡ c
-    → checked end None false sp (Some v) ≡ Ok next → checked end None true sp (Some v) ≡ Ok next
+    → check_caller end None false sp (Some v) ≡ Ok next → check_caller end None true sp (Some v) ≡ Ok next
 inner_tests end sp v next true c ea ec e = absurd (grind arith)
 inner_tests end sp v next false c ea ec e =
     let k : is_no_frame end true sp (slice_index v.r 13) ≡ false = inner_frame end sp (slice_index v.r 13) _ _ _ refl refl refl ea in
@@ -51,22 +51,22 @@ inner_tests end sp v next false c ea ec e =
     inner_frame end sp to false b true ea eb ec e = absurd (grind arith)
     inner_frame end sp to false b false ea eb ec e = rw (ea, ec) refl
 
-inner_end : (end sp : ℕ) (o : Option Vrs) (next : Vrs) → checked end None false sp o ≡ Ok next → checked end None true sp o ≡ Ok next
+inner_end : (end sp : ℕ) (o : Option Vrs) (next : Vrs) → check_caller end None false sp o ≡ Ok next → check_caller end None true sp o ≡ Ok next
 inner_end end sp None next e = e
 inner_end end sp (Some v) next e = inner_tests end sp v next _ _ refl refl e
 
 as_innermost : (stack : Stack) (innermost : Bool) (codes r : List ℕ) (next : Vrs) → outer stack None innermost codes r ≡ Ok next → outer stack None true codes r ≡ Ok next
 unfolding outer
 as_innermost stack true codes r next e = e
-as_innermost stack false codes r next e = inner_end stack.end (slice_index r 13) (caller_of (unwound stack.segments r (cut codes))) next e
+as_innermost stack false codes r next e = inner_end stack.end (slice_index r 13) (caller_of (unwind_result stack.segments r (split_codes codes))) next e
 
 -- the same is due, and within reach, where the walk begins at a frame
 pub record Alike (g : Goal) (from : ℕ) (fs gs : List Frame) : Type 0 where
-  pub due : due g from gs ≡ due g from fs
+  pub due : remaining_landings g from gs ≡ remaining_landings g from fs
   pub reach : is_reached g from gs ≡ true
 
 same_alike : (g : Goal) (from : ℕ) (fs gs : List Frame) → fs ≡ gs → is_reached g from fs ≡ true → Alike g from fs gs
-same_alike g from fs gs e t = record { due = ap (due g from) (sym e); reach = ap (is_reached g from) (sym e) ∙ t }
+same_alike g from fs gs e t = record { due = ap (remaining_landings g from) (sym e); reach = ap (is_reached g from) (sym e) ∙ t }
 
 no_place : (from : ℕ) → places from [] ≡ []
 unfolding places
@@ -75,7 +75,7 @@ no_place from = refl
 -- a barrier in the first frame
 first_alike : (g : Goal) (from : ℕ) (f : Frame) (more : List Frame) → is_reached g from (f ∷ []) ≡ true → Alike g from (f ∷ []) (f ∷ more)
 first_alike g from f more t =
-    let own = placed f (from_address from f.items) in
+    let own = descriptor_places f (from_address from f.items) in
     let alone : is_reached_in g (own ++ places 0 []) ≡ true = sym (ap (is_reached_in g) (places-from from f [])) ∙ t in
     let here : is_reached_in g own ≡ true = sym (ap (is_reached_in g) (no_more own)) ∙ alone in
     record {
@@ -86,12 +86,12 @@ first_alike g from f more t =
     no_more : (own : List Place) → own ++ places 0 [] ≡ own
     no_more own = ap (λ l. own ++ l) (no_place 0) ∙ append-nil own
 
-frames_cons : (n : ℕ) (image : Image) (stack : Stack) (innermost : Bool) (site : ℕ) (r : List ℕ) (c : Covered) → covered_at image site ≡ Some c
-    → frames_in (suc n) image stack None innermost site r ≡ framed (frame_of site r c) (then_outer (λ new. frames_in n image stack None false (site_of new) new) (outer stack None innermost c.codes r))
+frames_cons : (n : ℕ) (image : Image) (stack : Stack) (innermost : Bool) (site : ℕ) (r : List ℕ) (c : CoveringEntry) → entry_contents_at image site ≡ Some c
+    → frames_in (suc n) image stack None innermost site r ≡ frame_and_outer (frame_of site r c) (frames_of_caller (λ new. frames_in n image stack None false (site_of new) new) (outer stack None innermost c.codes r))
 unfolding frames_in
 frames_cons n image stack innermost site r c e = rw e refl
 
-frames_none : (n : ℕ) (image : Image) (stack : Stack) (innermost : Bool) (site : ℕ) (r : List ℕ) → covered_at image site ≡ None → (frames_in n image stack None innermost site r).frames ≡ []
+frames_none : (n : ℕ) (image : Image) (stack : Stack) (innermost : Bool) (site : ℕ) (r : List ℕ) → entry_contents_at image site ≡ None → (frames_in n image stack None innermost site r).frames ≡ []
 unfolding frames_in
 frames_none zero image stack innermost site r e = refl
 frames_none (suc n) image stack innermost site r e = rw e refl
@@ -100,29 +100,29 @@ unreached : (g : Goal) (from : ℕ) → is_reached g from [] ≡ false
 unfolding places is_reached_in
 unreached g from = refl
 
-alike_by : (g : Goal) (from n : ℕ) (image : Image) (stack : Stack) (innermost : Bool) (site : ℕ) (r : List ℕ) (c : Covered) → covered_at image site ≡ Some c
+alike_by : (g : Goal) (from n : ℕ) (image : Image) (stack : Stack) (innermost : Bool) (site : ℕ) (r : List ℕ) (c : CoveringEntry) → entry_contents_at image site ≡ Some c
     → is_reached g from (frames_in (suc n) image stack None innermost site r).frames ≡ true
     → (o : Result Vrs Cause) → outer stack None innermost c.codes r ≡ o
     → Alike g from (frames_in (suc n) image stack None innermost site r).frames (frames_in (suc n) image stack None true site r).frames
 alike_by g from n image stack innermost site r c e t (Ok next) k =
-    let outwards = λ (o : Result Vrs Cause). framed (frame_of site r c) (then_outer (λ new. frames_in n image stack None false (site_of new) new) o) in
+    let outwards = λ (o : Result Vrs Cause). frame_and_outer (frame_of site r c) (frames_of_caller (λ new. frames_in n image stack None false (site_of new) new) o) in
     let same : frames_in (suc n) image stack None innermost site r ≡ frames_in (suc n) image stack None true site r =
     frames_cons n image stack innermost site r c e ∙ ap outwards (k ∙ sym (as_innermost stack innermost c.codes r next k)) ∙ sym (frames_cons n image stack true site r c e) in
     same_alike g from _ _ (ap (λ (x : Frames). x.frames) same) t
 alike_by g from n image stack innermost site r c e t (Err cause) k =
-    let rest = then_outer (λ new. frames_in n image stack None false (site_of new) new) in
+    let rest = frames_of_caller (λ new. frames_in n image stack None false (site_of new) new) in
     let alone : (frames_in (suc n) image stack None innermost site r).frames ≡ frame_of site r c ∷ [] =
-    ap (λ (x : Frames). x.frames) (frames_cons n image stack innermost site r c e ∙ ap (λ o. framed (frame_of site r c) (rest o)) k) in
+    ap (λ (x : Frames). x.frames) (frames_cons n image stack innermost site r c e ∙ ap (λ o. frame_and_outer (frame_of site r c) (rest o)) k) in
     let other : (frames_in (suc n) image stack None true site r).frames ≡ frame_of site r c ∷ (rest (outer stack None true c.codes r)).frames =
     ap (λ (x : Frames). x.frames) (frames_cons n image stack true site r c e) in
     let a = first_alike g from (frame_of site r c) (rest (outer stack None true c.codes r)).frames (sym (ap (is_reached g from) alone) ∙ t) in
     record {
-      due = ap (due g from) other ∙ a.due ∙ sym (ap (due g from) alone);
+      due = ap (remaining_landings g from) other ∙ a.due ∙ sym (ap (remaining_landings g from) alone);
       reach = ap (is_reached g from) other ∙ a.reach;
     }
 
 alike_at : (g : Goal) (from n : ℕ) (image : Image) (stack : Stack) (innermost : Bool) (site : ℕ) (r : List ℕ)
-    → is_reached g from (frames_in (suc n) image stack None innermost site r).frames ≡ true → (o : Option Covered) → covered_at image site ≡ o
+    → is_reached g from (frames_in (suc n) image stack None innermost site r).frames ≡ true → (o : Option CoveringEntry) → entry_contents_at image site ≡ o
     → Alike g from (frames_in (suc n) image stack None innermost site r).frames (frames_in (suc n) image stack None true site r).frames
 alike_at g from n image stack innermost site r t (Some c) e = alike_by g from n image stack innermost site r c e t (outer stack None innermost c.codes r) refl
 alike_at g from n image stack innermost site r t None e =
@@ -137,9 +137,9 @@ alike g from n image stack innermost site r low h t =
     let q = few stack.end true (slice_index r 13) low in
     let same : frames_in n image stack None innermost site r ≡ frames_in (suc MOST_FRAMES) image stack None innermost site r = enough n (suc MOST_FRAMES) image stack None innermost site r h (omega (arith, p)) in
     let last : frames_in (suc MOST_FRAMES) image stack None true site r ≡ frames_of image stack None site r = enough (suc MOST_FRAMES) MOST_FRAMES image stack None true site r (omega (arith, q)) q in
-    let a = alike_at g from MOST_FRAMES image stack innermost site r (sym (ap (λ (x : Frames). is_reached g from x.frames) same) ∙ t) (covered_at image site) refl in
+    let a = alike_at g from MOST_FRAMES image stack innermost site r (sym (ap (λ (x : Frames). is_reached g from x.frames) same) ∙ t) (entry_contents_at image site) refl in
     record {
-      due = ap (λ (x : Frames). due g from x.frames) (sym last) ∙ a.due ∙ sym (ap (λ (x : Frames). due g from x.frames) same);
+      due = ap (λ (x : Frames). remaining_landings g from x.frames) (sym last) ∙ a.due ∙ sym (ap (λ (x : Frames). remaining_landings g from x.frames) same);
       reach = ap (λ (x : Frames). is_reached g from x.frames) (sym last) ∙ a.reach;
     }
 
@@ -151,7 +151,7 @@ pub record Made (image : Image) (stack : Stack) (f : Frame) (more : List Frame) 
   pub room : height stack.end innermost (slice_index f.r 13) < most
   pub is : f ∷ more ≡ (frames_in most image stack None innermost f.site f.r).frames
 
-made_here : (n : ℕ) (image : Image) (stack : Stack) (innermost : Bool) (site : ℕ) (r : List ℕ) (c : Covered) (f : Frame) (more rest : List Frame)
+made_here : (n : ℕ) (image : Image) (stack : Stack) (innermost : Bool) (site : ℕ) (r : List ℕ) (c : CoveringEntry) (f : Frame) (more rest : List Frame)
     → height stack.end innermost (slice_index r 13) < n → (frames_in n image stack None innermost site r).frames ≡ frame_of site r c ∷ rest
     → frame_of site r c ∷ rest ≡ f ∷ more → Made image stack f more
 made_here n image stack innermost site r c f more rest h e k =
@@ -161,20 +161,20 @@ made_here n image stack innermost site r c f more rest h e k =
     record { most = n; innermost = innermost; room = at.0; is = sym at.1 }
 
 made_by : (n : ℕ) (image : Image) (stack : Stack) (innermost : Bool) (site : ℕ) (r : List ℕ) (f : Frame) (more : List Frame) (x : Frame) (inner : List Frame)
-    → height stack.end innermost (slice_index r 13) < suc n → (c : Covered) → covered_at image site ≡ Some c
+    → height stack.end innermost (slice_index r 13) < suc n → (c : CoveringEntry) → entry_contents_at image site ≡ Some c
     → ((at : ℕ) (new : List ℕ) → height stack.end false (slice_index new 13) < n → (frames_in n image stack None false at new).frames ≡ inner ++ (f ∷ more) → Made image stack f more)
     → (frames_in (suc n) image stack None innermost site r).frames ≡ x ∷ (inner ++ (f ∷ more)) → (o : Result Vrs Cause) → outer stack None innermost c.codes r ≡ o → Made image stack f more
 made_by n image stack innermost site r f more x inner h c is further e (Ok next) k =
-    let rest = then_outer (λ new. frames_in n image stack None false (site_of new) new) in
+    let rest = frames_of_caller (λ new. frames_in n image stack None false (site_of new) new) in
     let cons : (frames_in (suc n) image stack None innermost site r).frames ≡ frame_of site r c ∷ (frames_in n image stack None false (site_of next.r) next.r).frames =
-    ap (λ (y : Frames). y.frames) (frames_cons n image stack innermost site r c is ∙ ap (λ o. framed (frame_of site r c) (rest o)) k) in
+    ap (λ (y : Frames). y.frames) (frames_cons n image stack innermost site r c is ∙ ap (λ o. frame_and_outer (frame_of site r c) (rest o)) k) in
     let both : frame_of site r c ∷ (frames_in n image stack None false (site_of next.r) next.r).frames ≡ x ∷ (inner ++ (f ∷ more)) = sym cons ∙ e in
     let l = outer_lower stack None innermost c.codes r next k in
     further (site_of next.r) next.r (omega (arith, h, l)) cc
 made_by n image stack innermost site r f more x inner h c is further e (Err cause) k =
-    let rest = then_outer (λ new. frames_in n image stack None false (site_of new) new) in
+    let rest = frames_of_caller (λ new. frames_in n image stack None false (site_of new) new) in
     let cons : (frames_in (suc n) image stack None innermost site r).frames ≡ frame_of site r c ∷ [] =
-    ap (λ (y : Frames). y.frames) (frames_cons n image stack innermost site r c is ∙ ap (λ o. framed (frame_of site r c) (rest o)) k) in
+    ap (λ (y : Frames). y.frames) (frames_cons n image stack innermost site r c is ∙ ap (λ o. frame_and_outer (frame_of site r c) (rest o)) k) in
     let both : frame_of site r c ∷ [] ≡ x ∷ (inner ++ (f ∷ more)) = sym cons ∙ e in
     absurd (no_tail inner cc)
   where
@@ -185,7 +185,7 @@ made_by n image stack innermost site r f more x inner h c is further e (Err caus
 made_at : (n : ℕ) (image : Image) (stack : Stack) (innermost : Bool) (site : ℕ) (r : List ℕ) (f : Frame) (more : List Frame) (inner : List Frame)
     → height stack.end innermost (slice_index r 13) < suc n
     → ((x : Frame) (xs : List Frame) → inner ≡ x ∷ xs → (at : ℕ) (new : List ℕ) → height stack.end false (slice_index new 13) < n → (frames_in n image stack None false at new).frames ≡ xs ++ (f ∷ more) → Made image stack f more)
-    → (frames_in (suc n) image stack None innermost site r).frames ≡ inner ++ (f ∷ more) → (o : Option Covered) → covered_at image site ≡ o → Made image stack f more
+    → (frames_in (suc n) image stack None innermost site r).frames ≡ inner ++ (f ∷ more) → (o : Option CoveringEntry) → entry_contents_at image site ≡ o → Made image stack f more
 made_at n image stack innermost site r f more [] h further e (Some c) is =
     let cons = ap (λ (y : Frames). y.frames) (frames_cons n image stack innermost site r c is) in
     made_here (suc n) image stack innermost site r c f more _ h cons (sym cons ∙ e)
@@ -199,7 +199,7 @@ made zero image stack innermost site r f more inner h e = absurd (omega (arith, 
 made (suc n) image stack innermost site r f more inner h e =
     made_at n image stack innermost site r f more inner h
     (λ x xs is at new low k. made n image stack false at new f more xs low k)
-    e (covered_at image site) refl
+    e (entry_contents_at image site) refl
 
 -- ---- in turn
 
@@ -211,10 +211,10 @@ alone : (n : ℕ) (e : Entered) (later : List Entered) → later ≡ [] → e �
 alone n e later k = ap (λ l. e ∷ l) (sym (ap (take n) k ∙ take_none n))
 
 in_turn_by : (n : ℕ) (image : Image) (stack : Stack) (g : Goal) (from site : ℕ) (r : List ℕ) → IsSound image → stack.end ≤ STACK_END
-    → ((from site : ℕ) (r : List ℕ) → is_reached g from (frames_of image stack None site r).frames ≡ true → entered_in_turn n image stack g from site r ≡ take n (due g from (frames_of image stack None site r).frames))
+    → ((from site : ℕ) (r : List ℕ) → is_reached g from (frames_of image stack None site r).frames ≡ true → landings_in_turn n image stack g from site r ≡ take n (remaining_landings g from (frames_of image stack None site r).frames))
     → is_reached g from (frames_of image stack None site r).frames ≡ true
-    → (e : Entered) (later : List Entered) → phase2 g from (frames_of image stack None site r) ≡ e → due g from (frames_of image stack None site r).frames ≡ e ∷ later → Lands e → (Stops e → later ≡ [])
-    → enters_on (λ vrs next at. entered_in_turn n image stack g next at vrs.r) e ≡ take (suc n) (e ∷ later)
+    → (e : Entered) (later : List Entered) → phase2 g from (frames_of image stack None site r) ≡ e → remaining_landings g from (frames_of image stack None site r).frames ≡ e ∷ later → Lands e → (Stops e → later ≡ [])
+    → enters_on (λ vrs next at. landings_in_turn n image stack g next at vrs.r) e ≡ take (suc n) (e ∷ later)
 in_turn_by n image stack g from site r sound low further t (enters.Cleanup vrs pad next at) later e d lands last =
     let fs = frames_of image stack None site r in
     let go = cleanups_go_on g from fs vrs pad next at (all_in_order MOST_FRAMES image stack None true site r sound) e in
@@ -224,22 +224,22 @@ in_turn_by n image stack g from site r sound low further t (enters.Cleanup vrs p
     let of = λ (x : ℕ) (v : Vrs). (frames_of image stack None x v.r).frames in
     let moved : of go.frame.site (vrs_of go.frame) ≡ of at vrs = ap (λ x. of x (vrs_of go.frame)) go.stands ∙ ap (of at) go.registers in
     let ih = further next at vrs.r (sym (ap seen moved) ∙ a.reach) in
-    let both : enters.Cleanup vrs pad next at ∷ later ≡ enters.Cleanup vrs pad next at ∷ due g next (go.frame ∷ go.outer) = sym d ∙ go.due in
-    let tail : later ≡ due g next (go.frame ∷ go.outer) = cc in
-    ap (λ l. enters.Cleanup vrs pad next at ∷ l) (ih ∙ ap (take n) (sym (ap (due g next) moved) ∙ a.due ∙ sym (ap (due g next) m.is) ∙ sym tail))
+    let both : enters.Cleanup vrs pad next at ∷ later ≡ enters.Cleanup vrs pad next at ∷ remaining_landings g next (go.frame ∷ go.outer) = sym d ∙ go.due in
+    let tail : later ≡ remaining_landings g next (go.frame ∷ go.outer) = cc in
+    ap (λ l. enters.Cleanup vrs pad next at ∷ l) (ih ∙ ap (take n) (sym (ap (remaining_landings g next) moved) ∙ a.due ∙ sym (ap (remaining_landings g next) m.is) ∙ sym tail))
 in_turn_by n image stack g from site r sound low further t (enters.Catch vrs pad) later e d lands last = alone n _ later (last tt)
 in_turn_by n image stack g from site r sound low further t (enters.Spec vrs pad) later e d lands last = alone n _ later (last tt)
 in_turn_by n image stack g from site r sound low further t enters.Unexpected later e d lands last = alone n _ later (last tt)
 in_turn_by n image stack g from site r sound low further t (enters.Terminate cause) later e d lands last = absurd lands
 
-entered_of : (g : Goal) (from : ℕ) (fs : Frames) (e : Entered) → first_some (entered_at g) (places from fs.frames) ≡ Some e → phase2 g from fs ≡ e
+entered_of : (g : Goal) (from : ℕ) (fs : Frames) (e : Entered) → first_some (enter_at_place g) (places from fs.frames) ≡ Some e → phase2 g from fs ≡ e
 unfolding phase2
 entered_of g from fs e k = ap (λ o. unwrap_or o (enters.Terminate fs.last)) k
 
 in_turn : (n : ℕ) (image : Image) (stack : Stack) (g : Goal) (from site : ℕ) (r : List ℕ) → IsSound image → stack.end ≤ STACK_END
-    → is_reached g from (frames_of image stack None site r).frames ≡ true → entered_in_turn n image stack g from site r ≡ take n (due g from (frames_of image stack None site r).frames)
-unfolding entered_in_turn
-in_turn zero image stack g from site r sound low t = none_taken (due g from (frames_of image stack None site r).frames)
+    → is_reached g from (frames_of image stack None site r).frames ≡ true → landings_in_turn n image stack g from site r ≡ take n (remaining_landings g from (frames_of image stack None site r).frames)
+unfolding landings_in_turn
+in_turn zero image stack g from site r sound low t = none_taken (remaining_landings g from (frames_of image stack None site r).frames)
   where
     none_taken : (l : List Entered) → [] ≡ take zero l
     none_taken [] = refl
@@ -248,7 +248,7 @@ in_turn (suc n) image stack g from site r sound low t =
     let fs = frames_of image stack None site r in
     let h = heads g (places from fs.frames) t in
     let e = entered_of g from fs h.entered h.first in
-    ap (enters_on (λ vrs next at. entered_in_turn n image stack g next at vrs.r)) e
+    ap (enters_on (λ vrs next at. landings_in_turn n image stack g next at vrs.r)) e
     ∙ in_turn_by n image stack g from site r sound low (λ from site r k. in_turn n image stack g from site r sound low k) t h.entered h.later e h.due h.lands h.last
     ∙ ap (take (suc n)) (sym h.due)
 

@@ -1,4 +1,4 @@
--- The definitions at what the calls are given.
+-- The definitions, applied to the parameters of the calls.
 use Rattle.std.specs.Prelude.{ℕ, false, List, [], map, slice_index, unwrap_or, Result, Ok, Err}
 use Rattle.std.specs.List.{range_with_len}
 use Rattle.eh_bus.specs.Segment.{Segment}
@@ -18,13 +18,13 @@ use Rattle.eh_phase.specs.Verdict.{Meeting}
 use Rattle.eh_phase.specs.Phases.{Frame}
 use Rattle.eh_phase.specs.Frames.{Stack, site_of}
 
--- the types that a specification names, in order; a word that names none is type 0, which matches nothing
+-- the types that a specification names, in order; a word that names no type is type 0, which matches nothing
 abbrev pub types_of : List Loaded → DescKind → List ℕ
 types_of segments (Cleanup pad) = []
 types_of segments (Catch pad reference type) = []
 types_of segments (Spec types count pad) = map (λ i. unwrap_or (type_in segments (Spec types count pad) i) 0) (range_with_len 0 count)
 
--- a thrown object in a memory, before the descriptors of an image
+-- a thrown object in a memory, seen by the descriptors of an image
 abbrev pub meeting : Image → List Row → List Segment → Thrown → Meeting
 meeting image types segments what = record {
   object = what.object;
@@ -32,15 +32,15 @@ meeting image types segments what = record {
   types = types_of image.segments;
 }
 
--- what a memory gives the frames
+-- what a memory gives for unwinding
 abbrev pub stack_of : Memory → Stack
 stack_of memory = record { segments = memory.segments; end = memory.home.1 }
 
--- a walk that has come to the next frame
+-- the cursor at the next frame, or the reason why there is none
 abbrev pub cursor_of : Result Vrs Cause → Result Cursor Cause
 cursor_of (Ok vrs) = Ok (record { vrs = vrs; site = site_of vrs.r; innermost = false })
 cursor_of (Err cause) = Err cause
 
--- a frame of the walk as the phases see it, but for its descriptors
+-- the frame at a cursor, as the phases see it
 abbrev pub frame_at : Cursor → Frame
 frame_at c = record { site = c.site; sp = slice_index c.vrs.r 13; r = c.vrs.r; items = [] }

@@ -1,4 +1,4 @@
--- The landing pads that a throw and its resumes enter: its cleanups in order, and then its barrier.
+-- The landing pads that a throw and its resumes enter: the cleanups in order, and then the barrier.
 use Rattle.std.specs.Prelude.{ℕ, ◌&&◌, Bool, true, false, if◌then◌else◌, List, ◌++◌, find, Option, Some, None, option_and_then, Result, Ok, Err}
 use Rattle.std.specs.Option.{option_to_list}
 use Rattle.std.specs.List.{filter_map, take_while, before_first, list_any}
@@ -10,7 +10,7 @@ use Rattle.eh_phase.specs.declared.phase2.Goal.{Goal}
 use Rattle.eh_phase.specs.declared.phase2.Entered.{Entered}
 use Rattle.eh_phase.specs.declared.phase2.Entered.TheVariants as enters
 use Rattle.eh_phase.specs.Verdict.{in_scope}
-use Rattle.eh_phase.specs.Phases.{Frame, Place, is_goal, vrs_of, entered_at, places}
+use Rattle.eh_phase.specs.Phases.{Frame, Place, is_goal, vrs_of, enter_at_place, places}
 
 -- ---- the barrier: a catch or a specification in scope, in the frame and at the address of the goal
 
@@ -42,19 +42,19 @@ cleanup_at p = cleanup_item p.frame p.item
 
 -- ---- the list
 
--- the cleanups in scope, in order, of all frames inside the barrier's, and then those of the barrier's that stand before it
+-- the cleanups in scope, in order: those of all frames inside the barrier's, then those of the barrier's frame that come before it
 unfoldable pub cleanups_in : Goal → List Place → List Entered
 cleanups_in g ps = filter_map cleanup_at (before_first (is_barrier g) ps)
 
--- and then the barrier
+-- the same, and then the barrier
 unfoldable pub due_in : Goal → List Place → List Entered
-due_in g ps = cleanups_in g ps ++ option_to_list (option_and_then (entered_at g) (find (is_barrier g) ps))
+due_in g ps = cleanups_in g ps ++ option_to_list (option_and_then (enter_at_place g) (find (is_barrier g) ps))
 
--- what is still to be entered, from an address in the first frame on
-abbrev pub due : Goal → ℕ → List Frame → List Entered
-due g from fs = due_in g (places from fs)
+-- what is still to be entered, from the descriptor at an address in the first frame on
+abbrev pub remaining_landings : Goal → ℕ → List Frame → List Entered
+remaining_landings g from fs = due_in g (places from fs)
 
--- ---- a barrier within reach: no descriptor in front of it is one that can't be read
+-- ---- a barrier that can be reached: no unreadable descriptor comes before it
 
 abbrev pub can_be_read : Result Desc DescFault → Bool
 can_be_read (Ok d) = true

@@ -1,4 +1,4 @@
--- The frames of registers and a memory: how the list that the phases go over is made (IHI 0038; docs/phases.md).
+-- The list of frames that registers and a memory give, over which the phases go (IHI 0038; docs/rules/phases-and-exceptions.md).
 use Rattle.std.specs.Prelude.{ℕ, zero, suc, ◌+◌, ◌-◌, ◌%◌, ◌^◌, ◌==◌, ◌&&◌, ◌||◌, not, Bool, true, false, nat_lt, if◌then◌else◌, List, [], ◌∷◌, slice_index, Option, Some, None, option_map, Result, Ok, Err}
 use Rattle.std.specs.Result.{result_ok}
 use Rattle.eh_bus.specs.Segment.{Segment}
@@ -6,50 +6,52 @@ use Rattle.eh_bus.specs.declared.map.TheConstants.{STACK_END}
 use Rattle.elf_image.specs.Image.{Image}
 use Rattle.thumb_core.specs.declared.ends.Cause.{Cause}
 use Rattle.thumb_core.specs.declared.ends.Cause.TheVariants.{NoHandler, CannotUnwind, LeavesCleanup}
-use Rattle.guest_gates.specs.declared.gates.TheConstants.{NO_CALLER}
-use Rattle.unwind_codes.specs.declared.row.Entry.{Entry}
-use Rattle.unwind_codes.specs.declared.row.EntryBody.{EntryBody}
-use Rattle.unwind_codes.specs.declared.row.EntryBody.TheVariants.{CantUnwind, Inline, Table}
-use Rattle.unwind_codes.specs.Cut.{cut}
+use Rattle.run_gates.specs.declared.gates.TheConstants.{NO_CALLER}
+use Rattle.eh_codes.specs.declared.row.Entry.{Entry}
+use Rattle.eh_codes.specs.declared.row.EntryBody.{EntryBody}
+use Rattle.eh_codes.specs.declared.row.EntryBody.TheVariants.{CantUnwind, Inline, Table}
+use Rattle.eh_codes.specs.Cut.{split_codes}
 use Rattle.eh_index.specs.Rows.{entries_of}
 use Rattle.eh_index.specs.Places.{table_of}
 use Rattle.eh_index.specs.Covering.{covering}
 use Rattle.eh_bytecode.specs.Codes.{inline_codes, table_codes}
-use Rattle.eh_bytecode.specs.Meaning.{unwound}
+use Rattle.eh_bytecode.specs.Meaning.{unwind_result}
 use Rattle.eh_bytecode.specs.declared.frame.UnwindEnd.{UnwindEnd}
 use Rattle.eh_bytecode.specs.declared.frame.Vrs.{Vrs}
 use Rattle.eh_desc.specs.Grammar.{items_of}
-use Rattle.eh_phase.specs.declared.walk.Covered.{Covered}
+use Rattle.eh_phase.specs.declared.walk.CoveringEntry.{CoveringEntry}
 use Rattle.eh_phase.specs.Phases.{Frame, Frames}
 
--- what frames are unwound over: the segments of a memory, and the end of its running stack
+-- what unwinding needs: the segments of a memory, and the end of the running stack
 pub record Stack : Type 0 where
   pub segments : List Segment
   pub end : ℕ
 
 -- ---- the entry that covers a site
 
--- the codes of an entry, where they can be read
+-- the unwind instructions of an entry; None if they can't be read
 abbrev pub codes_of : EntryBody → Option (List ℕ) → Option (List ℕ)
 codes_of CantUnwind bytes = None
 codes_of (Inline word) bytes = result_ok (inline_codes word)
 codes_of (Table address) None = None
 codes_of (Table address) (Some bytes) = result_ok (table_codes bytes)
 
-abbrev pub with_items : Entry → Option (List ℕ) → List ℕ → Covered
+abbrev pub with_items : Entry → Option (List ℕ) → List ℕ → CoveringEntry
 with_items e bytes codes = record { codes = codes; descs = items_of e bytes }
 
-abbrev pub covered_by : Image → Option Entry → Option Covered
-covered_by image None = None
-covered_by image (Some e) = option_map (with_items e (table_of image e)) (codes_of e.body (table_of image e))
+abbrev pub entry_contents : Image → Option Entry → Option CoveringEntry
+entry_contents image None = None
+entry_contents image (Some e) = option_map (with_items e (table_of image e)) (codes_of e.body (table_of image e))
 
--- the codes and the descriptors of a site; None where no entry covers it, or one that can't be unwound, or whose codes can't be read
-unfoldable pub covered_at : Image → ℕ → Option Covered
-covered_at image site = covered_by image (covering (entries_of image) site)
+-- the unwind instructions and descriptors for a site; None if no entry covers it, or the entry can't be unwound, or its instructions
+-- can't be read
+unfoldable pub entry_contents_at : Image → ℕ → Option CoveringEntry
+entry_contents_at image site = entry_contents image (covering (entries_of image) site)
 
--- ---- the registers of the next frame, or the cause by which there is none
+-- ---- the registers of the next frame, or the reason why there is none
 
--- no frame of the stack: below the one inside it, at the same place as one that isn't the innermost, or above the stack's end
+-- a stack pointer is refused if it is below the inner frame's, equal to it (unless that frame is the innermost), or above the stack's
+-- end
 abbrev pub is_no_frame : ℕ → Bool → ℕ → ℕ → Bool
 is_no_frame end innermost sp next = nat_lt next sp || ((not innermost && next == sp) || nat_lt end next)
 
@@ -57,62 +59,62 @@ abbrev pub is_above : Option ℕ → ℕ → Bool
 is_above None sp = false
 is_above (Some limit) sp = nat_lt limit sp
 
--- the registers that codes give, where they finish
+-- the registers that unwind instructions give; None if they don't finish
 abbrev pub caller_of : Result (List ℕ) UnwindEnd → Option Vrs
 caller_of (Ok r) = Some (record { r = r })
 caller_of (Err why) = None
 
-abbrev pub caller_by : List Segment → List ℕ → Option Covered → Option Vrs
+abbrev pub caller_by : List Segment → List ℕ → Option CoveringEntry → Option Vrs
 caller_by segments r None = None
-caller_by segments r (Some c) = caller_of (unwound segments r (cut c.codes))
+caller_by segments r (Some c) = caller_of (unwind_result segments r (split_codes c.codes))
 
--- the registers that the codes of a site give of those of the frame that stands there
+-- the registers of the caller, from those of a frame at a site
 abbrev pub caller_at : Image → List Segment → ℕ → List ℕ → Option Vrs
-caller_at image segments site r = caller_by segments r (covered_at image site)
+caller_at image segments site r = caller_by segments r (entry_contents_at image site)
 
-abbrev pub checked : ℕ → Option ℕ → Bool → ℕ → Option Vrs → Result Vrs Cause
-checked end limit innermost sp None = Err CannotUnwind
-checked end limit innermost sp (Some next) =
+abbrev pub check_caller : ℕ → Option ℕ → Bool → ℕ → Option Vrs → Result Vrs Cause
+check_caller end limit innermost sp None = Err CannotUnwind
+check_caller end limit innermost sp (Some next) =
     if is_no_frame end innermost sp (slice_index next.r 13) then Err CannotUnwind
     else (if is_above limit (slice_index next.r 13) then Err LeavesCleanup
     else (if slice_index next.r 15 == NO_CALLER then Err NoHandler else Ok next))
 
 unfoldable pub outer : Stack → Option ℕ → Bool → List ℕ → List ℕ → Result Vrs Cause
-outer stack limit innermost codes r = checked stack.end limit innermost (slice_index r 13) (caller_of (unwound stack.segments r (cut codes)))
+outer stack limit innermost codes r = check_caller stack.end limit innermost (slice_index r 13) (caller_of (unwind_result stack.segments r (split_codes codes)))
 
--- a frame that has called stands at the call: its return address without bit 0, less 2
+-- the site of a frame that has called: its return address without bit 0, less 2
 abbrev pub site_of : List ℕ → ℕ
 site_of r = (slice_index r 15 - slice_index r 15 % 2 + (2 ^ 32 - 2)) % 2 ^ 32
 
 -- ---- the frames
 
-abbrev pub ended : Cause → Frames
-ended cause = record { frames = []; last = cause }
+abbrev pub end_of_frames : Cause → Frames
+end_of_frames cause = record { frames = []; last = cause }
 
-abbrev pub framed : Frame → Frames → Frames
-framed f further = record { frames = f ∷ further.frames; last = further.last }
+abbrev pub frame_and_outer : Frame → Frames → Frames
+frame_and_outer f further = record { frames = f ∷ further.frames; last = further.last }
 
-abbrev pub then_outer : (List ℕ → Frames) → Result Vrs Cause → Frames
-then_outer further (Ok next) = further next.r
-then_outer further (Err cause) = ended cause
+abbrev pub frames_of_caller : (List ℕ → Frames) → Result Vrs Cause → Frames
+frames_of_caller further (Ok next) = further next.r
+frames_of_caller further (Err cause) = end_of_frames cause
 
-abbrev pub frame_of : ℕ → List ℕ → Covered → Frame
+abbrev pub frame_of : ℕ → List ℕ → CoveringEntry → Frame
 frame_of site r c = record { site = site; sp = slice_index r 13; r = r; items = c.descs }
 
-abbrev pub walked : (List ℕ → Frames) → Stack → Option ℕ → Bool → ℕ → List ℕ → Option Covered → Frames
-walked further stack limit innermost site r None = ended CannotUnwind
-walked further stack limit innermost site r (Some c) = framed (frame_of site r c) (then_outer further (outer stack limit innermost c.codes r))
+abbrev pub frames_of_entry : (List ℕ → Frames) → Stack → Option ℕ → Bool → ℕ → List ℕ → Option CoveringEntry → Frames
+frames_of_entry further stack limit innermost site r None = end_of_frames CannotUnwind
+frames_of_entry further stack limit innermost site r (Some c) = frame_and_outer (frame_of site r c) (frames_of_caller further (outer stack limit innermost c.codes r))
 
 -- at most so many frames
 unfoldable pub frames_in : ℕ → Image → Stack → Option ℕ → Bool → ℕ → List ℕ → Frames
-frames_in zero image stack limit innermost site r = ended CannotUnwind
+frames_in zero image stack limit innermost site r = end_of_frames CannotUnwind
 frames_in (suc most) image stack limit innermost site r =
-    walked (λ new. frames_in most image stack limit false (site_of new) new) stack limit innermost site r (covered_at image site)
+    frames_of_entry (λ new. frames_in most image stack limit false (site_of new) new) stack limit innermost site r (entry_contents_at image site)
 
--- each frame stands above the one inside it, so that there are never as many
+-- stack pointers rise from frame to frame, so a list of frames is never this long
 abbrev pub MOST_FRAMES : ℕ
 MOST_FRAMES = STACK_END + 3
 
--- the frames from a site and registers on, the innermost first; those above a limit aren't seen
+-- the frames from a site and registers on, the innermost first; those above a limit are left out
 abbrev pub frames_of : Image → Stack → Option ℕ → ℕ → List ℕ → Frames
 frames_of image stack limit site r = frames_in MOST_FRAMES image stack limit true site r

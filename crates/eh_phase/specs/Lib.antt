@@ -8,3 +8,5 @@ pub mod Laws
 pub mod FirstLanding
 pub mod Passed
 pub mod Landings
+pub mod eh_desc
+pub mod run_gates

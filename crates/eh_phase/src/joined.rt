@@ -1,4 +1,4 @@
-//! What a throw enters first: its search and then phase 2 from what that found (docs/phases.md, "Laws").
+//! What a throw enters first: phase 1, and then phase 2 from what phase 1 found (docs/rules/phases-and-exceptions.md, "Laws").
 ghost use Rattle.std.specs.Prelude.{◌≡◌, None};
 ghost use Rattle.eh_phase.specs.Calls.{meeting, stack_of};
 ghost use Rattle.eh_phase.specs.Frames.{frames_of};
@@ -12,17 +12,17 @@ use crate::walk::Tables;
 use eh_bus::bus::Bus;
 use eh_bytecode::Vrs;
 
-/// What comes first of a throw.
+/// The first thing that a throw does.
 #[derive(Clone, Copy)]
 pub enum First {
-    /// What phase 2 enters first from the barrier that the search found: a cleanup of the throw, or the barrier.
+    /// Phase 1 found `barrier`; `entered` is what phase 2 enters first on the way to it: a cleanup, or the barrier itself.
     Enters { barrier: Barrier, entered: Entered },
-    /// The search found no barrier, and nothing is entered.
+    /// Phase 1 found no barrier (`Found` isn't `Barrier`), so nothing is entered.
     Ends(Found),
 }
 
-/// Searches from registers and the address at which their frame stands, and where there is a barrier says what phase 2 enters
-/// first, over a memory that stays. Without a barrier there is no phase 2: no cleanup of the throw is entered. Takes no memory.
+/// Runs phase 1 from the registers and call site of the throwing frame. If it finds a barrier, also tells what phase 2 enters first
+/// while the memory is unchanged. Without a barrier there is no phase 2, and no cleanup of the throw is entered. Allocates nothing.
 pub fn first_landing<B: Bus>(
     t: &Tables,
     bus: &B,

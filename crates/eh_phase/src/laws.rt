@@ -1,61 +1,64 @@
-//! What the two phases promise of each other (docs/phases.md, "Laws"): laws above the lists of frames.
+//! What the two phases guarantee each other, as laws of lists of frames (docs/rules/phases-and-exceptions.md, "Laws").
 ghost use Rattle.eh_phase.specs.Laws.{FramesAreWhole, SitesStandInCalls, FramesRise, SpecificationsNameTypes, VerdictsAreFirst, InnermostDecides, RegistersAreHandedOn, BarriersAreReached, BarriersStandOutside, CleanupsGoOn, PadsAreInOrder};
 
-/// The bound on the number of frames never cuts their list: each frame is followed by those that its registers give under the same bound.
+/// The bound on the number of frames never cuts a list of frames short: the frames outside a frame are those that its registers give
+/// under the same bound.
 pub fn frames_are_whole()
     ensures { FramesAreWhole }
 {}
 
-/// A frame that has called stands in its call, and not after it.
+/// The site of a frame that has called lies inside its call instruction, not after it.
 pub fn sites_stand_in_calls()
     ensures { SitesStandInCalls }
 {}
 
-/// Each frame stands above the one inside it, and none above the stack's end or the limit; the second may stand where the innermost does.
+/// Each frame's stack pointer is above that of the frame inside it, and none is above the stack's end or the limit. The second frame
+/// may have the same stack pointer as the innermost.
 pub fn frames_rise()
     ensures { FramesRise }
 {}
 
-/// A specification stops an object exactly where none of its types matches, and lets one pass that it names.
+/// An exception specification stops an object if and only if none of its types matches. It passes an object of a type that it names.
 pub fn specifications_name_types()
     ensures { SpecificationsNameTypes }
 {}
 
-/// The verdict of a frame is what the first of its descriptors says that says something, and there is none where all are silent.
+/// The verdict of a frame is that of its first descriptor that has one. A frame has none if none of its descriptors has one.
 pub fn verdicts_are_first()
     ensures { VerdictsAreFirst }
 {}
 
-/// The innermost frame that says something decides what a search finds. Where all are silent it is the cause by which the frames end.
+/// The innermost frame with a verdict decides what phase 1 finds. If there is none, the reason why the frames end decides.
 pub fn innermost_decides()
     ensures { InnermostDecides }
 {}
 
-/// The phases choose by sites, stack pointers and descriptors alone, and hand on the registers of the frame that they choose.
+/// The phases choose a frame by sites, stack pointers and descriptors alone, and return the registers of the frame that they choose.
 pub fn registers_are_handed_on()
     ensures { RegistersAreHandedOn }
 {}
 
-/// From the barrier that a search gave, phase 2 enters the first of the throw's cleanups and its barrier. It never terminates, and it
-/// looks at no frame outside the barrier's.
+/// From the barrier that phase 1 found, phase 2 enters the first of the throw's cleanups, or the barrier. It never terminates the
+/// throw, and it looks at no frame outside the barrier's.
 pub fn barriers_are_reached()
     ensures { BarriersAreReached }
 {}
 
-/// A barrier within reach stands in the first frame or outside it: what phase 2 enters on the way is at or below the barrier's frame.
+/// A barrier that can be reached is in the first frame or outside it. What phase 2 enters on the way is in the barrier's frame or
+/// inside it.
 pub fn barriers_stand_outside()
     ensures { BarriersStandOutside }
 {}
 
-/// Where phase 2 enters a cleanup, what is still to be entered goes on at its frame from the descriptor after its own; a barrier
-/// within reach before is so from there.
+/// After phase 2 entered a cleanup, the rest of the throw goes on in that frame, from the descriptor after the cleanup's. A barrier
+/// that could be reached before still can.
 pub fn cleanups_go_on()
     ensures { CleanupsGoOn }
 {}
 
-/// After a search that gave a barrier, the landing pads that phase 2 enters, each time from where it entered a cleanup and with nothing
-/// changed between, are the cleanups in scope of the frames inside the barrier's in order, those of the barrier's in front of it, and
-/// then the barrier.
+/// Suppose that phase 1 found a barrier, phase 2 is repeated from each cleanup that it enters, and nothing changes in between. Then it
+/// enters these landing pads in order: the cleanups in scope of the frames inside the barrier's; those of the barrier's frame before
+/// the barrier; the barrier.
 pub fn pads_are_in_order()
     ensures { PadsAreInOrder }
 {}

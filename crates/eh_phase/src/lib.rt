@@ -1,5 +1,5 @@
-//! The two phases of a throw (IHI 0038, "Phase 1 unwinding" and "Phase 2 unwinding"), over the frames that registers and a memory
-//! give: which frame's descriptor stops an exception, and which landing pad is entered next. docs/phases.md states the rules.
+//! The two phases of a throw (IHI 0038, "Phase 1 unwinding" and "Phase 2 unwinding"). They tell which frame's descriptor stops an
+//! exception, and which landing pad is entered next, for the frames that registers and a memory give. docs/rules/phases-and-exceptions.md states the rules.
 #![tactic(auto)]
 
 pub mod joined;

@@ -1,8 +1,8 @@
-//! What the descriptors of a frame say to a thrown object (docs/phases.md, "What a frame says").
+//! What the descriptors of a frame decide about a thrown object (docs/rules/phases-and-exceptions.md, "What a frame says").
 ghost use Rattle.std.specs.Prelude.{◌≡◌, map, unwrap_or};
 ghost use Rattle.std.specs.List.{range_with_len};
 ghost use Rattle.eh_desc.specs.Grammar.{type_in};
-ghost use Rattle.eh_phase.specs.Verdict.{in_scope, by_match, catch_says, is_hit, first_hit, unless_named, says, heard, verdict_of};
+ghost use Rattle.eh_phase.specs.Verdict.{in_scope, by_match, catch_says, is_hit, first_hit, unless_named, desc_verdict, heard, verdict_of};
 ghost use Rattle.eh_phase.specs.Calls.{types_of, meeting};
 
 use crate::walk::Tables;
@@ -11,25 +11,27 @@ use eh_desc::{CatchType, Desc, DescFault, DescKind, Descs, spec_type};
 use eh_match::{Match, type_match};
 use thumb_core::ends::Cause;
 
-/// A thrown object: its address, and that of its type.
+/// A thrown object.
 #[derive(Clone, Copy)]
 pub struct Thrown {
+    /// The address of the object.
     pub object: u32,
+    /// The address of its type information.
     pub ty: u32,
 }
 
-/// What a frame says of a thrown object.
+/// What a frame decides about a thrown object.
 #[derive(Clone, Copy)]
 pub enum Verdict {
-    /// The descriptor at an address stops it, by this match.
+    /// The descriptor at the address `desc` stops the object, which matched as `hit` says.
     Barrier { desc: u32, hit: Match },
-    /// The first address of the object that a match needs and that can't be read.
+    /// A match has to read a word of the object that can't be read: the first such address.
     ObjectRead(u32),
-    /// The throw ends here.
+    /// The program terminates, for this reason.
     Terminate(Cause),
 }
 
-/// Whether a descriptor is in scope at a site.
+/// Whether a site lies in the scope of a descriptor.
 #[inline(always)]
 pub(crate) fn is_in_scope(desc: &Desc, site: u32) -> bool
     ensures { result ≡ in_scope site desc.now }
@@ -37,7 +39,7 @@ pub(crate) fn is_in_scope(desc: &Desc, site: u32) -> bool
     desc.covers(site)
 }
 
-/// What a catch of a type says by the object's match with it.
+/// The verdict of a catch at the address `at`, from the object's match with its type; None if it doesn't match.
 fn by_match(at: u32, hit: Match) -> Option<Verdict>
     ensures { result ≡ by_match at hit }
 {
@@ -48,7 +50,7 @@ fn by_match(at: u32, hit: Match) -> Option<Verdict>
     }
 }
 
-/// What a specification says by the object's first match with its types.
+/// The verdict of a specification at the address `at`, from the object's first match with its types; None if one of them matches.
 fn unless_named(object: u32, at: u32, hit: Match) -> Option<Verdict>
     ensures { result ≡ unless_named object at hit }
 {
@@ -62,7 +64,7 @@ fn unless_named(object: u32, at: u32, hit: Match) -> Option<Verdict>
     }
 }
 
-/// Whether a match isn't Failed.
+/// Whether a match is anything but `Failed`.
 fn is_hit(hit: Match) -> bool
     ensures { result ≡ is_hit hit }
 {
@@ -72,14 +74,14 @@ fn is_hit(hit: Match) -> bool
     }
 }
 
-/// How a thrown object matches a type.
-fn matched<B: Bus>(t: &Tables, bus: &B, what: &Thrown, wanted: u32) -> Match
+/// How a thrown object matches the type at the address `wanted`.
+fn match_thrown<B: Bus>(t: &Tables, bus: &B, what: &Thrown, wanted: u32) -> Match
     ensures { result ≡ (meeting t.now.index t.now.types.now (B.memory bus.now).segments what.now).matched wanted }
 {
     type_match(t.types, what.ty, what.object, wanted, bus)
 }
 
-/// The first match with the types of a specification that isn't Failed.
+/// The first match with the types of a specification that isn't `Failed`; `Failed` if there is none.
 #[tactic(auto, using(crate::proofs::Hits::hit_past, crate::proofs::Hits::hit_here, crate::proofs::Hits::hit_none))]
 fn first_hit<B: Bus>(t: &Tables, bus: &B, what: &Thrown, desc: &Desc, count: u32) -> Match
     ensures { let m = meeting t.now.index t.now.types.now (B.memory bus.now).segments what.now in
@@ -87,7 +89,7 @@ fn first_hit<B: Bus>(t: &Tables, bus: &B, what: &Thrown, desc: &Desc, count: u32
 {
     for i in 0..count {
         let wanted = spec_type(&t.index, desc, i).unwrap_or(0);
-        let hit = matched(t, bus, what, wanted);
+        let hit = match_thrown(t, bus, what, wanted);
         if is_hit(hit) {
             return hit;
         }
@@ -95,10 +97,10 @@ fn first_hit<B: Bus>(t: &Tables, bus: &B, what: &Thrown, desc: &Desc, count: u32
     Match::Failed
 }
 
-/// What a descriptor in scope says.
+/// The verdict of a descriptor that is in scope; None if it has none.
 #[inline(always)]
-fn says<B: Bus>(t: &Tables, bus: &B, what: &Thrown, desc: &Desc) -> Option<Verdict>
-    ensures { result ≡ says (meeting t.now.index t.now.types.now (B.memory bus.now).segments what.now) desc.now }
+fn desc_verdict<B: Bus>(t: &Tables, bus: &B, what: &Thrown, desc: &Desc) -> Option<Verdict>
+    ensures { result ≡ desc_verdict (meeting t.now.index t.now.types.now (B.memory bus.now).segments what.now) desc.now }
 {
     match desc.kind {
         DescKind::Cleanup { .. } => None,
@@ -108,7 +110,7 @@ fn says<B: Bus>(t: &Tables, bus: &B, what: &Thrown, desc: &Desc) -> Option<Verdi
                 hit: Match::Object(what.object),
             }),
             CatchType::AllFails => Some(Verdict::Terminate(Cause::NoThrow)),
-            CatchType::One(wanted) => by_match(desc.at, matched(t, bus, what, wanted)),
+            CatchType::One(wanted) => by_match(desc.at, match_thrown(t, bus, what, wanted)),
         },
         DescKind::Spec { count, .. } => unless_named(
             what.object,
@@ -118,7 +120,7 @@ fn says<B: Bus>(t: &Tables, bus: &B, what: &Thrown, desc: &Desc) -> Option<Verdi
     }
 }
 
-/// What a descriptor says at a site, or the fault that ends a list of them.
+/// The verdict of an item of a descriptor list at a site. A fault, which ends a list, counts at every site.
 #[inline(always)]
 fn heard<B: Bus>(
     t: &Tables,
@@ -132,7 +134,7 @@ fn heard<B: Bus>(
     match item {
         Ok(desc) => {
             if is_in_scope(desc, site) {
-                says(t, bus, what, desc)
+                desc_verdict(t, bus, what, desc)
             } else {
                 None
             }
@@ -141,7 +143,7 @@ fn heard<B: Bus>(
     }
 }
 
-/// The verdict of a frame: what the first of its descriptors in scope says that says something.
+/// The verdict of a frame: that of the first of its descriptors in scope that has one.
 #[inline(always)]
 #[tactic(auto, using(crate::proofs::First::first_past, crate::proofs::First::first_here, crate::proofs::First::first_none), unfolding(crate::specs::Verdict::verdict_of))]
 pub(crate) fn verdict_of<B: Bus>(

@@ -1,10 +1,10 @@
-//! The walk over frames, of which it keeps one (docs/phases.md, "Frames").
+//! The walk from a frame outwards; it holds one frame at a time (docs/rules/phases-and-exceptions.md, "Frames").
 ghost use Rattle.std.specs.Prelude.{◌≡◌, Some, None, Ok, Err, MatchBool, MatchOption, option_map};
-ghost use Rattle.unwind_codes.specs.declared.row.EntryBody.TheVariants.{Table};
-ghost use Rattle.eh_phase.specs.declared.walk.Covered.{Covered};
-ghost use Rattle.unwind_codes.specs.Cut.{cut};
-ghost use Rattle.eh_bytecode.specs.Meaning.{unwound};
-ghost use Rattle.eh_phase.specs.Frames.{covered_by, covered_at, is_no_frame, is_above, caller_of, caller_at, checked, outer, site_of};
+ghost use Rattle.eh_codes.specs.declared.row.EntryBody.TheVariants.{Table};
+ghost use Rattle.eh_phase.specs.declared.walk.CoveringEntry.{CoveringEntry};
+ghost use Rattle.eh_codes.specs.Cut.{split_codes};
+ghost use Rattle.eh_bytecode.specs.Meaning.{unwind_result};
+ghost use Rattle.eh_phase.specs.Frames.{entry_contents, entry_contents_at, is_no_frame, is_above, caller_of, caller_at, check_caller, outer, site_of};
 ghost use Rattle.eh_phase.specs.Calls.{stack_of, cursor_of};
 
 use eh_bus::bus::Bus;
@@ -12,58 +12,63 @@ use eh_bytecode::{Codes, UnwindEnd, Vrs, unwind};
 use eh_desc::Descs;
 use eh_index::{Entry, EntryBody, Index};
 use eh_types::TypeGraph;
-use guest_gates::NO_CALLER;
+use run_gates::NO_CALLER;
 use thumb_core::ends::Cause;
 
-/// The row from which an entry is sought where none was found yet: no index has so many.
+/// The row to begin a look-up at if no entry was found yet; no index has this row.
 pub(crate) const NO_ROW: u32 = u32::MAX;
 
-/// What the phases read of an image: its index with the descriptors after it, and its graph of types.
+/// What the phases need of an image.
 #[derive(Drop)]
 pub struct Tables<'i, 'a> {
+    /// The index table, with the unwind entries and descriptors.
     pub index: Index<'i, 'a>,
+    /// The graph of the image's types.
     pub types: &'i TypeGraph<'a>,
 }
 
-/// The codes and the descriptors of the entry that covers a site.
+/// What the unwind entry that covers a site gives.
 #[derive(Drop)]
-pub struct Covered<'a> {
+pub struct CoveringEntry<'a> {
+    /// The entry's unwind instructions.
     pub codes: Codes<'a>,
+    /// The entry's descriptors.
     pub descs: Descs<'a>,
 }
 
-/// A frame of the walk.
+/// The frame that a walk is at.
 #[derive(Clone, Copy)]
 pub struct Cursor {
+    /// The frame's registers.
     pub vrs: Vrs,
-    /// The address at which the frame stands in its function.
+    /// The site of the frame: the address of the call that it is in; for the innermost frame, the address that the walk was given.
     pub site: u32,
-    /// Whether the walk begins here.
+    /// Whether the walk begins at this frame.
     pub innermost: bool,
 }
 
-/// The codes and the descriptors of an entry with a table at an address. None where its codes can't be read.
+/// The unwind instructions and descriptors of an entry with a table at `address`. None if the instructions can't be read.
 #[inline(always)]
 pub(crate) fn covered_by_table<'a>(
     index: &Index<'_, 'a>,
     entry: &Entry,
     address: u32,
-) -> Option<Covered<'a>>
+) -> Option<CoveringEntry<'a>>
     requires { entry.now.body ≡ Table address }
-    ensures { result ≡ covered_by index.now (Some entry.now) }
+    ensures { result ≡ entry_contents index.now (Some entry.now) }
 {
     let bytes = index.table(entry)?;
     let Ok(codes) = Codes::table(bytes) else {
         return None;
     };
     let descs = Descs::after_codes(entry.start, address, bytes);
-    Some(Covered { codes, descs })
+    Some(CoveringEntry { codes, descs })
 }
 
-/// The codes of an entry. None where it can't be unwound, and where they can't be read.
+/// The unwind instructions of an entry. None if it can't be unwound (`EXIDX_CANTUNWIND`), or its instructions can't be read.
 #[inline(always)]
 pub(crate) fn codes_by<'a>(index: &Index<'_, 'a>, entry: &Entry) -> Option<Codes<'a>>
-    ensures { result ≡ option_map (λ (c : Covered). c.codes) (covered_by index.now (Some entry.now)) }
+    ensures { result ≡ option_map (λ (c : CoveringEntry). c.codes) (entry_contents index.now (Some entry.now)) }
 {
     match entry.body {
         EntryBody::CantUnwind => None,
@@ -95,7 +100,7 @@ fn is_above(limit: Option<u32>, sp: u32) -> bool
     }
 }
 
-/// The address of the call by its return address.
+/// The site of a frame that has called: its return address without bit 0, less 2.
 #[inline(always)]
 fn site_of(vrs: &Vrs) -> u32
     ensures { result ≡ site_of vrs.now.r }
@@ -104,10 +109,10 @@ fn site_of(vrs: &Vrs) -> u32
     (back - back % 2).wrapping_sub(2)
 }
 
-/// Unwinds the registers of a frame to those that codes give, where they finish, and answers whether they do.
+/// Unwinds a frame's registers in place; answers whether the instructions finish. If they don't, the registers aren't specified.
 #[inline(always)]
 fn unwinds<B: Bus>(codes: &Codes, bus: &B, vrs: &mut Vrs) -> bool
-    ensures { let caller = caller_of (unwound (B.memory bus.now).segments vrs.old.r (cut codes.now)) in MatchBool result (caller ≡ Some vrs.new) (caller ≡ None) }
+    ensures { let caller = caller_of (unwind_result (B.memory bus.now).segments vrs.old.r (split_codes codes.now)) in MatchBool result (caller ≡ Some vrs.new) (caller ≡ None) }
 {
     match unwind(codes, vrs, bus) {
         UnwindEnd::Finished => true,
@@ -115,9 +120,8 @@ fn unwinds<B: Bus>(codes: &Codes, bus: &B, vrs: &mut Vrs) -> bool
     }
 }
 
-/// The registers that the codes of the entry give which covers a site, of those of the frame that stands there. None where no entry
-/// covers it, where the entry can't be unwound or its codes can't be read, and where they end otherwise than finished. Nothing is
-/// asked of the new stack pointer.
+/// The registers of the caller, from those of a frame at `site`. None if no entry covers the site, the entry can't be unwound, its
+/// instructions can't be read, or they don't finish. The new stack pointer isn't checked.
 pub fn caller_at<B: Bus>(t: &Tables, bus: &B, from: &Vrs, site: u32) -> Option<Vrs>
     ensures { result ≡ caller_at t.now.index (B.memory bus.now).segments site from.now.r }
 {
@@ -130,9 +134,9 @@ pub fn caller_at<B: Bus>(t: &Tables, bus: &B, from: &Vrs, site: u32) -> Option<V
     }
 }
 
-/// The same in place: answers whether the registers of a frame have become those of its caller. `near` is the row to seek from, best the
-/// one found last, and any number else; it becomes the row found last.
-#[tactic(auto, unfolding(crate::specs::Frames::covered_at))]
+/// As `caller_at`, in place: answers whether `vrs` became the caller's registers. `near` is the index row to begin the look-up at. Any
+/// number is allowed, and the row found last is fastest; it becomes the row found last.
+#[tactic(auto, unfolding(crate::specs::Frames::entry_contents_at))]
 pub fn to_caller<B: Bus>(t: &Tables, bus: &B, vrs: &mut Vrs, site: u32, near: &mut u32) -> bool
     ensures { let caller = caller_at t.now.index (B.memory bus.now).segments site vrs.old.r in MatchBool result (caller ≡ Some vrs.new) (caller ≡ None) }
 {
@@ -147,10 +151,10 @@ pub fn to_caller<B: Bus>(t: &Tables, bus: &B, vrs: &mut Vrs, site: u32, near: &m
     unwinds(&codes, bus, vrs)
 }
 
-/// The cause by which registers are none of the frame outside one whose stack pointer is `sp`.
+/// Why registers can't be those of the frame outside one with stack pointer `sp`; None if they can.
 #[inline(always)]
 fn refusal(end: u32, limit: Option<u32>, innermost: bool, sp: u32, next: &Vrs) -> Option<Cause>
-    ensures { let frame = checked end limit innermost sp (Some next.now) in MatchOption result (frame ≡ Ok next.now) (λ cause. frame ≡ Err cause) }
+    ensures { let frame = check_caller end limit innermost sp (Some next.now) in MatchOption result (frame ≡ Ok next.now) (λ cause. frame ≡ Err cause) }
 {
     if is_no_frame(end, innermost, sp, next.r[13]) {
         Some(Cause::CannotUnwind)
@@ -163,11 +167,11 @@ fn refusal(end: u32, limit: Option<u32>, innermost: bool, sp: u32, next: &Vrs) -
     }
 }
 
-/// Goes to the frame outside one with these codes, or gives the cause by which there is none. Then the walk ends, and its frame plays no
-/// further part.
+/// Goes to the frame outside the cursor's, which has these unwind instructions. Returns why there is none, else None; after a reason
+/// the walk ends, and the cursor isn't used again.
 #[inline(always)]
 #[tactic(auto, unfolding(crate::specs::Frames::outer))]
-pub(crate) fn go_out<B: Bus>(
+pub(crate) fn go_to_caller<B: Bus>(
     codes: &Codes,
     bus: &B,
     limit: Option<u32>,

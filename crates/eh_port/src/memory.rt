@@ -1,8 +1,8 @@
-//! A source and a sink in memory, of which chosen calls fail. docs/outside.md has the rules.
+//! A source and a sink in memory whose calls can be made to fail (docs/rules/memory.md).
 ghost use Rattle.std.specs.Prelude.{◌≡◌, ◌<◌, Some, Contains, IsErr, IfOk, is_err, length, if◌then◌else◌};
 ghost use Rattle.std.specs.Io.{ReadsAtMost, WritesAtMost};
 ghost use Rattle.std.specs.Io.KnownBytes.{ReadConsumes, WriteAppends};
-ghost use Rattle.eh_port.specs.Causes.{HasCause, counted};
+ghost use Rattle.eh_port.specs.Causes.{HasCause, count_fault};
 ghost use Rattle.eh_port.specs.Memory.{Calls};
 
 use crate::lists::{Bytes, CallNumbers};
@@ -11,28 +11,30 @@ use crate::{Failed, Sink, Source};
 /// A source in memory.
 #[derive(Drop)]
 pub struct MemSource {
+    /// The bytes that are left.
     pub left: Bytes,
-    /// The number of the next call, counted from 1 up to the greatest `u64`.
+    /// The number of the next call, counted from 1 and capped at the greatest `u64`.
     pub next: u64,
     /// The numbers of the calls that fail.
     pub failing: CallNumbers,
-    /// How many have failed, up to the greatest `u64`.
+    /// How many calls have failed, capped at the greatest `u64`.
     pub faults: u64,
 }
 
 /// A sink in memory. A call that finds no memory for its bytes fails too.
 #[derive(Drop)]
 pub struct MemSink {
+    /// The bytes that were written.
     pub written: Bytes,
-    /// The number of the next call, counted from 1 up to the greatest `u64`.
+    /// The number of the next call, counted from 1 and capped at the greatest `u64`.
     pub next: u64,
     /// The numbers of the calls that fail.
     pub failing: CallNumbers,
-    /// How many have failed, up to the greatest `u64`.
+    /// How many calls have failed, capped at the greatest `u64`.
     pub faults: u64,
 }
 
-/// Whether the call of the number `next` fails, as its number is listed, and the counts after it.
+/// Counts a call, and a fault if its number is listed; gives whether it fails.
 pub fn call_fails(next: &mut u64, failing: &[u64], faults: &mut u64) -> bool
     ensures { Calls next.old next.new failing.now faults.old faults.new result }
 {
@@ -73,10 +75,10 @@ impl Sink for MemSink {
         ensures some { 0 < length bytes.now → IfOk result (λ count. 0 < count) }
         ensures bytes { WriteAppends (Some self.old.written) (Some self.new.written) result bytes.now }
         ensures cause { HasCause self.old.faults self.new.faults result }
-        // A call whose number is listed fails; another may find no memory.
+        // Listed calls fail; others may run out of memory.
         ensures listed { Contains self.old.failing self.old.next → IsErr result }
-        ensures counts { self.new.faults ≡ (if is_err result then counted self.old.faults else self.old.faults) }
-        ensures numbered { self.new.next ≡ counted self.old.next }
+        ensures counts { self.new.faults ≡ (if is_err result then count_fault self.old.faults else self.old.faults) }
+        ensures numbered { self.new.next ≡ count_fault self.old.next }
         ensures failing { self.new.failing ≡ self.old.failing }
         ensures whole { IfOk result (λ count. count ≡ length bytes.now) }
     {

@@ -1,4 +1,4 @@
-//! A source and a sink that never fail. docs/outside.md has the rules.
+//! A source and a sink that never fail (docs/rules/memory.md).
 ghost use Rattle.std.specs.Prelude.{◌≡◌, ◌<◌, ◌+◌, ◌-◌, ◌^◌, min, Ok, Some, None, IfOk, IsOk, length};
 ghost use Rattle.std.specs.Io.{ReadsAtMost, WritesAtMost};
 ghost use Rattle.std.specs.Io.KnownBytes.{ReadConsumes, WriteAppends};
@@ -7,15 +7,17 @@ ghost use Rattle.eh_port.specs.Causes.{HasCause};
 use crate::lists::Bytes;
 use crate::{Failed, Sink, Source};
 
-/// A source in memory, of which no call fails.
+/// A source in memory whose calls never fail.
 #[derive(Drop)]
 pub struct SureSource {
+    /// The bytes that are left.
     pub left: Bytes,
 }
 
-/// A sink that keeps no bytes and never fails: `taken` is how many there were, up to the greatest `u64`.
+/// A sink that discards its bytes and never fails.
 #[derive(Drop)]
 pub struct SureSink {
+    /// How many bytes it accepted, capped at the greatest `u64`.
     pub taken: u64,
 }
 

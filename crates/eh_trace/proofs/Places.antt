@@ -6,7 +6,7 @@ use Rattle.std.specs.List.{position_from}
 use Rattle.std.proofs.Common.{length-drop}
 use Rattle.std.proofs.Math.Seq.{take-length}
 use Rattle.eh_trace.specs.declared.text.TheConstants.{MAX_TYPE_NAME}
-use Rattle.eh_trace.specs.Text.{without_zeros, printed, type_text}
+use Rattle.eh_trace.specs.Text.{without_zeros, printable_byte, type_text}
 
 found_from : {A : Type 0} (p : A → Bool) (xs : List A) (k j : ℕ) → position_from p k xs ≡ Some j → (i : ℕ) × (j ≡ k + i) × (find p xs ≡ slice_get xs i)
 found_from p [] k j e = cc
@@ -107,7 +107,7 @@ taken xs n = by (nat_lt n (length xs)) refl
         let e : min (length xs) n ≡ length xs = omega arith in
         rw e (take-length xs ∙ sym (whole xs n k))
 
-pub type_shown : (xs : List ℕ) → length xs ≢ 0 → type_text xs ≡ map printed (take (min (length xs) MAX_TYPE_NAME) xs)
+pub type_shown : (xs : List ℕ) → length xs ≢ 0 → type_text xs ≡ map printable_byte (take (min (length xs) MAX_TYPE_NAME) xs)
 unfolding type_text
 type_shown [] n = absurd (n refl)
 type_shown (x ∷ xs) n = rw (taken (x ∷ xs) MAX_TYPE_NAME) refl

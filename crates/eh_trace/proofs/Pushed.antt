@@ -8,7 +8,7 @@ use Rattle.eh_trace.specs.declared.event.EventKind.{EventKind}
 use Rattle.eh_trace.specs.declared.event.EventKind.TheVariants.{Throw, Rethrow, Cleanup, Catch, Unexpected}
 use Rattle.eh_trace.specs.declared.event.Event.{Event}
 use Rattle.eh_trace.specs.declared.events.TheConstants.{MAX_KEPT}
-use Rattle.eh_trace.specs.Trace.{Trace, total_of, one_event, counting, keeping, pushed, is_kind, Holds}
+use Rattle.eh_trace.specs.Trace.{Trace, total_of, one_event, counting, keep_event, push_event, is_kind, Holds}
 
 whole : (xs : List Event) (n : ℕ) → length xs ≤ n → take n xs ≡ xs
 whole [] zero h = refl
@@ -22,7 +22,7 @@ few_of a b n e q = let h : a < n = grind (arith, nat_tests) in omega arith
 many_of : (a b n : ℕ) → a ≡ min n b → nat_lt a n ≡ false → n ≤ b
 many_of a b n e q = let h : n ≤ a = grind (arith, nat_tests) in omega arith
 
-kept : (e : Event) (all : List Event) → keeping e (take MAX_KEPT all) ≡ take MAX_KEPT (all ++ e ∷ [])
+kept : (e : Event) (all : List Event) → keep_event e (take MAX_KEPT all) ≡ take MAX_KEPT (all ++ e ∷ [])
 kept e all = by (nat_lt (length (take MAX_KEPT all)) MAX_KEPT) refl
   where
     size : length (take MAX_KEPT all) ≡ min MAX_KEPT (length all)
@@ -86,9 +86,9 @@ total_kept Cleanup t es = refl
 total_kept Catch t es = refl
 total_kept Unexpected t es = refl
 
-pub pushed_holds : (t : Trace) (e : Event) (all : List Event) → Holds t all → Holds (pushed t e) (all ++ e ∷ [])
+pub pushed_holds : (t : Trace) (e : Event) (all : List Event) → Holds t all → Holds (push_event t e) (all ++ e ∷ [])
 pushed_holds t e all x = record {
-  kept = ap (keeping e) x.kept ∙ kept e all;
-  total = λ k. total_kept k (counting e.kind t) (keeping e t.kept)
+  kept = ap (keep_event e) x.kept ∙ kept e all;
+  total = λ k. total_kept k (counting e.kind t) (keep_event e t.kept)
       ∙ (totals k e.kind t (count_by (λ x. is_kind k x.kind) all) (x.total k) ∙ ap (λ (n : ℕ). min n (2 ^ 64 - 1)) (sym (counted k e all)));
 }

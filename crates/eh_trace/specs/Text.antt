@@ -26,12 +26,12 @@ offset_text n = without_zeros (address_text n)
 -- ---- names and bytes
 
 -- a byte that isn't printed, and a blank, are question marks
-abbrev pub printed : ℕ → ℕ
-printed b = if nat_le 33 b && nat_le b 126 then b else 63
+abbrev pub printable_byte : ℕ → ℕ
+printable_byte b = if nat_le 33 b && nat_le b 126 then b else 63
 
 unfoldable pub type_text : List ℕ → List ℕ
 type_text [] = codes "?"
-type_text (b ∷ more) = map printed (take MAX_TYPE_NAME (b ∷ more))
+type_text (b ∷ more) = map printable_byte (take MAX_TYPE_NAME (b ∷ more))
 
 unfoldable pub bytes_text : List ℕ → List ℕ
 bytes_text [] = codes "-"
@@ -40,7 +40,7 @@ bytes_text (b ∷ more) = encode_lower (b ∷ more)
 -- ---- places: a function and an offset in it
 
 abbrev pub named_place : List ℕ → ℕ → List ℕ
-named_place name offset = map printed name ++ codes "+" ++ offset_text offset
+named_place name offset = map printable_byte name ++ codes "+" ++ offset_text offset
 
 -- the function that holds the address
 abbrev pub holder : Image → ℕ → Option Function

@@ -35,11 +35,11 @@ counting Cleanup t = record t { cleanups = one_event t.cleanups }
 counting Catch t = record t { catches = one_event t.catches }
 counting Unexpected t = record t { unexpected = one_event t.unexpected }
 
-abbrev pub keeping : Event → List Event → List Event
-keeping e kept = if nat_lt (length kept) MAX_KEPT then kept ++ e ∷ [] else kept
+abbrev pub keep_event : Event → List Event → List Event
+keep_event e kept = if nat_lt (length kept) MAX_KEPT then kept ++ e ∷ [] else kept
 
-abbrev pub pushed : Trace → Event → Trace
-pushed t e = record (counting e.kind t) { kept = keeping e t.kept }
+abbrev pub push_event : Trace → Event → Trace
+push_event t e = record (counting e.kind t) { kept = keep_event e t.kept }
 
 -- ---- what a trace says of all events of a run
 

@@ -1,10 +1,10 @@
-//! Events of a run: docs/exceptions.md.
+//! Events of a run, as a trace records them: docs/rules/phases-and-exceptions.md.
 ghost use Rattle.std.specs.Prelude.{◌≡◌};
 ghost use Rattle.eh_trace.specs.declared.event.TraceMemory.TheVariants.{OutOfMemory};
 
 use std::alloc::AllocError;
 
-/// What happened.
+/// The kind of an event.
 #[derive(Clone, Copy, PartialEq, Eq, Debug)]
 pub enum EventKind {
     /// An exception was thrown for the first time.
@@ -15,32 +15,34 @@ pub enum EventKind {
     Cleanup,
     /// A handler was entered.
     Catch,
-    /// The pad of a violated specification was entered.
+    /// The landing pad of a violated specification was entered.
     Unexpected,
 }
 
-/// The most bytes of an object that an event keeps.
+/// The most bytes of an object that an event stores.
 pub const MAX_BYTES: usize = 16;
 
 /// An event. Addresses are in bytes.
 #[derive(Clone, Copy, PartialEq, Eq)]
 pub struct Event {
+    /// What happened.
     pub kind: EventKind,
-    /// Of a throw and a rethrow the object, else the pad.
+    /// For a throw or rethrow, the address of the object; else that of the landing pad.
     pub a: u32,
-    /// Of a throw and a rethrow the type, else the sp with which the pad was entered.
+    /// For a throw or rethrow, the address of the type; else the stack pointer with which the pad was entered.
     pub b: u32,
-    /// Of a catch the object that the handler is given; else it plays no part.
+    /// For a catch, the address of the object that the handler is given; else not used.
     pub c: u32,
-    /// Of a throw and a rethrow the first bytes of the object. Bytes past `count` play no part.
+    /// For a throw or rethrow, the first bytes of the object; those past `count` aren't used.
     pub bytes: [u8; MAX_BYTES],
-    /// How many bytes of the object are kept.
+    /// The number of bytes of the object that are stored.
     pub count: u32,
 }
 
-/// There was no memory for a trace.
+/// There was not enough memory for a trace.
 #[derive(Clone, Copy)]
 pub enum TraceMemory {
+    /// An allocation failed.
     OutOfMemory,
 }
 

@@ -1,14 +1,14 @@
-//! The events of a run: the first of them are kept, and all are counted: docs/exceptions.md.
+//! The events of a run: all are counted, and the first ones are stored: docs/rules/phases-and-exceptions.md.
 ghost use Rattle.std.specs.Prelude.{◌≡◌, ◌≤◌, ◌++◌, ◌∷◌, [], List, IfOk};
 ghost use Rattle.eh_trace.specs.declared.event.Event.{Event};
 ghost use Rattle.eh_trace.specs.declared.event.TheConstants.{MAX_BYTES};
-ghost use Rattle.eh_trace.specs.Trace.{no_events, pushed, total_of, one_event, Holds};
+ghost use Rattle.eh_trace.specs.Trace.{no_events, push_event, total_of, one_event, Holds};
 
 use crate::event::{Event, EventKind, TraceMemory};
 use std::alloc::Global;
 use std::marker::Model;
 
-/// How many events are kept.
+/// The most events that are stored.
 pub const MAX_KEPT: usize = 10_000;
 
 /// The events of a run.
@@ -23,11 +23,12 @@ pub struct Events {
     near: NearRows,
 }
 
-/// The rows of an index that were found last, at the gate of an ended cleanup and of the frame that was landed in: the look-ups of the next
-/// event begin there. They play no part in the events, and any numbers do.
+/// The index rows that were found last. The look-ups of the next event begin there. They only affect speed: any numbers are allowed.
 #[derive(Clone, Copy)]
 pub struct NearRows {
+    /// The row for the gate at the end of the last cleanup.
     pub gate: u32,
+    /// The row for the frame that was entered last.
     pub frame: u32,
 }
 
@@ -50,7 +51,7 @@ impl Model for Events {
     ghost invariant = { λ e. MAX_KEPT ≤ vec_capacity e.kept };
 }
 
-/// A total of one event more; one that stands at its type's end stays there.
+/// One more than the total; a total at the greatest `u64` stays there.
 fn one_more(total: u64) -> u64
     ensures { result ≡ one_event total }
 {
@@ -58,7 +59,7 @@ fn one_more(total: u64) -> u64
 }
 
 impl Events {
-    /// No events, with room for all that are ever kept.
+    /// No events yet, with memory for all that are ever stored. Err if memory runs out.
     pub fn reserve(alloc: Global) -> Result<Events, TraceMemory>
         ensures value { IfOk result (λ e. e ≡ no_events) }
         ensures all { IfOk result (λ e. Holds e []) }
@@ -77,17 +78,17 @@ impl Events {
         })
     }
 
-    /// One event more: it is kept while fewer than 10,000 are, and counted. Takes no memory.
+    /// Counts an event, and stores it if fewer than 10,000 are stored. Allocates nothing.
     pub fn push(&mut self, e: Event)
         requires { e.count ≤ MAX_BYTES }
-        ensures value { self.new ≡ pushed self.old e }
+        ensures value { self.new ≡ push_event self.old e }
         ensures all { (all : List Event) → Holds self.old all → Holds self.new (all ++ e ∷ []) }
     {
         self.add(e);
     }
 
     fn add(&mut self, e: Event)
-        ensures { self.new ≡ pushed self.old e }
+        ensures { self.new ≡ push_event self.old e }
     {
         match e.kind {
             EventKind::Throw => self.throws = one_more(self.throws),
@@ -101,21 +102,21 @@ impl Events {
         }
     }
 
-    /// The rows from which the next look-ups begin.
+    /// The rows at which the next look-ups begin.
     #[inline(always)]
-    pub fn near(&self) -> NearRows {
+    pub fn near_rows(&self) -> NearRows {
         self.near
     }
 
-    /// Keeps them for the next event.
+    /// Stores the rows for the next event.
     #[inline(always)]
-    pub fn keep_near(&mut self, rows: NearRows)
+    pub fn keep_rows(&mut self, rows: NearRows)
         ensures { self.new ≡ self.old }
     {
         self.near = rows;
     }
 
-    /// How many events of a kind came; a total stops at the greatest `u64`.
+    /// How many events of a kind there were; a total stops at the greatest `u64`.
     pub fn total(&self, kind: EventKind) -> u64
         ensures { result ≡ total_of kind self.now }
     {
@@ -128,7 +129,7 @@ impl Events {
         }
     }
 
-    /// The events that are kept, the first of all, in order.
+    /// The events that are stored: the first ones, in order.
     pub fn kept(&self) -> &[Event]
         ensures { result.now ≡ self.now.kept }
     {

@@ -1,4 +1,4 @@
-//! The trace of a run: its events, how many came of each kind, and the text of those that are kept: docs/exceptions.md.
+//! The trace of a run: its events, their numbers by kind, and the text of the stored ones: docs/rules/phases-and-exceptions.md.
 #![tactic(auto)]
 
 pub mod event;

@@ -1,4 +1,4 @@
-//! The lines of a trace: docs/exceptions.md.
+//! The lines of a trace: docs/rules/phases-and-exceptions.md.
 ghost use Rattle.std.specs.Prelude.{◌≡◌, ◌++◌, OnOk, IfOk, decimal};
 ghost use Rattle.eh_trace.specs.Text.{thrown_text, entered_text, event_line, after_line, more_line, all_of, trace_text};
 
@@ -10,7 +10,7 @@ use elf_image::Image;
 use itoa::Buffer;
 use std::alloc::{AllocError, Global};
 
-/// Adds what a throw's line says: the object, the type's name and the object's first bytes.
+/// Writes the rest of a throw's line: the object, the type's name and the object's first bytes.
 #[tactic(auto, unfolding(crate::specs::Text::thrown_text))]
 fn push_thrown<T: TypeNames>(
     alloc: Global,
@@ -28,7 +28,7 @@ fn push_thrown<T: TypeNames>(
     push_bytes(alloc, out, &e.bytes[..count])
 }
 
-/// Adds where a pad was entered.
+/// Writes where a landing pad was entered.
 #[tactic(auto, unfolding(crate::specs::Text::entered_text))]
 fn push_entered(out: &mut Vec<u8>, image: &Image, e: &Event) -> Result<(), AllocError>
     ensures { OnOk result (out.new.items ≡ out.old.items ++ entered_text image.now e.now) }
@@ -38,7 +38,7 @@ fn push_entered(out: &mut Vec<u8>, image: &Image, e: &Event) -> Result<(), Alloc
     push_address(out, e.b)
 }
 
-/// Adds the line of an event.
+/// Writes the line of an event.
 #[tactic(auto, unfolding(crate::specs::Text::event_line))]
 fn push_line<T: TypeNames>(
     alloc: Global,
@@ -76,7 +76,7 @@ fn push_line<T: TypeNames>(
     out.extend_from_slice(b"\n")
 }
 
-/// How many events came, of all kinds.
+/// The number of events of all kinds.
 fn all_of(events: &Events) -> u128
     ensures { result ≡ all_of events.now }
 {
@@ -87,14 +87,14 @@ fn all_of(events: &Events) -> u128
         + u128::from(events.total(EventKind::Unexpected))
 }
 
-/// Adds a number in decimal digits.
+/// Writes a number in decimal digits.
 fn push_number(out: &mut Vec<u8>, n: u128) -> Result<(), AllocError>
     ensures { OnOk result (out.new.items ≡ out.old.items ++ decimal n) }
 {
     out.extend_from_slice(Buffer::new().format(n).as_bytes())
 }
 
-/// Adds the line for so many events after the last that is kept.
+/// Writes the line for `count` events that aren't stored.
 fn push_after(out: &mut Vec<u8>, count: u128) -> Result<(), AllocError>
     ensures { OnOk result (out.new.items ≡ out.old.items ++ after_line count) }
 {
@@ -103,7 +103,7 @@ fn push_after(out: &mut Vec<u8>, count: u128) -> Result<(), AllocError>
     out.extend_from_slice(b" more events\n")
 }
 
-/// Adds the line for the events after the last that is kept, if there are any.
+/// Writes the line for the events that aren't stored, if there are any.
 #[tactic(auto, unfolding(crate::specs::Text::more_line))]
 fn push_more(out: &mut Vec<u8>, all: u128) -> Result<(), AllocError>
     ensures { OnOk result (out.new.items ≡ out.old.items ++ more_line all) }
@@ -116,8 +116,8 @@ fn push_more(out: &mut Vec<u8>, all: u128) -> Result<(), AllocError>
     }
 }
 
-/// The text of a trace: a line for each event that is kept, and one for those after them. Functions are named by the image,
-/// types by `types`.
+/// The text of a trace: a line for each stored event, and one for the rest. Function names come from the image, and type names from
+/// `types`. Err if memory runs out.
 pub fn trace_lines<T: TypeNames>(
     alloc: Global,
     image: &Image,

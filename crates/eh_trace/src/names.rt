@@ -1,13 +1,13 @@
-//! The names of types, as a trace prints them (docs/command-line.md).
+//! The names of types, as a trace prints them (docs/guide/command-line.md).
 ghost use Rattle.std.specs.Prelude.{◌≡◌, ℕ, List};
 
 use eh_types::TypeGraph;
 
-/// What gives names to types. A type is told by the address of its type information.
+/// Gives types their names. A type is identified by the address of its type information.
 pub trait TypeNames {
     ghost name_of: { Self → ℕ → List ℕ };
 
-    /// The name of a type; empty for one that isn't known.
+    /// The name of a type; empty if the type isn't known.
     fn name(&self, ty: u32) -> &[u8]
         ensures { result.now ≡ name_of self.now ty };
 }

@@ -9,7 +9,7 @@ use Rattle.std.specs.List.Sorted.{IsStrictlySortedBy}
 use Rattle.elf_image.specs.Segments.{Segment}
 use Rattle.elf_image.specs.Image.{Image}
 use Rattle.elf_image.proofs.Entries.{Rising, rising_from_sorted, at_key, lookup_below, lookup_first, lookup_rest}
-use Rattle.eh_types.specs.declared.state.Done.{Done}
+use Rattle.eh_types.specs.declared.state.CountedType.{CountedType}
 use Rattle.eh_types.specs.declared.state.Frame.{Frame}
 use Rattle.eh_types.specs.Graph.{Row, Rise, row_of, bases_of, paths_within}
 use Rattle.eh_types.specs.Types.{row_in, rows_in, type_at}
@@ -20,30 +20,30 @@ use Rattle.eh_types.proofs.Meaning.{among_left, among_either, there_is, is_there
 use Rattle.eh_types.proofs.Steps.{row_is}
 
 -- what is kept of each, and with its bases
-abbrev pub infos : List (ℕ × Done) → List Row
-infos es = map (λ (d : Done). d.info) (values_of es)
+abbrev pub infos : List (ℕ × CountedType) → List Row
+infos es = map (λ (d : CountedType). d.info) (values_of es)
 
-abbrev row_by : List Segment → Done → Row
+abbrev row_by : List Segment → CountedType → Row
 row_by segments d = row_in segments d.info
 
-abbrev rows_by : List Segment → List (ℕ × Done) → List Row
+abbrev rows_by : List Segment → List (ℕ × CountedType) → List Row
 rows_by segments es = rows_in segments (infos es)
 
 -- each stands at its address
-Keyed : List (ℕ × Done) → Type 0
+Keyed : List (ℕ × CountedType) → Type 0
 Keyed [] = Unit {0}
 Keyed (e ∷ es) = (e.1.info.at ≡ e.0) × Keyed es
 
-keyed : (low : ℕ) (es : List (ℕ × Done)) → Rising low es → ((a : ℕ) (d : Done) → at_key a es ≡ Some d → d.info.at ≡ a) → Keyed es
+keyed : (low : ℕ) (es : List (ℕ × CountedType)) → Rising low es → ((a : ℕ) (d : CountedType) → at_key a es ≡ Some d → d.info.at ≡ a) → Keyed es
 unfolding Keyed
 keyed low [] rise each = tt
 keyed low (e ∷ es) rise each = (each e.0 e.1 (lookup_first e.0 e es refl), keyed (e.0 + 1) es rise.1 (λ a d h. by_place a d h (cases_eq a e.0)))
   where
-    by_place : (a : ℕ) (d : Done) → at_key a es ≡ Some d → (a ≡ e.0) ⊎ (a ≡ e.0 → ⊥) → d.info.at ≡ a
+    by_place : (a : ℕ) (d : CountedType) → at_key a es ≡ Some d → (a ≡ e.0) ⊎ (a ≡ e.0 → ⊥) → d.info.at ≡ a
     by_place a d h (inl here) = let none = lookup_below a (e.0 + 1) es (omega arith) rise.1 in absurd cc
     by_place a d h (inr other) = each a d (lookup_rest a e es other ∙ h)
 
-row_at : (segments : List Segment) (es : List (ℕ × Done)) → Keyed es → (a : ℕ) → row_of (rows_by segments es) a ≡ option_map (row_by segments) (at_key a es)
+row_at : (segments : List Segment) (es : List (ℕ × CountedType)) → Keyed es → (a : ℕ) → row_of (rows_by segments es) a ≡ option_map (row_by segments) (at_key a es)
 unfolding Keyed row_of
 row_at segments [] k a = refl
 row_at segments (e ∷ es) k a =
@@ -62,7 +62,7 @@ row_at segments (e ∷ es) k a =
     test_ne : (x y : ℕ) → (x ≡ y → ⊥) → nat_eq x y ≡ false
     test_ne x y h = grind (arith, nat_tests)
 
-rows_rise : (segments : List Segment) (low : ℕ) (es : List (ℕ × Done)) → Rising low es → Keyed es → Rise low (rows_by segments es)
+rows_rise : (segments : List Segment) (low : ℕ) (es : List (ℕ × CountedType)) → Rising low es → Keyed es → Rise low (rows_by segments es)
 unfolding Keyed
 rows_rise segments low [] rise k = tt
 rows_rise segments low (e ∷ es) rise k = (omega (arith, rise.0, k.0), rw k.0 (rows_rise segments (e.0 + 1) es rise.1 k.1))
@@ -70,19 +70,19 @@ rows_rise segments low (e ∷ es) rise k = (omega (arith, rise.0, k.0), rw k.0 (
 one_some : (r s : Row) → Some r ≡ Some s → r ≡ s
 one_some r s e = cc
 
-row_by_of : (segments : List Segment) (o : Option Done) (r : Row) → option_map (row_by segments) o ≡ Some r → (d : Done) × (o ≡ Some d) × (row_by segments d ≡ r)
+row_by_of : (segments : List Segment) (o : Option CountedType) (r : Row) → option_map (row_by segments) o ≡ Some r → (d : CountedType) × (o ≡ Some d) × (row_by segments d ≡ r)
 row_by_of segments None r e = absurd cc
 row_by_of segments (Some d) r e = (d, refl, one_some (row_by segments d) r e)
 
-some_row : (segments : List Segment) (o : Option Done) → IsSome o → IsSome (option_map (row_by segments) o)
+some_row : (segments : List Segment) (o : Option CountedType) → IsSome o → IsSome (option_map (row_by segments) o)
 some_row segments None h = absurd (false≢true h)
 some_row segments (Some d) h = refl
 
-row_some : (segments : List Segment) (o : Option Done) → IsSome (option_map (row_by segments) o) → IsSome o
+row_some : (segments : List Segment) (o : Option CountedType) → IsSome (option_map (row_by segments) o) → IsSome o
 row_some segments None h = absurd (false≢true h)
 row_some segments (Some d) h = refl
 
-module _ (image : Image) (roots : List ℕ) (es : List (ℕ × Done)) (open_now : ℕ → Bool) (frames : List Frame) (pending : List ℕ) (r : Reading image roots (λ a. at_key a es) open_now frames pending)
+module _ (image : Image) (roots : List ℕ) (es : List (ℕ × CountedType)) (open_now : ℕ → Bool) (frames : List Frame) (pending : List ℕ) (r : Reading image roots (λ a. at_key a es) open_now frames pending)
     (none : pending ≡ []) (sorted : IsStrictlySortedBy nat_cmp (keys_of es)) where
   keys : Keyed es
   keys = keyed 0 es (rising_from_sorted es sorted) (λ a d h. (row_is image a (row_by image.segments d) (r.each a d h).row).0)
@@ -96,7 +96,7 @@ module _ (image : Image) (roots : List ℕ) (es : List (ℕ × Done)) (open_now 
   done : (a : ℕ) → IsSome (row_of (rows_by image.segments es) a) → IsSome (at_key a es)
   done a h = row_some image.segments (at_key a es) (rw (rows a) at h)
 
-  row_done : (a : ℕ) (x : Row) → row_of (rows_by image.segments es) a ≡ Some x → (d : Done) × (at_key a es ≡ Some d) × (row_by image.segments d ≡ x)
+  row_done : (a : ℕ) (x : Row) → row_of (rows_by image.segments es) a ≡ Some x → (d : CountedType) × (at_key a es ≡ Some d) × (row_by image.segments d ≡ x)
   row_done a x e = row_by_of image.segments (at_key a es) x (sym (rows a) ∙ e)
 
   not_waiting : (a : ℕ) → IsSome (at_key a es) ⊎ Among pending a → IsSome (row_of (rows_by image.segments es) a)
@@ -148,6 +148,6 @@ module _ (image : Image) (roots : List ℕ) (es : List (ℕ × Done)) (open_now 
   }
 
 -- from the list that is collected
-pub meant_by : (image : Image) (roots : List ℕ) (es : List (ℕ × Done)) (open_now : ℕ → Bool) (frames : List Frame) (pending : List ℕ) (kept : List Row)
+pub meant_by : (image : Image) (roots : List ℕ) (es : List (ℕ × CountedType)) (open_now : ℕ → Bool) (frames : List Frame) (pending : List ℕ) (kept : List Row)
     → Reading image roots (λ a. at_key a es) open_now frames pending → pending ≡ [] → IsStrictlySortedBy nat_cmp (keys_of es) → kept ≡ infos es → IsGraph image roots (rows_in image.segments kept)
 meant_by image roots es open_now frames pending kept r none sorted is = rw is (meant image roots es open_now frames pending r none sorted)

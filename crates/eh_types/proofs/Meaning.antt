@@ -11,7 +11,7 @@ use Rattle.eh_types.specs.declared.fault.TypeFault.{TypeFault}
 use Rattle.eh_types.specs.declared.fault.TypeFault.TheVariants.{Unreadable, Writable, NameTooLong, Cyclic, TooManyPaths, OutOfMemory}
 use Rattle.eh_types.specs.Graph.{Row, Rise, row_of, bases_of, paths_within, path_count, IsCounted}
 use Rattle.eh_types.specs.Types.{type_at}
-use Rattle.eh_types.specs.Meant.{Among, types_of, pointees, Reached, root, step, IsGraph, bases_by, IsBaseOf, one, more, Shows}
+use Rattle.eh_types.specs.Meant.{Among, types_of, pointees, IsReachedType, root, step, IsGraph, bases_by, IsBaseOf, one, more, Shows}
 use Rattle.eh_types.proofs.Lookups.{none_below}
 use Rattle.eh_types.proofs.Paths.{sum_same, term_below, paths_more, paths_converge, paths_same}
 
@@ -106,7 +106,7 @@ module _ (image : Image) (roots : List ℕ) (g : List Row) (h : IsGraph image ro
   held_row : (a : ℕ) → IsSome (row_of g a) → (r : Row) × (row_of g a ≡ Some r) × (type_at image a ≡ Ok r)
   held_row a held = let f = there_is (row_of g a) held in (f.0, f.1, h.rows a f.0 f.1)
 
-  pub reached_held : (a : ℕ) → Reached image roots a → IsSome (row_of g a)
+  pub reached_held : (a : ℕ) → IsReachedType image roots a → IsSome (row_of g a)
   reached_held _ (root a in_roots) = h.begins a in_roots
   reached_held _ (step a b r reached e leads) =
       let f = held_row a (reached_held a reached) in
@@ -134,7 +134,7 @@ module _ (image : Image) (roots : List ℕ) (g : List Row) (h : IsGraph image ro
   pub held_paths : (steps a : ℕ) → IsSome (row_of g a) → paths_within (bases_by image) steps a ≡ paths_within (bases_of g) steps a
   held_paths = paths_same (bases_by image) (bases_of g) (λ a. IsSome (row_of g a)) held_bases held_base
 
-  refused : (a : ℕ) (fault : TypeFault) → Reached image roots a → type_at image a ≡ Err fault → ⊥
+  refused : (a : ℕ) (fault : TypeFault) → IsReachedType image roots a → type_at image a ≡ Err fault → ⊥
   refused a fault reached e = let f = held_row a (reached_held a reached) in let x = f.2 in cc
 
   too_many : (a : ℕ) → IsSome (row_of g a) → 256 < paths_within (bases_by image) 256 a → ⊥
@@ -149,7 +149,7 @@ module _ (image : Image) (roots : List ℕ) (g : List Row) (h : IsGraph image ro
   none_shown (TooManyPaths a) s = too_many a (reached_held a s.0) s.2
   none_shown OutOfMemory s = s
 
-pub meant_held : (image : Image) (roots : List ℕ) (g : List Row) → IsGraph image roots g → (a : ℕ) → IsSome (row_of g a) ↔ Reached image roots a
+pub meant_held : (image : Image) (roots : List ℕ) (g : List Row) → IsGraph image roots g → (a : ℕ) → IsSome (row_of g a) ↔ IsReachedType image roots a
 meant_held image roots g h a = (h.reached a, reached_held image roots g h a)
 
 either_row : (image : Image) (roots : List ℕ) (g k : List Row) → IsGraph image roots g → IsGraph image roots k → (a : ℕ) (o p : Option Row) → row_of g a ≡ o → row_of k a ≡ p → o ≡ p

@@ -8,7 +8,7 @@ use Rattle.elf_image.specs.Segments.{Segment, holds, segment_end, RiseFrom}
 use Rattle.elf_image.specs.Functions.{segment_at}
 use Rattle.elf_image.specs.Image.{Image, IsSound}
 use Rattle.elf_image.proofs.Lookups.{any_is_some, find_holder, filtered, both_true, Narrows, segment_none, segment_some, segment_past, segment_nowhere, segment_there}
-use Rattle.eh_types.specs.Words.{has, room, number_in, word, is_word, is_written, joined, words_from, name_in, named, name_at}
+use Rattle.eh_types.specs.Words.{has_bytes_at, room, number_in, word, is_word, is_written, any_writable, words_from, name_in, name_from_segment, name_at}
 
 le_from : (x y : ℕ) → nat_le x y ≡ true → x ≤ y
 le_from x y h = grind (arith, nat_tests)
@@ -66,14 +66,14 @@ pub ruleset holders = (holder_none, holder_some, holder_past)
 
 -- ---- room
 
-pub room_some : (n a : ℕ) (s : Segment) → 0 < n → n ≤ room a s → has n a s ≡ true
+pub room_some : (n a : ℕ) (s : Segment) → 0 < n → n ≤ room a s → has_bytes_at n a s ≡ true
 room_some n a s some h = by_start (nat_le s.start a) refl h
   where
     by_start : (b : Bool) → nat_le s.start a ≡ b → n ≤ cond b (s.start + length s.bytes - a) 0 → (b && nat_le (a + n) (s.start + length s.bytes)) ≡ true
     by_start true e fits = let low = le_from s.start a e in le_true (a + n) (s.start + length s.bytes) (omega arith)
     by_start false e fits = absurd (omega arith)
 
-pub room_none : (n a : ℕ) (s : Segment) → room a s < n → has n a s ≡ false
+pub room_none : (n a : ℕ) (s : Segment) → room a s < n → has_bytes_at n a s ≡ false
 room_none n a s h = by_start (nat_le s.start a) refl h
   where
     by_start : (b : Bool) → nat_le s.start a ≡ b → cond b (s.start + length s.bytes - a) 0 < n → (b && nat_le (a + n) (s.start + length s.bytes)) ≡ false
@@ -91,7 +91,7 @@ pub ruleset rooms = (room_some, room_none, room_from)
 
 -- ---- the segment that holds an address is the one that may have its bytes
 
-has_narrows : (n a : ℕ) → 0 < n → Narrows (has n a) a
+has_narrows : (n a : ℕ) → 0 < n → Narrows (has_bytes_at n a) a
 has_narrows n a some s short h =
     let both = both_true (nat_le s.start a) (nat_le (a + n) (s.start + length s.bytes)) h in
     let low = le_from s.start a both.0 in
@@ -102,29 +102,29 @@ number_step : (a : ℕ) (s : Segment) (b : Bool) → number_in a (cond b (Some s
 number_step a s true = refl
 number_step a s false = refl
 
-named_step : (a : ℕ) (s : Segment) (b : Bool) → has 1 a s ≡ b → named a (cond b (Some s) None) ≡ name_in a s
+named_step : (a : ℕ) (s : Segment) (b : Bool) → has_bytes_at 1 a s ≡ b → name_from_segment a (cond b (Some s) None) ≡ name_in a s
 unfolding name_in
 named_step a s true e = refl
 named_step a s false e = rw e refl
 
-pub word_there : (xs : List Segment) (a : ℕ) (s : Segment) → RiseFrom 0 xs → segment_at xs a ≡ Some s → word xs a ≡ cond (has 4 a s) (little_number 4 (drop (a - s.start) s.bytes)) 0
+pub word_there : (xs : List Segment) (a : ℕ) (s : Segment) → RiseFrom 0 xs → segment_at xs a ≡ Some s → word xs a ≡ cond (has_bytes_at 4 a s) (little_number 4 (drop (a - s.start) s.bytes)) 0
 unfolding word
-word_there xs a s h e = ap (number_in a) (find_holder (has 4 a) a xs (has_narrows 4 a (lit< tt)) h ∙ ap (filtered (has 4 a)) e) ∙ number_step a s (has 4 a s)
+word_there xs a s h e = ap (number_in a) (find_holder (has_bytes_at 4 a) a xs (has_narrows 4 a (lit< tt)) h ∙ ap (filtered (has_bytes_at 4 a)) e) ∙ number_step a s (has_bytes_at 4 a s)
 
 pub word_nowhere : (xs : List Segment) (a : ℕ) → RiseFrom 0 xs → segment_at xs a ≡ None → word xs a ≡ 0
 unfolding word
-word_nowhere xs a h e = ap (number_in a) (find_holder (has 4 a) a xs (has_narrows 4 a (lit< tt)) h ∙ ap (filtered (has 4 a)) e)
+word_nowhere xs a h e = ap (number_in a) (find_holder (has_bytes_at 4 a) a xs (has_narrows 4 a (lit< tt)) h ∙ ap (filtered (has_bytes_at 4 a)) e)
 
 pub ruleset word_lookups = (word_there, word_nowhere)
 
 pub name_there : (image : Image) (a : ℕ) (s : Segment) → IsSound image → segment_at image.segments a ≡ Some s → name_at image.segments a ≡ name_in a s
 unfolding name_at
 name_there image a s h e =
-    ap (named a) (find_holder (has 1 a) a image.segments (has_narrows 1 a (lit< tt)) h.rise ∙ ap (filtered (has 1 a)) e) ∙ named_step a s (has 1 a s) refl
+    ap (name_from_segment a) (find_holder (has_bytes_at 1 a) a image.segments (has_narrows 1 a (lit< tt)) h.rise ∙ ap (filtered (has_bytes_at 1 a)) e) ∙ named_step a s (has_bytes_at 1 a s) refl
 
 pub name_nowhere : (image : Image) (a : ℕ) → IsSound image → segment_at image.segments a ≡ None → name_at image.segments a ≡ None
 unfolding name_at
-name_nowhere image a h e = ap (named a) (find_holder (has 1 a) a image.segments (has_narrows 1 a (lit< tt)) h.rise ∙ ap (filtered (has 1 a)) e)
+name_nowhere image a h e = ap (name_from_segment a) (find_holder (has_bytes_at 1 a) a image.segments (has_narrows 1 a (lit< tt)) h.rise ∙ ap (filtered (has_bytes_at 1 a)) e)
 
 pub ruleset name_lookups = (name_there, name_nowhere)
 
@@ -167,27 +167,27 @@ is_some_step : (s : Segment) (b : Bool) → is_some (cond b (Some s) None) ≡ b
 is_some_step s true = refl
 is_some_step s false = refl
 
-word_is : (image : Image) (a : ℕ) (s : Segment) → IsSound image → segment_at image.segments a ≡ Some s → is_word image.segments a ≡ has 4 a s
-word_is image a s h e = any_found (has 4 a) a image.segments (Some s) (has_narrows 4 a (lit< tt)) h.rise e ∙ is_some_step s (has 4 a s)
+word_is : (image : Image) (a : ℕ) (s : Segment) → IsSound image → segment_at image.segments a ≡ Some s → is_word image.segments a ≡ has_bytes_at 4 a s
+word_is image a s h e = any_found (has_bytes_at 4 a) a image.segments (Some s) (has_narrows 4 a (lit< tt)) h.rise e ∙ is_some_step s (has_bytes_at 4 a s)
 
-written_narrows : (a : ℕ) → Narrows (λ s. has 4 a s && s.write) a
-written_narrows a s short h = has_narrows 4 a (lit< tt) s short (both_true (has 4 a s) s.write h).0
+written_narrows : (a : ℕ) → Narrows (λ s. has_bytes_at 4 a s && s.write) a
+written_narrows a s short h = has_narrows 4 a (lit< tt) s short (both_true (has_bytes_at 4 a s) s.write h).0
 
-written_is : (image : Image) (a : ℕ) (s : Segment) → IsSound image → segment_at image.segments a ≡ Some s → is_written image.segments a ≡ (has 4 a s && s.write)
-written_is image a s h e = any_found (λ s. has 4 a s && s.write) a image.segments (Some s) (written_narrows a) h.rise e ∙ is_some_step s (has 4 a s && s.write)
+written_is : (image : Image) (a : ℕ) (s : Segment) → IsSound image → segment_at image.segments a ≡ Some s → is_written image.segments a ≡ (has_bytes_at 4 a s && s.write)
+written_is image a s h e = any_found (λ s. has_bytes_at 4 a s && s.write) a image.segments (Some s) (written_narrows a) h.rise e ∙ is_some_step s (has_bytes_at 4 a s && s.write)
 
-joined_twice : (b c : Bool) (o : Option Bool) → joined b (joined c o) ≡ joined (b || c) o
+joined_twice : (b c : Bool) (o : Option Bool) → any_writable b (any_writable c o) ≡ any_writable (b || c) o
 joined_twice b c None = refl
 joined_twice true c (Some x) = refl
 joined_twice false c (Some x) = refl
 
-joined_again : (b : Bool) (o : Option Bool) → joined b (joined b o) ≡ joined b o
+joined_again : (b : Bool) (o : Option Bool) → any_writable b (any_writable b o) ≡ any_writable b o
 joined_again b None = refl
 joined_again true (Some x) = refl
 joined_again false (Some x) = refl
 
 first_word : (image : Image) (a left : ℕ) (s : Segment) → IsSound image → segment_at image.segments a ≡ Some s → 4 ≤ room a s
-    → words_from image.segments a (suc left) ≡ joined s.write (words_from image.segments (a + 4) left)
+    → words_from image.segments a (suc left) ≡ any_writable s.write (words_from image.segments (a + 4) left)
 unfolding words_from
 first_word image a left s h e fits =
     let there = room_some 4 a s (lit< tt) fits in
@@ -195,7 +195,7 @@ first_word image a left s h e fits =
 
 -- the words of one segment at once
 words_run : (image : Image) (a more left : ℕ) (s : Segment) → IsSound image → segment_at image.segments a ≡ Some s → 4 * (1 + more) ≤ room a s → 1 + more ≤ left
-    → words_from image.segments a left ≡ joined s.write (words_from image.segments (a + 4 * (1 + more)) (left - (1 + more)))
+    → words_from image.segments a left ≡ any_writable s.write (words_from image.segments (a + 4 * (1 + more)) (left - (1 + more)))
 words_run image a more zero s h e fits enough = absurd (omega arith)
 words_run image a zero (suc left) s h e fits enough =
     first_word image a left s h e (omega (arith, fits)) ∙ (let l : suc left - (1 + 0) ≡ left = omega arith in rw l refl)
@@ -208,16 +208,16 @@ words_run image a (suc more) (suc left) s h e fits enough =
     let ih = words_run image (a + 4) more left s h next room_next (omega arith) in
     let l : left - (1 + more) ≡ suc left - (1 + suc more) = omega arith in
     let p : a + 4 + 4 * (1 + more) ≡ a + 4 * (1 + suc more) = omega arith in
-    first_word image a left s h e (omega (arith, fits)) ∙ ap (joined s.write) ih ∙ joined_again s.write _ ∙ rw (l, p) refl
+    first_word image a left s h e (omega (arith, fits)) ∙ ap (any_writable s.write) ih ∙ joined_again s.write _ ∙ rw (l, p) refl
 
 -- the start, and what comes next
 pub words_some : (image : Image) (a at left here count : ℕ) (w : Bool) (s : Segment) → IsSound image → segment_at image.segments at ≡ Some s → 4 * here ≤ room at s → 0 < here → here ≤ left
-    → words_from image.segments a count ≡ joined w (words_from image.segments at left)
-    → words_from image.segments a count ≡ joined (w || s.write) (words_from image.segments (at + 4 * here) (left - here))
+    → words_from image.segments a count ≡ any_writable w (words_from image.segments at left)
+    → words_from image.segments a count ≡ any_writable (w || s.write) (words_from image.segments (at + 4 * here) (left - here))
 words_some image a at left zero count w s h e fits some enough inv = absurd (omega arith)
 words_some image a at left (suc more) count w s h e fits some enough inv =
     let one : suc more ≡ 1 + more = omega arith in
-    inv ∙ ap (joined w) (words_run image at more left s h e (omega (arith, fits)) (omega (arith, enough))) ∙ joined_twice w s.write _ ∙ rw one refl
+    inv ∙ ap (any_writable w) (words_run image at more left s h e (omega (arith, fits)) (omega (arith, enough))) ∙ joined_twice w s.write _ ∙ rw one refl
 
 pub words_short : (image : Image) (at left : ℕ) (s : Segment) → IsSound image → segment_at image.segments at ≡ Some s → room at s < 4 → 0 < left → words_from image.segments at left ≡ None
 unfolding words_from
@@ -228,7 +228,7 @@ pub words_nowhere : (image : Image) (at left : ℕ) → IsSound image → segmen
 unfolding words_from
 words_nowhere image at zero h e some = absurd (omega arith)
 words_nowhere image at (suc left) h e some =
-    rw (any_found (has 4 at) at image.segments None (has_narrows 4 at (lit< tt)) h.rise e) refl
+    rw (any_found (has_bytes_at 4 at) at image.segments None (has_narrows 4 at (lit< tt)) h.rise e) refl
 
 -- a segment's bytes end below 0x30000000
 pub words_end : (image : Image) (at here : ℕ) (s : Segment) → IsSound image → segment_at image.segments at ≡ Some s → 4 * here ≤ room at s → 0 < here → at + 4 * here ≤ 0x30000000
@@ -240,7 +240,7 @@ words_end image at here s h e fits some =
 pub ruleset words_steps = (words_some, words_short, words_nowhere, words_end)
 
 -- no word is left
-pub last_word : (image : Image) (a at count left : ℕ) (w : Bool) → left ≡ 0 → words_from image.segments a count ≡ joined w (words_from image.segments at left) → Some w ≡ words_from image.segments a count
+pub last_word : (image : Image) (a at count left : ℕ) (w : Bool) → left ≡ 0 → words_from image.segments a count ≡ any_writable w (words_from image.segments at left) → Some w ≡ words_from image.segments a count
 unfolding words_from
 last_word image a at count left w none h = sym (h ∙ rw none (or_none w))
   where

@@ -15,13 +15,13 @@ use Rattle.eh_types.specs.declared.kind.TypeKind.{TypeKind}
 use Rattle.eh_types.specs.declared.kind.TypeKind.TheVariants.{Other, Fundamental, Class, Si, Vmi, Pointer}
 use Rattle.eh_types.specs.declared.fault.TypeFault.{TypeFault}
 use Rattle.eh_types.specs.declared.fault.TypeFault.TheVariants.{Unreadable, Writable, NameTooLong, Cyclic, TooManyPaths}
-use Rattle.eh_types.specs.declared.state.Done.{Done}
+use Rattle.eh_types.specs.declared.state.CountedType.{CountedType}
 use Rattle.eh_types.specs.declared.state.Frame.{Frame}
 use Rattle.eh_types.specs.Graph.{Row, paths_within}
 use Rattle.eh_types.specs.Words.{word, words_from, name_at}
-use Rattle.eh_types.specs.Types.{kind_at, base_in, base_by, bases_at, base_type, base_count, row_named, row_in, judged, word_count, type_at}
-use Rattle.eh_types.specs.Meant.{Among, types_of, pointees, bases_by, Reached, root, step, IsBaseOf, one, more, Shows}
-use Rattle.eh_types.specs.Reading.{paths_of, IsDone, IsFrame, Leads, is_on, Stacked, Reading}
+use Rattle.eh_types.specs.Types.{kind_at, base_in, base_by, bases_at, base_type, base_count, row_named, row_in, type_or_fault, word_count, type_at}
+use Rattle.eh_types.specs.Meant.{Among, types_of, pointees, bases_by, IsReachedType, root, step, IsBaseOf, one, more, Shows}
+use Rattle.eh_types.specs.Reading.{paths_of, IsDone, IsFrame, Leads, is_on, AreStacked, Reading}
 use Rattle.eh_types.proofs.BaseLists.{base_counts}
 use Rattle.eh_types.proofs.Paths.{sum_same, paths_more, paths_converge}
 use Rattle.eh_types.proofs.Meaning.{among_left, among_right, among_either, is_there, there_is}
@@ -41,7 +41,7 @@ test_other x y h e = grind (arith, nat_tests)
 
 -- ---- what is read of a type
 
-judged_row : (image : Image) (a : ℕ) (words : Option Bool) (name : Option (List ℕ × Bool)) (r : Row) → judged image a words name ≡ Ok r → (r.at ≡ a) × (r.kind ≡ kind_at image a)
+judged_row : (image : Image) (a : ℕ) (words : Option Bool) (name : Option (List ℕ × Bool)) (r : Row) → type_or_fault image a words name ≡ Ok r → (r.at ≡ a) × (r.kind ≡ kind_at image a)
 unfolding row_named
 judged_row image a None name r e = absurd cc
 judged_row image a (Some w) None r e = absurd cc
@@ -59,8 +59,8 @@ pub row_is : (image : Image) (a : ℕ) (r : Row) → type_at image a ≡ Ok r �
 unfolding type_at
 row_is image a r e = judged_row image a (words_from image.segments a (word_count image.segments a (kind_at image a))) (name_at image.segments (word image.segments (a + 4))) r e
 
-judged_fault : (image : Image) (roots : List ℕ) (a : ℕ) (words : Option Bool) (name : Option (List ℕ × Bool)) (fault : TypeFault) → Reached image roots a
-    → type_at image a ≡ judged image a words name → judged image a words name ≡ Err fault → Shows image roots fault
+judged_fault : (image : Image) (roots : List ℕ) (a : ℕ) (words : Option Bool) (name : Option (List ℕ × Bool)) (fault : TypeFault) → IsReachedType image roots a
+    → type_at image a ≡ type_or_fault image a words name → type_or_fault image a words name ≡ Err fault → Shows image roots fault
 judged_fault image roots a None name fault h t e = let same : Unreadable a ≡ fault = cc in rw (← same) (h, t)
 judged_fault image roots a (Some w) None fault h t e = let same : Unreadable a ≡ fault = cc in rw (← same) (h, t)
 judged_fault image roots a (Some w) (Some name) fault h t e = by_write (w || name.1) t e
@@ -75,12 +75,12 @@ judged_fault image roots a (Some w) (Some name) fault h t e = by_write (w || nam
     by_write false u f = by_length (nat_lt NAME_LIMIT (length name.0)) u f
 
 -- a fault of words is shown by a type that is reached
-pub fault_shown : (image : Image) (roots : List ℕ) (a : ℕ) (fault : TypeFault) → Reached image roots a → type_at image a ≡ Err fault → Shows image roots fault
+pub fault_shown : (image : Image) (roots : List ℕ) (a : ℕ) (fault : TypeFault) → IsReachedType image roots a → type_at image a ≡ Err fault → Shows image roots fault
 unfolding type_at
 fault_shown image roots a fault h e = read_shown image roots a fault h e refl
   where
-    read_shown : (image : Image) (roots : List ℕ) (a : ℕ) (fault : TypeFault) → Reached image roots a → type_at image a ≡ Err fault
-        → type_at image a ≡ judged image a (words_from image.segments a (word_count image.segments a (kind_at image a))) (name_at image.segments (word image.segments (a + 4))) → Shows image roots fault
+    read_shown : (image : Image) (roots : List ℕ) (a : ℕ) (fault : TypeFault) → IsReachedType image roots a → type_at image a ≡ Err fault
+        → type_at image a ≡ type_or_fault image a (words_from image.segments a (word_count image.segments a (kind_at image a))) (name_at image.segments (word image.segments (a + 4))) → Shows image roots fault
     read_shown image roots a fault h e t =
         judged_fault image roots a (words_from image.segments a (word_count image.segments a (kind_at image a))) (name_at image.segments (word image.segments (a + 4))) fault h t (sym t ∙ e)
 
@@ -104,7 +104,7 @@ among_at [] i h = absurd (omega arith)
 among_at (x ∷ xs) zero h = inl refl
 among_at (x ∷ xs) (suc i) h = inr (among_at xs i (omega arith))
 
-module _ (image : Image) (roots : List ℕ) (done : ℕ → Option Done) (f : Frame) (h : IsFrame image roots done f) where
+module _ (image : Image) (roots : List ℕ) (done : ℕ → Option CountedType) (f : Frame) (h : IsFrame image roots done f) where
   types_count : length (types_of h.row.bases) ≡ f.count
   types_count = length-map h.row.bases (λ (b : Base). b.ty) ∙ sym h.count
 
@@ -120,11 +120,11 @@ module _ (image : Image) (roots : List ℕ) (done : ℕ → Option Done) (f : Fr
   pub next_is_base : f.next < f.count → Among (types_of (bases_by image f.at)) (base_type image.segments f.at f.kind f.next)
   next_is_base lt = rw read_bases (next_among lt)
 
-  pub next_reached : f.next < f.count → Reached image roots (base_type image.segments f.at f.kind f.next)
+  pub next_reached : f.next < f.count → IsReachedType image roots (base_type image.segments f.at f.kind f.next)
   next_reached lt = step f.at (base_type image.segments f.at f.kind f.next) h.row h.reached h.read (among_left (types_of h.row.bases) (pointees h.row.kind) _ (next_among lt))
 
   -- the paths of its next base are counted
-  counted_frame : (d : Done) → f.next < f.count → done (base_type image.segments f.at f.kind f.next) ≡ Some d → d.paths ≡ paths_of image (base_type image.segments f.at f.kind f.next) → d.paths ≤ 256
+  counted_frame : (d : CountedType) → f.next < f.count → done (base_type image.segments f.at f.kind f.next) ≡ Some d → d.paths ≡ paths_of image (base_type image.segments f.at f.kind f.next) → d.paths ≤ 256
       → IsFrame image roots done (record { at = f.at; kind = f.kind; count = f.count; next = f.next + 1; paths = f.paths + d.paths })
   counted_frame d lt e p few =
       let more : take (f.next + 1) (types_of h.row.bases) ≡ take f.next (types_of h.row.bases) ++ base_type image.segments f.at f.kind f.next ∷ [] =
@@ -150,8 +150,8 @@ module _ (image : Image) (roots : List ℕ) (done : ℕ → Option Done) (f : Fr
 
 -- ---- more is done
 
-module _ (image : Image) (roots : List ℕ) (done done' : ℕ → Option Done) (keeps : (q : ℕ) → IsSome (done q) → IsSome (done' q)) where
-  done_more : (pending pending' : List ℕ) → ((q : ℕ) → Among pending q → IsSome (done' q) ⊎ Among pending' q) → (a : ℕ) (d : Done) → IsDone image roots done pending a d → IsDone image roots done' pending' a d
+module _ (image : Image) (roots : List ℕ) (done done' : ℕ → Option CountedType) (keeps : (q : ℕ) → IsSome (done q) → IsSome (done' q)) where
+  done_more : (pending pending' : List ℕ) → ((q : ℕ) → Among pending q → IsSome (done' q) ⊎ Among pending' q) → (a : ℕ) (d : CountedType) → IsDone image roots done pending a d → IsDone image roots done' pending' a d
   done_more pending pending' waits a d h = record {
     row = h.row;
     reached = h.reached;
@@ -178,7 +178,7 @@ module _ (image : Image) (roots : List ℕ) (done done' : ℕ → Option Done) (
     bound = h.bound;
   }
 
-  stack_more : (at : ℕ) (frames : List Frame) → ((q : ℕ) → nat_eq q at ≡ false → done' q ≡ done q) → is_on frames at ≡ false → Stacked image roots done frames → Stacked image roots done' frames
+  stack_more : (at : ℕ) (frames : List Frame) → ((q : ℕ) → nat_eq q at ≡ false → done' q ≡ done q) → is_on frames at ≡ false → AreStacked image roots done frames → AreStacked image roots done' frames
   stack_more at [] others not_on h = tt
   stack_more at (f ∷ frames) others not_on h =
       let both = neither (nat_eq f.at at) (is_on frames at) not_on in
@@ -191,8 +191,8 @@ module _ (image : Image) (roots : List ℕ) (done done' : ℕ → Option Done) (
 -- ---- steps
 
 -- a type is put on top
-pub visited : (image : Image) (roots : List ℕ) (done : ℕ → Option Done) (open_now open_next : ℕ → Bool) (frames : List Frame) (pending : List ℕ) (a : ℕ) (kind : TypeKind) (count : ℕ) (text : List ℕ)
-    → Reading image roots done open_now frames pending → Reached image roots a → Leads image a frames → done a ≡ None → open_now a ≡ false
+pub visited : (image : Image) (roots : List ℕ) (done : ℕ → Option CountedType) (open_now open_next : ℕ → Bool) (frames : List Frame) (pending : List ℕ) (a : ℕ) (kind : TypeKind) (count : ℕ) (text : List ℕ)
+    → Reading image roots done open_now frames pending → IsReachedType image roots a → Leads image a frames → done a ≡ None → open_now a ≡ false
     → type_at image a ≡ Ok (row_named image a text) → kind ≡ kind_at image a → count ≡ base_count image.segments a (kind_at image a) → a < 2 ^ 32 → count < 2 ^ 32
     → ((q : ℕ) → open_next q ≡ (nat_eq a q || open_now q))
     → Reading image roots done open_next (record { at = a; kind = kind; count = count; next = 0; paths = 1 } ∷ frames) pending
@@ -225,7 +225,7 @@ visited image roots done open_now open_next frames pending a kind count text r r
 }
 
 -- a base of the type on top is done
-pub base_counted : (image : Image) (roots : List ℕ) (done : ℕ → Option Done) (open_now : ℕ → Bool) (f : Frame) (frames : List Frame) (pending : List ℕ) (d : Done)
+pub base_counted : (image : Image) (roots : List ℕ) (done : ℕ → Option CountedType) (open_now : ℕ → Bool) (f : Frame) (frames : List Frame) (pending : List ℕ) (d : CountedType)
     → Reading image roots done open_now (f ∷ frames) pending → f.next < f.count → done (base_type image.segments f.at f.kind f.next) ≡ Some d
     → Reading image roots done open_now (record { at = f.at; kind = f.kind; count = f.count; next = f.next + 1; paths = f.paths + d.paths } ∷ frames) pending
 base_counted image roots done open_now f frames pending d r lt e =
@@ -239,7 +239,7 @@ base_counted image roots done open_now f frames pending d r lt e =
     }
 
 -- a type that waits is done
-pub waiting_done : (image : Image) (roots : List ℕ) (done : ℕ → Option Done) (open_now : ℕ → Bool) (frames : List Frame) (before pending : List ℕ) (a : ℕ) → before ≡ pending ++ a ∷ []
+pub waiting_done : (image : Image) (roots : List ℕ) (done : ℕ → Option CountedType) (open_now : ℕ → Bool) (frames : List Frame) (before pending : List ℕ) (a : ℕ) → before ≡ pending ++ a ∷ []
     → Reading image roots done open_now frames before → IsSome (done a) → Reading image roots done open_now frames pending
 waiting_done image roots done open_now frames before pending a last r is = record {
   each = λ b d e. done_more image roots done done (λ q h. h) before pending still b d (r.each b d e);
@@ -256,8 +256,8 @@ waiting_done image roots done open_now frames before pending a last r is = recor
     ]
 
 -- the paths of a type whose bases are done
-frame_paths : (image : Image) (roots : List ℕ) (done : ℕ → Option Done) (pending : List ℕ) (f : Frame) (h : IsFrame image roots done f)
-    → ((a : ℕ) (d : Done) → done a ≡ Some d → IsDone image roots done pending a d) → f.count ≤ f.next → f.paths ≡ paths_of image f.at
+frame_paths : (image : Image) (roots : List ℕ) (done : ℕ → Option CountedType) (pending : List ℕ) (f : Frame) (h : IsFrame image roots done f)
+    → ((a : ℕ) (d : CountedType) → done a ≡ Some d → IsDone image roots done pending a d) → f.count ≤ f.next → f.paths ≡ paths_of image f.at
 frame_paths image roots done pending f h each all =
     let whole : take f.next (types_of h.row.bases) ≡ types_of h.row.bases = take_all f.next (types_of h.row.bases) (omega (arith, types_count image roots done f h, all)) in
     let converge : (b : ℕ) → Among (types_of h.row.bases) b → paths_within (bases_by image) 255 b ≡ paths_within (bases_by image) 256 b = λ b among.
@@ -275,7 +275,7 @@ frame_paths image roots done pending f h each all =
     sum_types g (b ∷ bs) = sum_by-cons g b.ty (types_of bs) ∙ ap (λ n. g b.ty + n) (sum_types g bs) ∙ sym (sum_by-cons (λ (x : Base). g x.ty) b bs)
 
 -- the type on top is done
-module _ (image : Image) (roots : List ℕ) (done done' : ℕ → Option Done) (f : Frame) (frames : List Frame) (d : Done) (now : (q : ℕ) → done' q ≡ cond (nat_eq q f.at) (Some d) (done q)) where
+module _ (image : Image) (roots : List ℕ) (done done' : ℕ → Option CountedType) (f : Frame) (frames : List Frame) (d : CountedType) (now : (q : ℕ) → done' q ≡ cond (nat_eq q f.at) (Some d) (done q)) where
   now_at : done' f.at ≡ Some d
   now_at = now f.at ∙ rw (test_same f.at) refl
 
@@ -294,10 +294,10 @@ open_left f frames q true e off = sym (ap (is_on frames) (sym (test_from f.at q 
 open_left f frames q false e off = refl
 
 -- the type that ends is done, and those that were done still are
-each_done : (image : Image) (roots : List ℕ) (done done' : ℕ → Option Done) (pending pending' : List ℕ) (f : Frame) (d : Done)
+each_done : (image : Image) (roots : List ℕ) (done done' : ℕ → Option CountedType) (pending pending' : List ℕ) (f : Frame) (d : CountedType)
     → ((q : ℕ) → IsSome (done q) → IsSome (done' q)) → ((q : ℕ) → Among pending q → IsSome (done' q) ⊎ Among pending' q)
-    → ((a : ℕ) (x : Done) → done a ≡ Some x → IsDone image roots done pending a x) → IsDone image roots done' pending' f.at d
-    → (a : ℕ) (x : Done) (b : Bool) → nat_eq a f.at ≡ b → cond b (Some d) (done a) ≡ Some x → IsDone image roots done' pending' a x
+    → ((a : ℕ) (x : CountedType) → done a ≡ Some x → IsDone image roots done pending a x) → IsDone image roots done' pending' f.at d
+    → (a : ℕ) (x : CountedType) (b : Bool) → nat_eq a f.at ≡ b → cond b (Some d) (done a) ≡ Some x → IsDone image roots done' pending' a x
 each_done image roots done done' pending pending' f d keeps waits each here a x true e h =
     let same : d ≡ x = cc in let place = test_from a f.at e in rw (place, ← same) here
 each_done image roots done done' pending pending' f d keeps waits each here a x false e h =
@@ -306,12 +306,12 @@ each_done image roots done done' pending pending' f d keeps waits each here a x 
 one_row : (o : Result Row TypeFault) (r s : Row) → o ≡ Ok r → o ≡ Ok s → r ≡ s
 one_row o r s e f = cc
 
-pub finished : (image : Image) (roots : List ℕ) (done done' : ℕ → Option Done) (open_now open_next : ℕ → Bool) (f : Frame) (frames : List Frame) (pending after : List ℕ) (info : Row) → after ≡ pending ++ pointees f.kind
+pub finished : (image : Image) (roots : List ℕ) (done done' : ℕ → Option CountedType) (open_now open_next : ℕ → Bool) (f : Frame) (frames : List Frame) (pending after : List ℕ) (info : Row) → after ≡ pending ++ pointees f.kind
     → Reading image roots done open_now (f ∷ frames) pending → f.count ≤ f.next → f.paths ≤ 256 → type_at image f.at ≡ Ok (row_in image.segments info)
     → ((q : ℕ) → done' q ≡ cond (nat_eq q f.at) (Some (record { info = info; paths = f.paths })) (done q)) → ((q : ℕ) → open_next q ≡ (not (nat_eq f.at q) && open_now q))
     → Reading image roots done' open_next frames after
 finished image roots done done' open_now open_next f frames pending after info last r all few e now opens = rw last (
-    let d : Done = record { info = info; paths = f.paths } in
+    let d : CountedType = record { info = info; paths = f.paths } in
     let keeps = now_keeps image roots done done' f frames d now in
     let frame = r.stacked.0 in
     let row : row_in image.segments info ≡ frame.row = one_row (type_at image f.at) (row_in image.segments info) frame.row e frame.read in
@@ -345,7 +345,7 @@ base_on image _ _ d (one a b among) last = more a b d among (one b d last)
 base_on image _ _ d (more a b c among rest) last = more a b d among (base_on image b c d rest last)
 
 -- the type on top is a base of each one that is open below it
-on_leads : (image : Image) (roots : List ℕ) (done : ℕ → Option Done) (f : Frame) (frames : List Frame) (a : ℕ) → Stacked image roots done (f ∷ frames) → is_on frames a ≡ true → IsBaseOf image f.at a
+on_leads : (image : Image) (roots : List ℕ) (done : ℕ → Option CountedType) (f : Frame) (frames : List Frame) (a : ℕ) → AreStacked image roots done (f ∷ frames) → is_on frames a ≡ true → IsBaseOf image f.at a
 on_leads image roots done f [] a h on = absurd (false≢true on)
 on_leads image roots done f (g ∷ frames) a h on = by_test (nat_eq g.at a) refl on (on_leads image roots done g frames a h.3)
   where
@@ -354,7 +354,7 @@ on_leads image roots done f (g ∷ frames) a h on = by_test (nat_eq g.at a) refl
     by_test false e on rest = base_on image a g.at f.at (rest on) h.2
 
 -- a base that is open is its own base
-pub open_cyclic : (image : Image) (roots : List ℕ) (done : ℕ → Option Done) (open_now : ℕ → Bool) (f : Frame) (frames : List Frame) (pending : List ℕ)
+pub open_cyclic : (image : Image) (roots : List ℕ) (done : ℕ → Option CountedType) (open_now : ℕ → Bool) (f : Frame) (frames : List Frame) (pending : List ℕ)
     → Reading image roots done open_now (f ∷ frames) pending → f.next < f.count → open_now (base_type image.segments f.at f.kind f.next) ≡ true
     → Shows image roots (Cyclic (base_type image.segments f.at f.kind f.next))
 open_cyclic image roots done open_now f frames pending r lt on =
@@ -367,7 +367,7 @@ open_cyclic image roots done open_now f frames pending r lt on =
     by_test b last false e h = base_on image b f.at b (on_leads image roots done f frames b r.stacked h) last
 
 -- the bases of a type that is done are done, through any steps
-done_closed : (image : Image) (roots : List ℕ) (done : ℕ → Option Done) (pending : List ℕ) → ((a : ℕ) (d : Done) → done a ≡ Some d → IsDone image roots done pending a d)
+done_closed : (image : Image) (roots : List ℕ) (done : ℕ → Option CountedType) (pending : List ℕ) → ((a : ℕ) (d : CountedType) → done a ≡ Some d → IsDone image roots done pending a d)
     → (a c : ℕ) → IsBaseOf image c a → IsSome (done a) → IsSome (done c)
 done_closed image roots done pending each _ _ (one a b among) is =
     let d = there_is (done a) is in let h = each a d.0 d.1 in let row = h.row in
@@ -376,13 +376,13 @@ done_closed image roots done pending each _ _ (more a b c among rest) is =
     let d = there_is (done a) is in let h = each a d.0 d.1 in let row = h.row in
     done_closed image roots done pending each b c rest (h.bases b (rw row at among))
 
-not_both : (o : Option Done) → o ≡ None → IsSome o → ⊥
+not_both : (o : Option CountedType) → o ≡ None → IsSome o → ⊥
 not_both None e h = false≢true h
 not_both (Some d) e h = cc
 
 -- a type whose bases are done is not its own base
-own_base : (image : Image) (roots : List ℕ) (done : ℕ → Option Done) (pending : List ℕ) (f : Frame) (h : IsFrame image roots done f)
-    → ((a : ℕ) (d : Done) → done a ≡ Some d → IsDone image roots done pending a d) → f.count ≤ f.next → (c : ℕ) → c ≡ f.at → IsBaseOf image c f.at → ⊥
+own_base : (image : Image) (roots : List ℕ) (done : ℕ → Option CountedType) (pending : List ℕ) (f : Frame) (h : IsFrame image roots done f)
+    → ((a : ℕ) (d : CountedType) → done a ≡ Some d → IsDone image roots done pending a d) → f.count ≤ f.next → (c : ℕ) → c ≡ f.at → IsBaseOf image c f.at → ⊥
 own_base image roots done pending f h each all c same own =
     let whole : take f.next (types_of h.row.bases) ≡ types_of h.row.bases = take_all f.next (types_of h.row.bases) (omega (arith, types_count image roots done f h, all)) in
     let bases = read_bases image roots done f h in
@@ -393,7 +393,7 @@ own_base image roots done pending f h each all c same own =
     base_passed _ _ (one a b among) passed = passed b among
     base_passed _ _ (more a b c among rest) passed = done_closed image roots done pending each b c rest (passed b among)
 
-pub paths_shown : (image : Image) (roots : List ℕ) (done : ℕ → Option Done) (open_now : ℕ → Bool) (f : Frame) (frames : List Frame) (pending : List ℕ)
+pub paths_shown : (image : Image) (roots : List ℕ) (done : ℕ → Option CountedType) (open_now : ℕ → Bool) (f : Frame) (frames : List Frame) (pending : List ℕ)
     → Reading image roots done open_now (f ∷ frames) pending → f.count ≤ f.next → 256 < f.paths → Shows image roots (TooManyPaths f.at)
 paths_shown image roots done open_now f frames pending r all over =
     (r.stacked.0.reached, own_base image roots done pending f r.stacked.0 r.each all f.at refl, rw (← frame_paths image roots done pending f r.stacked.0 r.each all) over)
@@ -403,19 +403,19 @@ paths_shown image roots done open_now f frames pending r all over =
 pub pushed : (xs ys : List Frame) (f : Frame) → ys ≡ xs ++ f ∷ [] → reverse ys ≡ f ∷ reverse xs
 pushed xs ys f e = ap reverse e ∙ reverse-append xs (f ∷ [])
 
-pub mapped : (o : Option Done) (n : ℕ) → option_map (λ (d : Done). d.paths) o ≡ Some n → (d : Done) × (o ≡ Some d) × (d.paths ≡ n)
+pub mapped : (o : Option CountedType) (n : ℕ) → option_map (λ (d : CountedType). d.paths) o ≡ Some n → (d : CountedType) × (o ≡ Some d) × (d.paths ≡ n)
 mapped None n e = absurd cc
 mapped (Some d) n e = let same : d.paths ≡ n = cc in (d, refl, same)
 
-pub mapped_some : (o : Option Done) (p : Option ℕ) → p ≡ option_map (λ (d : Done). d.paths) o → is_some p ≡ true → IsSome o
+pub mapped_some : (o : Option CountedType) (p : Option ℕ) → p ≡ option_map (λ (d : CountedType). d.paths) o → is_some p ≡ true → IsSome o
 mapped_some None p e h = absurd (false≢true (sym (ap is_some e) ∙ h))
 mapped_some (Some d) p e h = refl
 
-pub waiting_reached : (image : Image) (roots : List ℕ) (before pending : List ℕ) (a : ℕ) → before ≡ pending ++ a ∷ [] → ((q : ℕ) → Among before q → Reached image roots q) → Reached image roots a
+pub waiting_reached : (image : Image) (roots : List ℕ) (before pending : List ℕ) (a : ℕ) → before ≡ pending ++ a ∷ [] → ((q : ℕ) → Among before q → IsReachedType image roots q) → IsReachedType image roots a
 waiting_reached image roots before pending a last each = each a (rw last (among_right pending (a ∷ []) a (inl refl)))
 
 -- nothing is done at the start
-pub none_done : (image : Image) (roots pending : List ℕ) (done : ℕ → Option Done) (open_now : ℕ → Bool) (frames : List Frame) → frames ≡ [] → pending ≡ roots → ((q : ℕ) → done q ≡ None)
+pub none_done : (image : Image) (roots pending : List ℕ) (done : ℕ → Option CountedType) (open_now : ℕ → Bool) (frames : List Frame) → frames ≡ [] → pending ≡ roots → ((q : ℕ) → done q ≡ None)
     → ((q : ℕ) → open_now q ≡ false) → Reading image roots done open_now frames pending
 none_done image roots pending done open_now frames empty same none shut = record {
   each = λ a d e. (let n = none a in absurd cc);

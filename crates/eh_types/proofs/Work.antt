@@ -5,7 +5,7 @@ use Rattle.std.proofs.lemmas.Bool.{cases_eq}
 use Rattle.std.proofs.lemmas.List.Sums.{sum_by-cons}
 use Rattle.eh_types.specs.declared.kind.TypeKind.{TypeKind}
 use Rattle.eh_types.specs.declared.kind.TypeKind.TheVariants.{Other, Fundamental, Class, Si, Vmi, Pointer}
-use Rattle.eh_types.specs.declared.state.Done.{Done}
+use Rattle.eh_types.specs.declared.state.CountedType.{CountedType}
 use Rattle.eh_types.specs.declared.state.Frame.{Frame}
 use Rattle.eh_types.specs.Meant.{pointees}
 use Rattle.eh_types.specs.Reading.{is_on, count_free, is_free, work_left}
@@ -39,17 +39,17 @@ count_less p q (suc n) b h on off same =
           rw (same n other) (omega (arith, ih))
     ]
 
-free_push : (done : ℕ → Option Done) (f : Frame) (frames : List Frame) (a : ℕ) → (a ≡ f.at → ⊥) → is_free done frames a ≡ is_free done (f ∷ frames) a
+free_push : (done : ℕ → Option CountedType) (f : Frame) (frames : List Frame) (a : ℕ) → (a ≡ f.at → ⊥) → is_free done frames a ≡ is_free done (f ∷ frames) a
 free_push done f frames a other = let off = test_not f.at a (λ e. other (sym e)) in rw off refl
 
-pub work_visited : (done : ℕ → Option Done) (f : Frame) (frames : List Frame) (pending : List ℕ) → done f.at ≡ None → is_on frames f.at ≡ false → f.at < 2 ^ 32 → f.count < 2 ^ 32
+pub work_visited : (done : ℕ → Option CountedType) (f : Frame) (frames : List Frame) (pending : List ℕ) → done f.at ≡ None → is_on frames f.at ≡ false → f.at < 2 ^ 32 → f.count < 2 ^ 32
     → work_left done (f ∷ frames) pending < work_left done frames pending
 unfolding work_left
 work_visited done f frames pending new off low fits =
     let less = count_less (is_free done frames) (is_free done (f ∷ frames)) (2 ^ 32) f.at low (rw (new, off) refl) (rw (new, test_same f.at) refl) (free_push done f frames) in
     omega (arith, less, fits, sum_by-cons (λ (x : Frame). x.count - x.next + 2) f frames)
 
-pub work_counted : (done : ℕ → Option Done) (f g : Frame) (frames : List Frame) (pending : List ℕ) → g.at ≡ f.at → g.count ≡ f.count → g.next ≡ f.next + 1 → f.next < f.count
+pub work_counted : (done : ℕ → Option CountedType) (f g : Frame) (frames : List Frame) (pending : List ℕ) → g.at ≡ f.at → g.count ≡ f.count → g.next ≡ f.next + 1 → f.next < f.count
     → work_left done (g ∷ frames) pending < work_left done (f ∷ frames) pending
 unfolding work_left
 work_counted done f g frames pending at count next lt =
@@ -64,7 +64,7 @@ few_points (Si base) = omega arith
 few_points Vmi = omega arith
 few_points (Pointer flags pointee) = omega arith
 
-free_done : (done done' : ℕ → Option Done) (f : Frame) (frames : List Frame) (d : Done) (a : ℕ) → ((q : ℕ) → done' q ≡ cond (nat_eq q f.at) (Some d) (done q))
+free_done : (done done' : ℕ → Option CountedType) (f : Frame) (frames : List Frame) (d : CountedType) (a : ℕ) → ((q : ℕ) → done' q ≡ cond (nat_eq q f.at) (Some d) (done q))
     → is_free done' frames a ≡ is_free done (f ∷ frames) a
 free_done done done' f frames d a now =
     elim (cases_eq a f.at) [
@@ -76,13 +76,13 @@ free_done done done' f frames d a now =
     never true = refl
     never false = refl
 
-pub work_finished : (done done' : ℕ → Option Done) (f : Frame) (frames : List Frame) (pending after : List ℕ) (d : Done) → after ≡ pending ++ pointees f.kind → ((q : ℕ) → done' q ≡ cond (nat_eq q f.at) (Some d) (done q))
+pub work_finished : (done done' : ℕ → Option CountedType) (f : Frame) (frames : List Frame) (pending after : List ℕ) (d : CountedType) → after ≡ pending ++ pointees f.kind → ((q : ℕ) → done' q ≡ cond (nat_eq q f.at) (Some d) (done q))
     → work_left done' frames after < work_left done (f ∷ frames) pending
 unfolding work_left
 work_finished done done' f frames pending after d last now =
     let same = count_same (is_free done' frames) (is_free done (f ∷ frames)) (2 ^ 32) (λ a h. free_done done done' f frames d a now) in
     omega (arith, same, few_points f.kind, ap length last, length-append pending (pointees f.kind), sum_by-cons (λ (x : Frame). x.count - x.next + 2) f frames)
 
-pub work_waited : (done : ℕ → Option Done) (frames : List Frame) (before pending : List ℕ) (a : ℕ) → before ≡ pending ++ a ∷ [] → work_left done frames pending < work_left done frames before
+pub work_waited : (done : ℕ → Option CountedType) (frames : List Frame) (before pending : List ℕ) (a : ℕ) → before ≡ pending ++ a ∷ [] → work_left done frames pending < work_left done frames before
 unfolding work_left
 work_waited done frames before pending a last = omega (arith, ap length last, length-append pending (a ∷ []))

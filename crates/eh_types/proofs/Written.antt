@@ -8,8 +8,8 @@ use Rattle.elf_image.specs.Image.{Image}
 use Rattle.eh_types.specs.declared.kind.Base.{Base}
 use Rattle.eh_types.specs.declared.fault.TypeFault.TheVariants.{NameTooLong}
 use Rattle.eh_types.specs.Graph.{Row}
-use Rattle.eh_types.specs.Words.{has, word, is_word, is_written, joined, words_from, text_of, name_in, named, name_at}
-use Rattle.eh_types.specs.Types.{base_by, offset_in, kind_at, word_count, judged, row_named, type_at}
+use Rattle.eh_types.specs.Words.{has_bytes_at, word, is_word, is_written, any_writable, words_from, text_of, name_in, name_from_segment, name_at}
+use Rattle.eh_types.specs.Types.{base_by, offset_in, kind_at, word_count, type_or_fault, row_named, type_at}
 use Rattle.eh_types.specs.Laws.{IsOffset, high_bits, bit, base_flags, IsNamed}
 use Rattle.eh_types.proofs.Steps.{row_is}
 use Rattle.eh_types.specs.declared.types.TheConstants.{NAME_LIMIT}
@@ -69,7 +69,7 @@ record Judged (words : Option Bool) (name : Option (List ℕ × Bool)) (r : Row)
   pub name_read : name ≡ Some (r.name, false)
   pub short : length r.name ≤ NAME_LIMIT
 
-judged_read : (image : Image) (a : ℕ) (words : Option Bool) (name : Option (List ℕ × Bool)) (r : Row) → judged image a words name ≡ Ok r → Judged words name r
+judged_read : (image : Image) (a : ℕ) (words : Option Bool) (name : Option (List ℕ × Bool)) (r : Row) → type_or_fault image a words name ≡ Ok r → Judged words name r
 unfolding row_named
 judged_read image a None name r e = absurd cc
 judged_read image a (Some w) None r e = absurd cc
@@ -88,7 +88,7 @@ read_of image a r e =
     let j = judged_read image a (words_from image.segments a (word_count image.segments a (kind_at image a))) (name_at image.segments (word image.segments (a + 4))) r e in
     record { words = j.words_read; name = j.name_read; short = j.short }
 
-joined_false : (b : Bool) (o : Option Bool) → joined b o ≡ Some false → (b ≡ false) × (o ≡ Some false)
+joined_false : (b : Bool) (o : Option Bool) → any_writable b o ≡ Some false → (b ≡ false) × (o ≡ Some false)
 joined_false b None e = absurd cc
 joined_false true (Some w) e = absurd cc
 joined_false false (Some w) e = (refl, e)
@@ -98,7 +98,7 @@ unfolding words_from
 words_fixed segments a zero k e h = absurd (omega arith)
 words_fixed segments a (suc count) k e h = by_word (is_word segments a) refl e k h (words_fixed segments (a + 4) count)
   where
-    by_word : (b : Bool) → is_word segments a ≡ b → cond b (joined (is_written segments a) (words_from segments (a + 4) count)) None ≡ Some false → (k : ℕ) → k < suc count
+    by_word : (b : Bool) → is_word segments a ≡ b → cond b (any_writable (is_written segments a) (words_from segments (a + 4) count)) None ≡ Some false → (k : ℕ) → k < suc count
         → ((k : ℕ) → words_from segments (a + 4) count ≡ Some false → k < count → (is_word segments (a + 4 + 4 * k) ≡ true) × (is_written segments (a + 4 + 4 * k) ≡ false))
         → (is_word segments (a + 4 * k) ≡ true) × (is_written segments (a + 4 * k) ≡ false)
     by_word true w f zero h rest = let first = joined_false (is_written segments a) (words_from segments (a + 4) count) f in rw add-zero (w, first.0)
@@ -161,7 +161,7 @@ record Found (a : ℕ) (s : Segment) (name : List ℕ) : Type 0 where
 
 named_text : (a : ℕ) (s : Segment) (name : List ℕ) → name_in a s ≡ Some (name, false) → Found a s name
 unfolding name_in paired
-named_text a s name e = by_has (has 1 a s) e
+named_text a s name e = by_has (has_bytes_at 1 a s) e
   where
     by_text : (o : Option (List ℕ)) → text_of (drop (a - s.start) s.bytes) ≡ o → option_map (paired s.write) o ≡ Some (name, false) → Found a s name
     by_text None t f = absurd cc
@@ -171,7 +171,7 @@ named_text a s name e = by_has (has 1 a s) e
     by_has true f = by_text (text_of (drop (a - s.start) s.bytes)) refl f
     by_has false f = absurd cc
 
-named_in : (segments : List Segment) (a : ℕ) (name : List ℕ) (o : Option Segment) → find (has 1 a) segments ≡ o → named a o ≡ Some (name, false) → length name ≤ NAME_LIMIT → IsNamed segments a name
+named_in : (segments : List Segment) (a : ℕ) (name : List ℕ) (o : Option Segment) → find (has_bytes_at 1 a) segments ≡ o → name_from_segment a o ≡ Some (name, false) → length name ≤ NAME_LIMIT → IsNamed segments a name
 named_in segments a name None f e short = absurd cc
 named_in segments a name (Some s) f e short =
     let found = named_text a s name e in
@@ -182,4 +182,4 @@ pub names_are_ended : (image : Image) (a : ℕ) (r : Row) → type_at image a �
 unfolding name_at
 names_are_ended image a r e =
     let read = read_of image a r e in
-    named_in image.segments (word image.segments (a + 4)) r.name (find (has 1 (word image.segments (a + 4))) image.segments) refl read.name read.short
+    named_in image.segments (word image.segments (a + 4)) r.name (find (has_bytes_at 1 (word image.segments (a + 4))) image.segments) refl read.name read.short

@@ -1,4 +1,4 @@
--- The names of the refusals of types, as a line of a report has them (docs/types.md).
+-- The names of type faults, as they are written in reports (docs/rules/types-and-matching.md).
 use Rattle.std.specs.Prelude.{ℕ, List, codes}
 use Rattle.eh_types.specs.declared.fault.TypeFault.{TypeFault}
 use Rattle.eh_types.specs.declared.fault.TypeFault.TheVariants.{Unreadable, Writable, NameTooLong, Cyclic, TooManyPaths, OutOfMemory}

@@ -1,4 +1,4 @@
--- What holds of every graph that is read: laws above what the words say of each type (docs/types.md).
+-- Laws of every graph that is read (docs/rules/types-and-matching.md).
 use Rattle.std.specs.Prelude.{ℕ, ◌+◌, ◌-◌, ◌*◌, ◌^◌, ◌<◌, ◌≤◌, ◌≡◌, ◌≢◌, ◌↔◌, Bool, true, false, ℤ, pos, negsuc, List, ◌∷◌, ◌++◌, length, drop, find, All, IsSome, Some, Ok}
 use Rattle.elf_image.specs.Segments.{Segment}
 use Rattle.elf_image.specs.Image.{Image}
@@ -8,29 +8,29 @@ use Rattle.eh_types.specs.declared.kind.TypeKind.TheVariants.{Pointer}
 use Rattle.eh_types.specs.declared.types.TheConstants.{NAME_LIMIT, NAME}
 use Rattle.eh_types.specs.declared.words.TheConstants.{WORD_SIZE}
 use Rattle.eh_types.specs.Graph.{Row, row_of}
-use Rattle.eh_types.specs.Words.{has, word, is_word, is_written}
+use Rattle.eh_types.specs.Words.{has_bytes_at, word, is_word, is_written}
 use Rattle.eh_types.specs.Types.{base_by, word_count, type_at}
-use Rattle.eh_types.specs.Meant.{Reached, IsGraph, IsBaseOf, Shows}
+use Rattle.eh_types.specs.Meant.{IsReachedType, IsGraph, IsBaseOf, Shows}
 
--- roots mean at most one graph
+-- the same roots have at most one graph
 abbrev pub GraphsAreOne : Type 0
 GraphsAreOne = (image : Image) (roots : List ℕ) (g h : List Row) → IsGraph image roots g → IsGraph image roots h → g ≡ h
 
--- it has exactly the types that they reach
+-- a graph has exactly the types that its roots reach
 abbrev pub GraphsHoldWhatIsReached : Type 0
-GraphsHoldWhatIsReached = (image : Image) (roots : List ℕ) (g : List Row) → IsGraph image roots g → (a : ℕ) → IsSome (row_of g a) ↔ Reached image roots a
+GraphsHoldWhatIsReached = (image : Image) (roots : List ℕ) (g : List Row) → IsGraph image roots g → (a : ℕ) → IsSome (row_of g a) ↔ IsReachedType image roots a
 
--- with a class it has its bases, and with a pointer its pointee
+-- a graph that has a class has its bases, and one that has a pointer has its pointee
 abbrev pub BasesAndPointeesAreHeld : Type 0
 BasesAndPointeesAreHeld =
     (image : Image) (roots : List ℕ) (g : List Row) → IsGraph image roots g → (a : ℕ) (r : Row) → row_of g a ≡ Some r
     → All (λ b. IsSome (row_of g b.ty)) r.bases × ((flags pointee : ℕ) → r.kind ≡ Pointer flags pointee → IsSome (row_of g pointee))
 
--- no type of it is its own base, through any steps
+-- no type of a graph is its own direct or indirect base
 abbrev pub NoneIsItsOwnBase : Type 0
 NoneIsItsOwnBase = (image : Image) (roots : List ℕ) (g : List Row) → IsGraph image roots g → (a : ℕ) → IsSome (row_of g a) → ¬ (IsBaseOf image a a)
 
--- where a type that they reach shows a fault, they mean none
+-- if a type that the roots reach has a fault, there is no graph
 abbrev pub FaultsHaveNoGraph : Type 0
 FaultsHaveNoGraph = (image : Image) (roots : List ℕ) (fault : TypeFault) → Shows image roots fault → (g : List Row) → ¬ (IsGraph image roots g)
 
@@ -53,20 +53,20 @@ bit false = 0
 abbrev pub base_flags : Base → ℕ
 base_flags b = high_bits b.offset * 256 + (2 * bit b.is_public + bit b.is_virtual)
 
--- a base that is written so is read as it
+-- a base that is written as two words is read back as that base
 abbrev pub BasesAreRead : Type 0
 BasesAreRead = (b : Base) → IsOffset b.offset → base_by b.ty (base_flags b) ≡ b
 
--- the words of a type that is read are there, and none may be written
+-- the words of a type that is read lie in the image, and none is writable
 abbrev pub WordsAreFixed : Type 0
 WordsAreFixed =
     (image : Image) (a k : ℕ) (r : Row) → type_at image a ≡ Ok r → k < word_count image.segments a r.kind
     → (is_word image.segments (a + WORD_SIZE * k) ≡ true) × (is_written image.segments (a + WORD_SIZE * k) ≡ false)
 
--- the name stands in a read-only segment's bytes, with a zero byte after it and none in it, and is not too long
+-- the name lies in a read-only segment's bytes, with a zero byte after it and none in it, and is not too long
 pub record IsNamed (segments : List Segment) (a : ℕ) (name : List ℕ) : Type 0 where
   pub segment : Segment
-  pub found : find (has 1 a) segments ≡ Some segment
+  pub found : find (has_bytes_at 1 a) segments ≡ Some segment
   pub read_only : segment.write ≡ false
   pub rest : List ℕ
   pub place : drop (a - segment.start) segment.bytes ≡ name ++ 0 ∷ rest

@@ -1,4 +1,5 @@
--- What the words at an address say of a type (Itanium C++ ABI, "Run-Time Type Information (RTTI)"; docs/types.md).
+-- A type's kind, name and bases, from the words at its address (Itanium C++ ABI, "Run-Time Type Information (RTTI)";
+-- docs/rules/types-and-matching.md).
 use Rattle.std.specs.Prelude.{ℕ, ◌+◌, ◌*◌, ◌/◌, ◌%◌, ◌^◌, ◌==◌, ◌||◌, nat_lt, Bool, true, false, if◌then◌else◌, ℤ, pos, ◌-ℤ◌, List, [], ◌∷◌, length, map, Option, Some, None, Result, Ok, Err}
 use Rattle.std.specs.List.{range_with_len}
 use Rattle.elf_image.specs.Segments.{Segment}
@@ -17,7 +18,7 @@ use Rattle.eh_types.specs.Words.{word, words_from, name_at}
 
 -- ---- bases
 
--- the signed number above the low eight bits
+-- the signed number in the bits from 8 on
 abbrev pub offset_in : ℕ → ℤ
 offset_in flags = if nat_lt (flags / 256) (2 ^ 23) then pos (flags / 256) else pos (flags / 256) -ℤ pos (2 ^ 24)
 
@@ -49,7 +50,7 @@ bases_at segments a (Si base) = single_base base ∷ []
 bases_at segments a Vmi = map (base_in segments a) (range_with_len 0 (word segments (a + SECOND)))
 bases_at segments a (Pointer flags pointee) = []
 
--- base k of a type that has so many: but for the kind with a single one, those that have any have a list
+-- base k of a type with more than k bases: every kind but the one with a single base has a list
 abbrev pub nth_base : List Segment → ℕ → TypeKind → ℕ → Base
 nth_base segments a Other k = base_in segments a k
 nth_base segments a Fundamental k = base_in segments a k
@@ -82,25 +83,25 @@ word_count segments a (Pointer flags pointee) = 4
 abbrev pub kind_at : Image → ℕ → TypeKind
 kind_at image a = kind_by (vtables_of image) image.segments a
 
--- the type at an address, by its name
+-- the row of the type at an address, with this name
 unfoldable pub row_named : Image → ℕ → List ℕ → Row
 row_named image a text = record { at = a; kind = kind_at image a; name = text; bases = bases_at image.segments a (kind_at image a) }
 
--- a row that is kept without its bases, with them
+-- a row that is stored without its bases, with its bases
 abbrev pub row_in : List Segment → Row → Row
 row_in segments r = record { at = r.at; kind = r.kind; name = r.name; bases = bases_at segments r.at r.kind }
 
 abbrev pub rows_in : List Segment → List Row → List Row
 rows_in segments rows = map (row_in segments) rows
 
--- by what is found of its words, whether one of them may be written, and of its name, whether it may be: the first fault that holds
-abbrev pub judged : Image → ℕ → Option Bool → Option (List ℕ × Bool) → Result Row TypeFault
-judged image a None name = Err (Unreadable a)
-judged image a (Some writable) None = Err (Unreadable a)
-judged image a (Some writable) (Some name) =
+-- The type, or its first fault, from what its words and its name are: each is missing (None), writable (true), or read-only.
+abbrev pub type_or_fault : Image → ℕ → Option Bool → Option (List ℕ × Bool) → Result Row TypeFault
+type_or_fault image a None name = Err (Unreadable a)
+type_or_fault image a (Some writable) None = Err (Unreadable a)
+type_or_fault image a (Some writable) (Some name) =
     if writable || name.1 then Err (Writable a) else (if nat_lt NAME_LIMIT (length name.0) then Err (NameTooLong a) else Ok (row_named image a name.0))
 
--- the type whose words stand at an address, or the first fault that they show
+-- the type at an address, or the first fault that its words show
 unfoldable pub type_at : Image → ℕ → Result Row TypeFault
 type_at image a =
-    judged image a (words_from image.segments a (word_count image.segments a (kind_at image a))) (name_at image.segments (word image.segments (a + NAME)))
+    type_or_fault image a (words_from image.segments a (word_count image.segments a (kind_at image a))) (name_at image.segments (word image.segments (a + NAME)))

@@ -1,4 +1,4 @@
--- The vtables by which types are told (Itanium C++ ABI, "Run-Time Type Information (RTTI)"; docs/types.md).
+-- The vtables that tell the kinds of types apart (Itanium C++ ABI, "Run-Time Type Information (RTTI)"; docs/rules/types-and-matching.md).
 use Rattle.std.specs.Prelude.{ℕ, ◌+◌, ◌%◌, ◌^◌, ◌==◌, Bool, false, if◌then◌else◌, List, Option, Some, None, option_map}
 use Rattle.elf_image.specs.Segments.{Segment}
 use Rattle.elf_image.specs.Image.{Image, symbol_in}
@@ -8,11 +8,11 @@ use Rattle.eh_types.specs.declared.vtables.Vtables.{Vtables}
 use Rattle.eh_types.specs.declared.vtables.TheConstants.{FUNDAMENTAL, CLASS, SINGLE, MANY, POINTER, VTABLE_POINT, FIRST, SECOND}
 use Rattle.eh_types.specs.Words.{word}
 
--- the word that points to a vtable; sums of addresses are taken modulo 2^32
+-- the vtable pointer for a vtable's symbol; addresses are added modulo 2^32
 abbrev pub vtable_at : Image → List ℕ → Option ℕ
 vtable_at image name = option_map (λ a. (a + VTABLE_POINT) % 2 ^ 32) (symbol_in image name)
 
--- the words that point to the five vtables, as far as the image defines them
+-- the vtable pointers of the five kinds, each None if the image doesn't define it
 unfoldable pub vtables_of : Image → Vtables
 vtables_of image = record {
   fundamental = vtable_at image FUNDAMENTAL.now;
@@ -26,7 +26,7 @@ abbrev pub is_at : Option ℕ → ℕ → Bool
 is_at None w = false
 is_at (Some a) w = a == w
 
--- what the type at an address is, by the word that it begins with; the first vtable that fits counts
+-- the kind of the type at an address, which its first word tells; the first vtable that fits counts
 unfoldable pub kind_by : Vtables → List Segment → ℕ → TypeKind
 kind_by v segments a =
     if is_at v.fundamental (word segments a) then Fundamental

@@ -1,4 +1,4 @@
-//! The bases of a type, lent from the image's bytes (docs/types.md, "The words of a type").
+//! The bases of a type, lent from the image's bytes (docs/rules/types-and-matching.md, "The words of a type").
 ghost use Rattle.std.specs.Prelude.{◌≡◌, ◌+◌, ◌-◌, ◌*◌, ◌/◌, ◌%◌, ◌^◌, ◌<◌, ◌==◌, pos, ◌-ℤ◌, nat_lt, if◌then◌else◌, length, drop};
 ghost use Rattle.std.specs.Iterator.{YieldsFirst, item_count};
 ghost use Rattle.elf_image.specs.Segments.{RiseFrom};
@@ -12,7 +12,7 @@ use crate::words::{WORD_SIZE, word_of};
 use elf_image::segment::Segment;
 use std::marker::Model;
 
-/// The signed offset above the low eight bits.
+/// The signed 24-bit offset in the upper bits of a base's flags word.
 fn offset_in(flags: u32) -> i32
     ensures { result ≡ offset_in flags }
 {
@@ -24,7 +24,7 @@ fn offset_in(flags: u32) -> i32
     }
 }
 
-/// A base by its two words: bit 0 of the second is set for a virtual one, bit 1 for a public one.
+/// The base that two words describe: its type and its flags. Bit 0 of the flags is set for a virtual base, bit 1 for a public one.
 #[tactic(auto, unfolding(crate::specs::Types::base_by))]
 fn base_by(ty: u32, flags: u32) -> Base
     ensures { result ≡ base_by ty flags }
@@ -37,7 +37,7 @@ fn base_by(ty: u32, flags: u32) -> Base
     }
 }
 
-/// Base k of a list of bases.
+/// Base `k` of the base list of the type at `at` (a class with a list of bases).
 #[tactic(auto, unfolding(crate::specs::Types::base_in))]
 fn base_in(segments: &[Segment], at: u32, k: u32) -> Base
     requires { RiseFrom 0 segments.now }
@@ -50,7 +50,7 @@ fn base_in(segments: &[Segment], at: u32, k: u32) -> Base
     )
 }
 
-/// The one base of a class with a single base.
+/// The only base of a class with a single base: public, not virtual, at offset 0.
 fn single_base(ty: u32) -> Base
     ensures { result ≡ single_base ty }
 {
@@ -62,7 +62,7 @@ fn single_base(ty: u32) -> Base
     }
 }
 
-/// Base k of a type that has so many.
+/// Base `k` of a type; `k` must be below the type's number of bases.
 fn nth_base(segments: &[Segment], at: u32, kind: TypeKind, k: u32) -> Base
     requires { RiseFrom 0 segments.now }
     ensures { result ≡ nth_base segments.now at kind k }
@@ -89,8 +89,8 @@ pub(crate) fn base_count(segments: &[Segment], at: u32, kind: TypeKind) -> u32
     }
 }
 
-/// The bases of a type, in their order. Contracts see the list of those that the iterator hasn't given yet. It lends the image's
-/// bytes, in which it looks up each word by halving, and takes no memory.
+/// Iterates over the bases of a type, in the order of its list. In contracts, a `Bases` is the list of bases still to come. It
+/// reads the image's bytes in place and allocates nothing; each word takes a binary search over the segments.
 #[derive(Drop)]
 pub struct Bases<'g, 'a> {
     segments: &'g [Segment<'a>],
@@ -114,7 +114,7 @@ impl<'g, 'a> Model for Bases<'g, 'a> {
 }
 
 impl<'g, 'a> Bases<'g, 'a> {
-    /// The bases of a type that is read in these segments.
+    /// The bases of the type at `at`, read from these segments.
     #[tactic(auto, using(crate::proofs::BaseLists::base_counts))]
     pub(crate) fn of(segments: &'g [Segment<'a>], at: u32, kind: TypeKind) -> Bases<'g, 'a>
         requires { RiseFrom 0 segments.now }

@@ -1,35 +1,36 @@
-//! Why the types that an image's roots lead to aren't read (docs/types.md).
+//! Why the types that are reachable from an image's roots can't be read (docs/rules/types-and-matching.md).
 ghost use Rattle.std.specs.Prelude.{◌≡◌, ◌≤◌, length};
 ghost use Rattle.eh_types.specs.FaultNames.{fault_name};
 
 use std::alloc::AllocError;
 use thiserror::Error;
 
-/// Why types aren't read, each with the address of a type that shows it. Of one type the first that holds is named.
+/// Why types can't be read. Each variant but `OutOfMemory` has the address of a type with the fault. If a type has several faults,
+/// the first in the order below is given.
 #[derive(Clone, Copy, Debug, Error)]
 pub enum TypeFault {
-    /// One of its words isn't all in the file's bytes of one segment, or its name up to a zero byte isn't.
+    /// One of the type's words, or its name with the zero byte, isn't wholly in the file bytes of one segment.
     #[error("the type at {0:#010x} can't be read")]
     Unreadable(u32),
-    /// One of these lies in a segment that may be written.
+    /// One of the type's words, or its name, lies in a writable segment.
     #[error("the type at {0:#010x} may be written")]
     Writable(u32),
-    /// Its name is over `NAME_LIMIT` bytes.
+    /// The type's name is longer than `NAME_LIMIT` bytes.
     #[error("the type at {0:#010x} has too long a name")]
     NameTooLong(u32),
-    /// It is its own base, through any number of steps.
+    /// The type is its own direct or indirect base.
     #[error("the type at {0:#010x} is its own base")]
     Cyclic(u32),
-    /// It has over `MOST_PATHS` paths of bases.
+    /// The type has more than `MOST_PATHS` paths of bases.
     #[error("the type at {0:#010x} has too many paths of bases")]
     TooManyPaths(u32),
-    /// Memory is wanted.
+    /// An allocation failed.
     #[error("out of memory")]
     OutOfMemory,
 }
 
 impl TypeFault {
-    /// The name of the refusal, as a report writes it.
+    /// The fault's name, as it is written in reports: at most 16 bytes.
     pub fn name(self) -> &'static [u8]
         ensures name { result.now ≡ fault_name self }
         ensures short { length result.now ≤ 16 }

@@ -1,4 +1,4 @@
-//! Types by their addresses (docs/types.md).
+//! The graph of an image's types, looked up by address (docs/rules/types-and-matching.md).
 ghost use Rattle.std.specs.Prelude.{◌≡◌, ◌≢◌, ◌<◌, ◌≤◌, is_some, option_copied, option_map, length, map, nat_lt, IfOk, IfErr};
 ghost use Rattle.std.specs.List.{prefix_len};
 ghost use Rattle.std.specs.Map.{values_of, keys_of};
@@ -14,8 +14,8 @@ use crate::bases::Bases;
 use crate::fault::TypeFault;
 use crate::info::TypeInfo;
 use crate::kind::TypeKind;
-use crate::reader::{Source, read_all};
-use crate::state::{Done, State};
+use crate::reader::{TypeReader, read_all};
+use crate::state::{CountedType, GraphWalk};
 use crate::vtables::vtables_of;
 use elf_image::image::Image;
 use elf_image::segment::Segment;
@@ -23,14 +23,14 @@ use std::alloc::{AllocError, Global};
 use std::collections::BTreeMap;
 use std::marker::Model;
 
-/// The most paths of bases that a type may have, the empty one among them.
+/// The most paths that may lead from a type through its bases; the empty path counts.
 pub const MOST_PATHS: u32 = 256;
 
-/// The first byte of a name that is told by its address alone.
+/// The first byte of the name of a type that is compared by its address alone.
 pub const LOCAL_MARK: u8 = b'*';
 
-/// Types by their addresses, with the image's segments, whose bytes lend their names and their bases. Contracts see rows in rising
-/// order of their addresses.
+/// The types of an image, looked up by their addresses. Names and bases are read in place from the image's segments. In contracts,
+/// a `TypeGraph` is a list of rows in ascending order of their addresses.
 #[derive(Drop)]
 pub struct TypeGraph<'a> {
     segments: Vec<Segment<'a>>,
@@ -50,7 +50,7 @@ impl<'a> Model for TypeGraph<'a> {
     ghost invariant = { λ g. IsSound (rows_in g.segments.items g.types.items) × RiseFrom 0 g.segments.items };
 }
 
-/// How many of the types stand below an address, by halving.
+/// How many of the types have an address below `ty` (binary search).
 fn types_below(types: &[TypeInfo], ty: u32) -> usize
     requires { Rise 0 types.now }
     ensures count { result ≡ prefix_len (λ r. nat_lt r.at ty) types.now }
@@ -59,7 +59,7 @@ fn types_below(types: &[TypeInfo], ty: u32) -> usize
     types.partition_point(|t| t.at < ty)
 }
 
-/// What is kept of the type at an address.
+/// The entry of the type at an address; None if there is none.
 #[tactic(auto, using(crate::proofs::Lookups::row_lookups))]
 fn row<'g, 'a>(types: &'g [TypeInfo<'a>], ty: u32) -> Option<&'g TypeInfo<'a>>
     requires { Rise 0 types.now }
@@ -73,7 +73,7 @@ fn row<'g, 'a>(types: &'g [TypeInfo<'a>], ty: u32) -> Option<&'g TypeInfo<'a>>
     if info.at() == ty { Some(info) } else { None }
 }
 
-/// The same, where contracts see its bases in these segments too.
+/// As `row`; its contract also gives the bases that the type has in these segments.
 fn row_read<'g, 'a>(
     segments: &[Segment],
     types: &'g [TypeInfo<'a>],
@@ -86,30 +86,30 @@ fn row_read<'g, 'a>(
     row(types, ty)
 }
 
-/// One name, neither empty nor told by its address alone.
+/// Whether two names are equal, not empty, and not compared by address (see `LOCAL_MARK`).
 fn is_same_name(a: &[u8], b: &[u8]) -> bool
     ensures { result ≡ same_name a.now b.now }
 {
     !a.is_empty() && a[0] != LOCAL_MARK && a == b
 }
 
-/// The types that are done, in rising order of their addresses.
-fn collected<'a>(
+/// The types that were read, in ascending order of their addresses.
+fn types_in_order<'a>(
     alloc: Global,
-    done: BTreeMap<u32, Done<'a>>,
+    done: BTreeMap<u32, CountedType<'a>>,
 ) -> Result<Vec<TypeInfo<'a>>, AllocError>
     ensures items { IfOk result (λ v. v.items ≡ map (λ d. d.info) (values_of done.entry.entries)) }
     ensures ordered { IsStrictlySortedBy nat_cmp (keys_of done.entry.entries) }
 {
     let mut types = Vec::with_capacity(alloc, done.len())?;
     for d in done.into_values() {
-        let Done { info, paths: _ } = d;
+        let CountedType { info, paths: _ } = d;
         types.push(info)?;
     }
     Ok(types)
 }
 
-/// The same segment, which lends the same bytes.
+/// A copy of the segment that borrows the same bytes.
 fn same_segment<'a>(segment: &Segment<'a>) -> Segment<'a>
     ensures { result ≡ segment.now }
 {
@@ -122,7 +122,7 @@ fn same_segment<'a>(segment: &Segment<'a>) -> Segment<'a>
     }
 }
 
-/// The same segments: at most 1,024, by the limit of docs/elf.md.
+/// Copies of the segments, at most 1,024 by the limit of docs/rules/elf.md; Err if memory runs out.
 fn same_segments<'a>(
     alloc: Global,
     segments: &[Segment<'a>],
@@ -136,36 +136,35 @@ fn same_segments<'a>(
     Ok(same)
 }
 
-/// The types that the roots reach.
-fn types_of<'a>(alloc: Global, source: &Source<'_, 'a>) -> Result<Vec<TypeInfo<'a>>, TypeFault>
+/// The types that can be reached from the roots; Err with the first fault met.
+fn types_of<'a>(alloc: Global, source: &TypeReader<'_, 'a>) -> Result<Vec<TypeInfo<'a>>, TypeFault>
     requires told { source.now.vtables ≡ vtables_of source.now.image.now }
     ensures meant { IfOk result (λ types. IsGraph source.now.image.now source.now.roots.now (rows_in source.now.image.now.segments types.items)) }
     ensures shown { IfErr result (λ fault. fault ≢ OutOfMemory → Shows source.now.image.now source.now.roots.now fault) }
 {
     match read_all(alloc, source) {
         Ok(
-            State {
+            GraphWalk {
                 done,
                 open: _,
                 stack: _,
                 pending: _,
             },
-        ) => Ok(collected(alloc, done)?),
+        ) => Ok(types_in_order(alloc, done)?),
         Err(fault) => Err(fault),
     }
 }
 
 impl<'a> TypeGraph<'a> {
-    /// The graph of the types at these addresses and of all that they reach: a class its bases, a pointer its pointee. Refused
-    /// with a type that is reached and shows the fault, exactly where they mean no graph; which of several such types is named
-    /// is left open. Takes time linear in the types and their bases but for look-ups, which halve. Lends names and bases from the
-    /// image's bytes, and copies neither.
+    /// Reads the types at the root addresses and everything they lead to: the bases of a class, the pointee of a pointer. Err if
+    /// and only if a reachable type has a fault, or memory runs out; if several types have faults, any of them may be named. The
+    /// time is linear in the number of types and bases, apart from binary searches. Names and bases aren't copied.
     pub fn read(alloc: Global, image: &Image<'a>, roots: &[u32]) -> Result<TypeGraph<'a>, TypeFault>
         ensures meant { IfOk result (λ graph. IsGraph image.now roots.now graph) }
         ensures shown { IfErr result (λ fault. fault ≢ OutOfMemory → Shows image.now roots.now fault) }
         ensures none { IfErr result (λ fault. fault ≢ OutOfMemory → NoGraph image.now roots.now) }
     {
-        let source = Source {
+        let source = TypeReader {
             image,
             vtables: vtables_of(image),
             roots,
@@ -179,7 +178,7 @@ impl<'a> TypeGraph<'a> {
         }
     }
 
-    /// Whether there is a type at the address. Halves, as every look-up here does.
+    /// Whether there is a type at the address. A binary search, as every look-up here.
     pub fn holds(&self, ty: u32) -> bool
         ensures holds { result ≡ is_some (row_of self.now ty) }
         ensures sound { IsSound self.now }
@@ -190,7 +189,7 @@ impl<'a> TypeGraph<'a> {
         }
     }
 
-    /// What the type at the address is; None exactly where there is none.
+    /// The kind of the type at the address; None if there is no type.
     pub fn kind(&self, ty: u32) -> Option<TypeKind>
         ensures kind { result ≡ kind_of self.now ty }
         ensures sound { IsSound self.now }
@@ -201,8 +200,8 @@ impl<'a> TypeGraph<'a> {
         }
     }
 
-    /// The bases of the type at the address, in their order; none where there is no type. One look-up, then one for each word of a
-    /// base that is given.
+    /// The bases of the type at the address, in the order of its list; empty if there is no type. Costs one look-up, and one more
+    /// for each word that is read.
     pub fn bases(&self, ty: u32) -> Bases<'_, 'a>
         ensures bases { result ≡ bases_of self.now ty }
         ensures sound { IsSound self.now }
@@ -214,7 +213,7 @@ impl<'a> TypeGraph<'a> {
         }
     }
 
-    /// The name of the type at the address, without the zero byte after it; empty where there is no type.
+    /// The name of the type at the address, without its zero byte; empty if there is no type.
     pub fn name(&self, ty: u32) -> &[u8]
         ensures name { result.now ≡ name_of self.now ty }
         ensures sound { IsSound self.now }
@@ -225,8 +224,8 @@ impl<'a> TypeGraph<'a> {
         }
     }
 
-    /// Whether two types are equal: one address, or one name that isn't empty and doesn't begin with `*`. A type that isn't
-    /// there equals itself alone.
+    /// Whether two types are equal: they have the same address, or the same name, which isn't empty and doesn't begin with `*`. An
+    /// address without a type equals only itself.
     #[tactic(auto, unfolding(crate::specs::Graph::same_type))]
     pub fn is_same(&self, a: u32, b: u32) -> bool
         ensures { result ≡ same_type self.now a b }

@@ -1,5 +1,5 @@
-//! The types that an exception may have, with their bases (Itanium C++ ABI, "Run-Time Type Information"; IHI 0041): read once
-//! from an image, and looked up by address. docs/types.md states the rules.
+//! The types that an exception may have, with their bases (Itanium C++ ABI, "Run-Time Type Information"; IHI 0041). They are read
+//! once from an image and looked up by address. docs/rules/types-and-matching.md states the rules.
 #![tactic(auto)]
 
 pub mod bases;

@@ -1,28 +1,31 @@
-//! Reading the graph that roots mean, depth first and without recursion (docs/types.md): a type is done once its bases are.
+//! Reads the graph of types, depth first and without recursion (docs/rules/types-and-matching.md). A type is done when all its bases are done.
 ghost use Rattle.std.specs.Prelude.{◌≡◌, ◌≢◌, ◌+◌, ◌<◌, ◌≤◌, ◌++◌, ◌==◌, ◌^◌, if◌then◌else◌, ℕ, IfOk, IfErr, Some, None, true, false, [], ◌∷◌};
 ghost use Rattle.std.specs.Map.{lookup};
 ghost use Rattle.std.specs.Ordering.{nat_cmp};
 ghost use Rattle.std.specs.BTreeMap.{is_at};
 ghost use Rattle.eh_types.specs.declared.fault.TypeFault.TheVariants.{OutOfMemory};
 ghost use Rattle.eh_types.specs.Vtables.{vtables_of};
-ghost use Rattle.eh_types.specs.Meant.{pointees, Reached, Shows};
-ghost use Rattle.eh_types.specs.Reading.{done_at, open_at, tops, Leads, IsReading, IsReadingWith, work_with};
+ghost use Rattle.eh_types.specs.Meant.{pointees, IsReachedType, Shows};
+ghost use Rattle.eh_types.specs.Reading.{counted_type_at, open_at, open_types, Leads, IsReading, IsReadingWith, work_with};
 
 use crate::fault::TypeFault;
 use crate::graph::MOST_PATHS;
 use crate::kind::TypeKind;
-use crate::state::{Done, Frame, State, put, take_out};
+use crate::state::{CountedType, Frame, GraphWalk, put, take_out};
 use crate::types::{base_type, info, read_head};
 use crate::vtables::Vtables;
 use elf_image::image::Image;
 use std::alloc::{AllocError, Global};
 use std::collections::{BTreeMap, BTreeSet};
 
-/// What a graph is read from.
+/// Where a graph is read from.
 #[derive(Clone, Copy)]
-pub(crate) struct Source<'i, 'a> {
+pub(crate) struct TypeReader<'i, 'a> {
+    /// The image.
     pub image: &'i Image<'a>,
+    /// The vtable addresses that tell the kinds of types apart.
     pub vtables: Vtables,
+    /// The addresses of the root types.
     pub roots: &'i [u32],
 }
 
@@ -40,8 +43,8 @@ fn push_waiting(pending: &mut Vec<u32>, at: u32) -> Result<(), AllocError>
     Ok(())
 }
 
-/// Lets a type that is pointed to wait.
-fn wait(pending: &mut Vec<u32>, kind: TypeKind) -> Result<(), AllocError>
+/// Queues the pointee of a pointer type, to be read later; does nothing for other kinds.
+fn push_pointees(pending: &mut Vec<u32>, kind: TypeKind) -> Result<(), AllocError>
     ensures { IfOk result (λ _. pending.new.items ≡ pending.old.items ++ pointees kind) }
 {
     match kind {
@@ -55,10 +58,10 @@ fn wait(pending: &mut Vec<u32>, kind: TypeKind) -> Result<(), AllocError>
 }
 
 #[tactic(auto, using(elf_image::proofs::Entries::lookup_insert))]
-fn insert_done<'a>(
-    done: &mut BTreeMap<u32, Done<'a>>,
+fn insert_counted<'a>(
+    done: &mut BTreeMap<u32, CountedType<'a>>,
     at: u32,
-    d: Done<'a>,
+    d: CountedType<'a>,
 ) -> Result<(), AllocError>
     ensures { IfOk result (λ _. (q : ℕ) → lookup (is_at (nat_cmp q)) done.new.entries ≡ (if q == at then Some d.entry else lookup (is_at (nat_cmp q)) done.old.entries)) }
 {
@@ -66,16 +69,16 @@ fn insert_done<'a>(
     Ok(())
 }
 
-/// Puts a type on top, whose bases are then read.
-fn visit(source: &Source, state: &mut State, at: u32) -> Result<(), TypeFault>
+/// Pushes a type onto the stack, so that its bases are read next. Err if its words show a fault.
+fn visit(source: &TypeReader, state: &mut GraphWalk, at: u32) -> Result<(), TypeFault>
     requires told { source.now.vtables ≡ vtables_of source.now.image.now }
     requires reading { IsReading source.now.image.now source.now.roots.now state.old }
-    requires reached { Reached source.now.image.now source.now.roots.now at }
-    requires leads { Leads source.now.image.now at (tops state.old) }
-    requires new { done_at state.old at ≡ None }
+    requires reached { IsReachedType source.now.image.now source.now.roots.now at }
+    requires leads { Leads source.now.image.now at (open_types state.old) }
+    requires new { counted_type_at state.old at ≡ None }
     requires shut { open_at state.old at ≡ false }
     ensures reading { IfOk result (λ _. IsReading source.now.image.now source.now.roots.now state.new) }
-    ensures less { IfOk result (λ _. work_with state.new (tops state.new) < work_with state.old (tops state.old)) }
+    ensures less { IfOk result (λ _. work_with state.new (open_types state.new) < work_with state.old (open_types state.old)) }
     ensures shown { IfErr result (λ fault. fault ≢ OutOfMemory → Shows source.now.image.now source.now.roots.now fault) }
 {
     let head = match read_head(source.image, &source.vtables, at) {
@@ -94,13 +97,14 @@ fn visit(source: &Source, state: &mut State, at: u32) -> Result<(), TypeFault>
     Ok(())
 }
 
-/// Takes the next base of the type that was on top: its paths are counted, or its own bases are read first.
-fn take_base(source: &Source, state: &mut State, frame: Frame) -> Result<(), TypeFault>
+/// Handles the next base of the type `frame`, which was popped: counts the paths of a base that is done, or reads the base first.
+/// Err with the fault of a type that was met.
+fn take_base(source: &TypeReader, state: &mut GraphWalk, frame: Frame) -> Result<(), TypeFault>
     requires told { source.now.vtables ≡ vtables_of source.now.image.now }
-    requires reading { IsReadingWith source.now.image.now source.now.roots.now state.old (frame ∷ tops state.old) }
+    requires reading { IsReadingWith source.now.image.now source.now.roots.now state.old (frame ∷ open_types state.old) }
     requires more { frame.next < frame.count }
     ensures reading { IfOk result (λ _. IsReading source.now.image.now source.now.roots.now state.new) }
-    ensures less { IfOk result (λ _. work_with state.new (tops state.new) < work_with state.old (frame ∷ tops state.old)) }
+    ensures less { IfOk result (λ _. work_with state.new (open_types state.new) < work_with state.old (frame ∷ open_types state.old)) }
     ensures shown { IfErr result (λ fault. fault ≢ OutOfMemory → Shows source.now.image.now source.now.roots.now fault) }
 {
     let base = base_type(source.image, frame.at, frame.kind, frame.next);
@@ -126,36 +130,40 @@ fn take_base(source: &Source, state: &mut State, frame: Frame) -> Result<(), Typ
     }
 }
 
-/// Ends the type that was on top, whose bases are all done.
-fn finish<'a>(source: &Source<'_, 'a>, state: &mut State<'a>, frame: Frame) -> Result<(), TypeFault>
+/// Finishes the type `frame`, which was popped and whose bases are all done. Err with the fault of a type that was met.
+fn finish<'a>(
+    source: &TypeReader<'_, 'a>,
+    state: &mut GraphWalk<'a>,
+    frame: Frame,
+) -> Result<(), TypeFault>
     requires told { source.now.vtables ≡ vtables_of source.now.image.now }
-    requires reading { IsReadingWith source.now.image.now source.now.roots.now state.old (frame ∷ tops state.old) }
+    requires reading { IsReadingWith source.now.image.now source.now.roots.now state.old (frame ∷ open_types state.old) }
     requires all { frame.count ≤ frame.next }
     ensures reading { IfOk result (λ _. IsReading source.now.image.now source.now.roots.now state.new) }
-    ensures less { IfOk result (λ _. work_with state.new (tops state.new) < work_with state.old (frame ∷ tops state.old)) }
+    ensures less { IfOk result (λ _. work_with state.new (open_types state.new) < work_with state.old (frame ∷ open_types state.old)) }
     ensures shown { IfErr result (λ fault. fault ≢ OutOfMemory → Shows source.now.image.now source.now.roots.now fault) }
 {
     if frame.paths > u64::from(MOST_PATHS) {
         return Err(TypeFault::TooManyPaths(frame.at));
     }
     let info = info(source.image, &source.vtables, frame.at)?;
-    let done = Done {
+    let done = CountedType {
         info,
         paths: frame.paths as u32,
     };
-    wait(&mut state.pending, frame.kind)?;
+    push_pointees(&mut state.pending, frame.kind)?;
     take_out(&mut state.open, frame.at);
-    insert_done(&mut state.done, frame.at, done)?;
+    insert_counted(&mut state.done, frame.at, done)?;
     Ok(())
 }
 
-/// Takes the last of the types that wait: it is done already, or its bases are read. Whether there was one.
-fn take_waiting(source: &Source, state: &mut State) -> Result<bool, TypeFault>
+/// Takes the last of the queued types: it is done already, or its bases are read. Returns whether there was one.
+fn take_waiting(source: &TypeReader, state: &mut GraphWalk) -> Result<bool, TypeFault>
     requires told { source.now.vtables ≡ vtables_of source.now.image.now }
     requires reading { IsReading source.now.image.now source.now.roots.now state.old }
     requires none_open { state.old.stack.items ≡ [] }
     ensures reading { IfOk result (λ _. IsReading source.now.image.now source.now.roots.now state.new) }
-    ensures less { IfOk result (λ more. more ≡ true → work_with state.new (tops state.new) < work_with state.old (tops state.old)) }
+    ensures less { IfOk result (λ more. more ≡ true → work_with state.new (open_types state.new) < work_with state.old (open_types state.old)) }
     ensures ended { IfOk result (λ more. more ≡ false → (state.new.stack.items ≡ []) × (state.new.pending.items ≡ [])) }
     ensures shown { IfErr result (λ fault. fault ≢ OutOfMemory → Shows source.now.image.now source.now.roots.now fault) }
 {
@@ -170,12 +178,12 @@ fn take_waiting(source: &Source, state: &mut State) -> Result<bool, TypeFault>
     Ok(true)
 }
 
-/// Does one step. Whether there was anything left to do.
-fn step<'a>(source: &Source<'_, 'a>, state: &mut State<'a>) -> Result<bool, TypeFault>
+/// Does one step of the traversal. Returns whether there was anything left to do.
+fn step<'a>(source: &TypeReader<'_, 'a>, state: &mut GraphWalk<'a>) -> Result<bool, TypeFault>
     requires told { source.now.vtables ≡ vtables_of source.now.image.now }
     requires reading { IsReading source.now.image.now source.now.roots.now state.old }
     ensures reading { IfOk result (λ _. IsReading source.now.image.now source.now.roots.now state.new) }
-    ensures less { IfOk result (λ more. more ≡ true → work_with state.new (tops state.new) < work_with state.old (tops state.old)) }
+    ensures less { IfOk result (λ more. more ≡ true → work_with state.new (open_types state.new) < work_with state.old (open_types state.old)) }
     ensures ended { IfOk result (λ more. more ≡ false → (state.new.stack.items ≡ []) × (state.new.pending.items ≡ [])) }
     ensures shown { IfErr result (λ fault. fault ≢ OutOfMemory → Shows source.now.image.now source.now.roots.now fault) }
 {
@@ -190,12 +198,12 @@ fn step<'a>(source: &Source<'_, 'a>, state: &mut State<'a>) -> Result<bool, Type
     Ok(true)
 }
 
-/// Nothing is done, and the roots wait.
-fn start<'a>(alloc: Global, source: &Source<'_, 'a>) -> Result<State<'a>, AllocError>
+/// The initial state: nothing is read, and the roots are queued.
+fn start<'a>(alloc: Global, source: &TypeReader<'_, 'a>) -> Result<GraphWalk<'a>, AllocError>
     ensures { IfOk result (λ state. IsReading source.now.image.now source.now.roots.now state) }
 {
     let pending = Vec::from_slice(alloc, source.roots)?;
-    Ok(State {
+    Ok(GraphWalk {
         done: BTreeMap::new(alloc),
         open: BTreeSet::new(alloc),
         stack: Vec::new(alloc),
@@ -203,8 +211,11 @@ fn start<'a>(alloc: Global, source: &Source<'_, 'a>) -> Result<State<'a>, AllocE
     })
 }
 
-/// Reads all that the roots reach.
-pub(crate) fn read_all<'a>(alloc: Global, source: &Source<'_, 'a>) -> Result<State<'a>, TypeFault>
+/// Reads everything that the roots reach; Err with the first fault met.
+pub(crate) fn read_all<'a>(
+    alloc: Global,
+    source: &TypeReader<'_, 'a>,
+) -> Result<GraphWalk<'a>, TypeFault>
     requires told { source.now.vtables ≡ vtables_of source.now.image.now }
     ensures reading { IfOk result (λ state. IsReading source.now.image.now source.now.roots.now state) }
     ensures ended { IfOk result (λ state. (state.stack.items ≡ []) × (state.pending.items ≡ [])) }

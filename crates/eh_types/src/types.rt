@@ -1,8 +1,8 @@
-//! What the words at an address say of a type (docs/types.md).
+//! Decodes one type from the words at its address (docs/rules/types-and-matching.md).
 ghost use Rattle.std.specs.Prelude.{◌≡◌, ◌+◌, ◌*◌, ◌^◌, ◌<◌, IfOk, IfErr, Ok, Err, Some, None};
 ghost use Rattle.eh_types.specs.Vtables.{vtables_of, kind_by};
 ghost use Rattle.eh_types.specs.Words.{word, words_from, name_at};
-ghost use Rattle.eh_types.specs.Types.{base_count, base_type, word_count, kind_at, judged, row_named, row_in, type_at};
+ghost use Rattle.eh_types.specs.Types.{base_count, base_type, word_count, kind_at, type_or_fault, row_named, row_in, type_at};
 
 use crate::bases::base_count;
 use crate::fault::TypeFault;
@@ -12,24 +12,27 @@ use crate::vtables::{SECOND, Vtables, kind_by};
 use crate::words::{WORD_SIZE, name_at, word, words_from};
 use elf_image::image::Image;
 
-/// The most bytes of a name.
+/// The most bytes of a type's name.
 pub const NAME_LIMIT: usize = 1024;
-/// Where the word with the name's address stands, in bytes from the type.
+/// Offset of the word with the name's address, in bytes from the start of the type.
 pub const NAME: u64 = 4;
-/// Where a list of bases begins, in bytes from the type.
+/// Offset of the list of bases, in bytes from the start of the type.
 pub const BASES: u64 = 16;
-/// The bytes of a base in a list.
+/// The size of one entry of the list of bases, in bytes.
 pub const BASE_SIZE: u64 = 8;
 
-/// What a type is, its name, and how many bases it has.
+/// What a type's own words tell: its kind, its name, and its number of bases.
 #[derive(Drop)]
 pub(crate) struct Head<'a> {
+    /// The kind of the type.
     pub kind: TypeKind,
+    /// The type's name, without its zero byte.
     pub name: &'a [u8],
+    /// The number of its bases.
     pub count: u32,
 }
 
-/// The type of base k.
+/// The address of the type of base `k`.
 pub(crate) fn base_type(image: &Image, at: u32, kind: TypeKind, k: u32) -> u32
     ensures { result ≡ base_type image.now.segments at kind k }
 {
@@ -40,7 +43,7 @@ pub(crate) fn base_type(image: &Image, at: u32, kind: TypeKind, k: u32) -> u32
     }
 }
 
-/// How many words a type has.
+/// The number of words of a type.
 fn word_count(image: &Image, at: u32, kind: TypeKind) -> u64
     ensures { result ≡ word_count image.now.segments at kind }
 {
@@ -52,7 +55,7 @@ fn word_count(image: &Image, at: u32, kind: TypeKind) -> u64
     }
 }
 
-/// What a type's words say, or the first fault that they show.
+/// Reads a type's kind, name and number of bases; Err with the first fault that its words show.
 #[tactic(auto, unfolding(crate::specs::Types::type_at))]
 pub(crate) fn read_head<'a>(
     image: &Image<'a>,
@@ -86,7 +89,7 @@ pub(crate) fn read_head<'a>(
     })
 }
 
-/// What is kept of the type at an address, or the first fault that its words show.
+/// Reads the type at an address, without its bases; Err with the first fault that its words show.
 #[tactic(auto, unfolding(crate::specs::Types::row_named))]
 pub(crate) fn info<'a>(
     image: &Image<'a>,

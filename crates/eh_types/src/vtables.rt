@@ -1,4 +1,4 @@
-//! The vtables by which types are told (docs/types.md).
+//! The vtables that tell the kinds of types apart (docs/rules/types-and-matching.md).
 ghost use Rattle.std.specs.Prelude.{◌≡◌, ◌+◌, ◌%◌, ◌^◌, option_map};
 ghost use Rattle.elf_image.specs.Image.{symbol_in};
 ghost use Rattle.eh_types.specs.Vtables.{vtable_at, vtables_of, is_at, kind_by};
@@ -8,35 +8,40 @@ use crate::kind::TypeKind;
 use crate::words::word;
 use elf_image::image::Image;
 
-/// The vtable of the type information of built-in types.
+/// The vtable symbol of the type information of built-in types.
 pub const FUNDAMENTAL: &[u8] = b"_ZTVN10__cxxabiv123__fundamental_type_infoE";
-/// Of classes without bases.
+/// The vtable symbol for classes without bases.
 pub const CLASS: &[u8] = b"_ZTVN10__cxxabiv117__class_type_infoE";
-/// Of classes with one public base, not virtual, at their start.
+/// The vtable symbol for classes with one base, which is public, not virtual, and at offset 0.
 pub const SINGLE: &[u8] = b"_ZTVN10__cxxabiv120__si_class_type_infoE";
-/// Of classes with any bases.
+/// The vtable symbol for classes with a list of bases of any sort.
 pub const MANY: &[u8] = b"_ZTVN10__cxxabiv121__vmi_class_type_infoE";
-/// Of pointers.
+/// The vtable symbol for pointers.
 pub const POINTER: &[u8] = b"_ZTVN10__cxxabiv119__pointer_type_infoE";
 
-/// How far above the start of a vtable the words of its types point, in bytes.
+/// Offset of the address that type information holds as its vtable pointer, in bytes from the start of the vtable.
 pub const VTABLE_POINT: u32 = 8;
-/// Where the first word after a type's name stands, in bytes from the type: a base, or flags.
+/// Offset of the first word after the name's, in bytes from the start of the type: the type of a single base, or flags.
 pub const FIRST: u64 = 8;
-/// Where the second one stands: a number of bases, or a pointee.
+/// Offset of the second word after the name's, in bytes from the start of the type: the number of bases, or a pointee.
 pub const SECOND: u64 = 12;
 
-/// The words that point to the five vtables, as far as an image defines them.
+/// The vtable pointers of the five kinds of type information. Each is None if the image doesn't define the vtable.
 #[derive(Clone, Copy)]
 pub(crate) struct Vtables {
+    /// The vtable pointer of built-in types.
     pub fundamental: Option<u32>,
+    /// The vtable pointer of classes without bases.
     pub class: Option<u32>,
+    /// The vtable pointer of classes with a single base.
     pub single: Option<u32>,
+    /// The vtable pointer of classes with a list of bases.
     pub many: Option<u32>,
+    /// The vtable pointer of pointers.
     pub pointer: Option<u32>,
 }
 
-/// The word that points to a vtable.
+/// The vtable pointer for the vtable with this symbol; None if the image doesn't define it.
 fn vtable_at(image: &Image, name: &[u8]) -> Option<u32>
     ensures { result ≡ vtable_at image.now name.now }
 {
@@ -46,7 +51,7 @@ fn vtable_at(image: &Image, name: &[u8]) -> Option<u32>
     }
 }
 
-/// The words that point to the five vtables.
+/// The vtable pointers that an image has.
 pub(crate) fn vtables_of(image: &Image) -> Vtables
     ensures { result ≡ vtables_of image.now }
 {
@@ -68,7 +73,7 @@ fn is_at(vtable: Option<u32>, word: u32) -> bool
     }
 }
 
-/// What the type at an address is, by the word that it begins with; the first vtable that fits counts.
+/// The kind of the type at an address, which its first word tells. If several vtables have that address, the first kind counts.
 #[tactic(auto, unfolding(crate::specs::Vtables::kind_by))]
 pub(crate) fn kind_by(image: &Image, vtables: &Vtables, at: u32) -> TypeKind
     ensures { result ≡ kind_by vtables.now image.now.segments at }

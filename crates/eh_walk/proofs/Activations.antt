@@ -5,31 +5,31 @@ use Rattle.std.proofs.lemmas.List.{length-map}
 use Rattle.eh_bus.specs.Memory.{Memory}
 use Rattle.thumb_core.specs.Registers.{all_of}
 use Rattle.eh_phase.specs.Calls.{stack_of}
-use Rattle.eh_phase.specs.Laws.{seen}
+use Rattle.eh_phase.specs.Laws.{frame_through}
 use Rattle.eh_phase.specs.Phases.{Frame, Frames}
 use Rattle.eh_phase.specs.Frames.{frames_of}
 use Rattle.eh_gates.specs.declared.state.Core.{Core}
 use Rattle.eh_gates.specs.State.{State, state_of}
 use Rattle.elf_image.specs.Image.{IsSound as IsImage}
 use Rattle.frame_check.specs.Accepts.{Accepted, IsSound}
-use Rattle.eh_machine.specs.two_machines.Activations.{Recorded, memory_of, frames_at}
-use Rattle.eh_machine.specs.two_machines.Agreeing.{handed_on, Agree}
-use Rattle.eh_machine.specs.two_machines.Checked.{program_of}
-use Rattle.eh_machine.specs.stands_for.Stands.{Keeps, IsProgram}
+use Rattle.sim_machines.specs.Activations.{Recorded, memory_of, frames_at}
+use Rattle.sim_machines.specs.Agreeing.{preserved_registers, Agree}
+use Rattle.sim_machines.specs.Checked.{program_of}
+use Rattle.sim_relation.specs.Stands.{Keeps, IsProgram}
 use Rattle.eh_machine.proofs.Following.{accepted_is}
-use Rattle.eh_machine.proofs.frames_same.FramesSame.{frames_are_same}
+use Rattle.eh_machine.proofs.sim_frames.FramesSame.{frames_are_same}
 use Rattle.eh_walk.specs.declared.walk.Backtrace.{Backtrace}
 use Rattle.eh_walk.specs.Laws.{WalksActivations, SameWalks, WalksSame}
 use Rattle.eh_walk.specs.Sites.{site_state}
-use Rattle.eh_walk.specs.Walks.{shown, IsWalk, walk_of, recorded_walk}
+use Rattle.eh_walk.specs.Walks.{walk_frame, IsWalk, walk_of, recorded_walk}
 use Rattle.eh_walk.proofs.Places.{all_shown}
 use Rattle.eh_walk.proofs.SiteStates.{throws_there}
 
 -- ---- frames that agree show the same
 
-shown_seen : (fs : List Frame) → map shown (map (seen handed_on) fs) ≡ map shown fs
+shown_seen : (fs : List Frame) → map walk_frame (map (frame_through preserved_registers) fs) ≡ map walk_frame fs
 shown_seen [] = refl
-shown_seen (f ∷ more) = ap (λ rest. shown f ∷ rest) (shown_seen more)
+shown_seen (f ∷ more) = ap (λ rest. walk_frame f ∷ rest) (shown_seen more)
 
 shown_same : (fs gs : Frames) → Agree fs gs → all_shown fs ≡ all_shown gs
 shown_same fs gs e = sym (shown_seen fs.frames) ∙ ap all_shown e ∙ shown_seen gs.frames
@@ -38,7 +38,7 @@ last_same : (fs gs : Frames) → Agree fs gs → fs.last ≡ gs.last
 last_same fs gs e = ap (λ (v : Frames). v.last) e
 
 count_same : (fs gs : Frames) → Agree fs gs → length fs.frames ≡ length gs.frames
-count_same fs gs e = sym (length-map fs.frames shown) ∙ ap length (shown_same fs gs e) ∙ length-map gs.frames shown
+count_same fs gs e = sym (length-map fs.frames walk_frame) ∙ ap length (shown_same fs gs e) ∙ length-map gs.frames walk_frame
 
 same_walks : (fs gs : Frames) → Agree fs gs → SameWalks (Some fs) (Some gs)
 same_walks fs gs e = record {

@@ -8,8 +8,8 @@ use Rattle.eh_phase.specs.Calls.{stack_of}
 use Rattle.eh_phase.specs.Frames.{frames_of}
 use Rattle.eh_gates.specs.declared.state.Core.{Core}
 use Rattle.frame_check.specs.Accepts.{Accepted, IsSound}
-use Rattle.eh_machine.specs.two_machines.Checked.{program_of}
-use Rattle.eh_machine.specs.two_machines.Program.{Program}
+use Rattle.sim_machines.specs.Checked.{program_of}
+use Rattle.sim_machines.specs.Program.{Program}
 use Rattle.eh_walk.specs.declared.walk.Backtrace.{Backtrace}
 use Rattle.eh_walk.specs.declared.walk.WalkMemory.{WalkMemory}
 use Rattle.eh_walk.specs.Laws.{WalksActivations}

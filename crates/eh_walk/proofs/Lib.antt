@@ -1,5 +1,3 @@
-pub use Rattle.eh_machine.proofs.event_runs
-pub use Rattle.eh_machine.proofs.resumes_keep
 pub mod Places
 pub mod Standing
 pub mod Advance

@@ -4,39 +4,40 @@ use Rattle.std.specs.Prelude.{Contains}
 use Rattle.std.proofs.lemmas.Bool.{and_parts, cases_eq, eqb-true, lt-leb}
 use Rattle.std.proofs.lemmas.List.Elements.{Contains-append_left}
 use Rattle.std.proofs.lemmas.Option.{same_Some, none-some}
-use Rattle.eh_machine.specs.stands_for.eh_bus.Memory.{fetch}
-use Rattle.eh_machine.specs.stands_for.thumb_isa.declared.instr.Instr.{Instr}
-use Rattle.eh_machine.specs.stands_for.thumb_isa.declared.instr.Instr.TheVariants.{Bl, Blx, Svc}
-use Rattle.eh_machine.specs.stands_for.thumb_isa.declared.instr.Decoded.{Decoded}
-use Rattle.eh_machine.specs.stands_for.thumb_isa.declared.instr.Decoded.TheVariants.{Is, Undefined, Unpredictable, NotInProfile}
-use Rattle.eh_machine.specs.stands_for.thumb_isa.Rows.{decoded_of, late_decoded_of, decoded_for}
-use Rattle.eh_machine.specs.stands_for.thumb_isa.declared.profile.Profile.{Profile}
-use Rattle.eh_machine.specs.stands_for.thumb_isa.declared.profile.Profile.TheVariants.{One, Two}
-use Rattle.eh_machine.specs.stands_for.thumb_core.Step.{instr_for, instr_of}
-use Rattle.eh_machine.specs.stands_for.frame_facts.declared.cause.FrameCause.TheVariants.{Undecodable}
-use Rattle.eh_machine.specs.stands_for.frame_graph.declared.places.Standing.{Standing}
-use Rattle.eh_machine.specs.stands_for.frame_graph.declared.places.Standing.TheVariants.{Instruction, Udf, Nothing}
-use Rattle.eh_machine.specs.stands_for.frame_graph.Places.{is_udf, standing_at, standing_by, halfword_of, of_decoded, wide_of}
-use Rattle.eh_machine.specs.stands_for.frame_graph.FlowGraph.{FlowGraph}
-use Rattle.eh_machine.specs.stands_for.frame_graph.Edges.{is_undecodable, is_nothing}
-use Rattle.eh_machine.specs.stands_for.frame_flow.Causes.{shown, causes_at}
-use Rattle.eh_machine.specs.stands_for.frame_check.Accepts.{Accepted}
-use Rattle.eh_machine.specs.stands_for.frame_check.Judged.{IsPlaced}
-use Rattle.eh_machine.specs.stands_for.frame_check.Roots.{flow_graph_of}
-use Rattle.eh_machine.specs.stands_for.frame_check.Roles.{look}
-use Rattle.eh_machine.proofs.stands_for.frame_check.Wells.{placed_at}
-use Rattle.eh_machine.proofs.stands_for.frame_reach.Stands.{stands_inside, stands_size}
-use Rattle.eh_machine.specs.stands_for.two_machines.Activations.{Recorded, memory_of}
-use Rattle.eh_machine.specs.stands_for.two_machines.Checked.{program_of}
-use Rattle.eh_machine.specs.stands_for.two_machines.Program.{profile_in}
-use Rattle.eh_machine.proofs.stands_for.flow.Work.{contains_head}
-use Rattle.eh_machine.proofs.stands_for.accepted_code.Fetch.{code_fetch}
-use Rattle.eh_machine.specs.stands_for.Chain.{code, StandsAt}
-use Rattle.eh_machine.specs.stands_for.Stands.{Keeps, IsProgram, DoesAt}
-use Rattle.eh_machine.proofs.stands_for.Flows.{none_stands}
-use Rattle.eh_machine.proofs.stands_for.SimpleTurns as simple
-use Rattle.eh_machine.proofs.steps_keep.Jumps.{not_found}
-use Rattle.eh_machine.specs.frames_same.Frames.{ThrowsAt}
+use Rattle.eh_bus.specs.Memory.{fetch}
+use Rattle.thumb_isa.specs.declared.instr.Instr.{Instr}
+use Rattle.thumb_isa.specs.declared.instr.Instr.TheVariants.{Bl, Blx, Svc}
+use Rattle.thumb_isa.specs.declared.instr.Decoded.{Decoded}
+use Rattle.thumb_isa.specs.declared.instr.Decoded.TheVariants.{Is, Undefined, Unpredictable, NotInProfile}
+use Rattle.thumb_isa.specs.Rows.{decode_result, late_decode_result, decode_result_for}
+use Rattle.thumb_isa.specs.declared.profile.Profile.{Profile}
+use Rattle.thumb_isa.specs.declared.profile.Profile.TheVariants.{One, Two}
+use Rattle.thumb_core.specs.Step.{instr_for, instr_of}
+use Rattle.frame_facts.specs.declared.cause.FrameCause.TheVariants.{Undecodable}
+use Rattle.frame_code.specs.declared.standing.Standing.{Standing}
+use Rattle.frame_code.specs.declared.standing.Standing.TheVariants.{Instruction, Udf, Nothing}
+use Rattle.frame_code.specs.Standing.{is_udf, standing_by, standing_of_decoded, wide_of, is_nothing}
+use Rattle.frame_graph.specs.Places.{standing_at, halfword_of}
+use Rattle.frame_graph.specs.FlowGraph.{FlowGraph}
+use Rattle.frame_graph.specs.Edges.{is_undecodable}
+use Rattle.frame_check.specs.frame_flow.Causes.{cause_if, causes_at}
+use Rattle.frame_check.specs.Accepts.{Accepted}
+use Rattle.frame_check.specs.Judged.{IsPlaced}
+use Rattle.frame_check.specs.Roots.{flow_graph_of}
+use Rattle.frame_check.specs.Roles.{look}
+use Rattle.frame_check.proofs.Wells.{placed_at}
+use Rattle.frame_reach.proofs.Stands.{stands_inside, stands_size}
+use Rattle.sim_machines.specs.Activations.{Recorded, memory_of}
+use Rattle.sim_machines.specs.Checked.{program_of}
+use Rattle.sim_machines.specs.Program.{profile_in}
+use Rattle.frame_dataflow.proofs.Work.{contains_head}
+use Rattle.sim_relation.proofs.sim_code.Fetch.{code_fetch}
+use Rattle.sim_relation.specs.Chain.{code, StandsAt}
+use Rattle.sim_relation.specs.Stands.{Keeps, IsProgram, DoesAt}
+use Rattle.sim_relation.proofs.Flows.{none_stands}
+use Rattle.sim_relation.proofs.SimpleTurns as simple
+use Rattle.sim_changes.proofs.sim_steps.Jumps.{not_found}
+use Rattle.eh_machine.specs.sim_frames.Frames.{ThrowsAt}
 use Rattle.eh_walk.specs.Sites.{site_by, site_at, site_state}
 
 -- ---- UDF is no instruction
@@ -49,10 +50,10 @@ is_instr NotInProfile = false
 
 all_others : Profile → ℕ → Bool
 all_others p zero = true
-all_others p (suc n) = cond (is_instr (decoded_for p (0xde00 + n) 0)) false true && all_others p n
+all_others p (suc n) = cond (is_instr (decode_result_for p (0xde00 + n) 0)) false true && all_others p n
 
 all : (p : Profile) → all_others p 256 ≡ true
-unfolding decoded_of late_decoded_of all_others
+unfolding decode_result late_decode_result all_others
 all One = refl
 all Two = refl
 
@@ -60,13 +61,13 @@ other : (b : Bool) → cond b false true ≡ true → b ≡ false
 other true e = absurd cc
 other false e = refl
 
-among : (p : Profile) (n k : ℕ) → all_others p n ≡ true → k < n → is_instr (decoded_for p (0xde00 + k) 0) ≡ false
+among : (p : Profile) (n k : ℕ) → all_others p n ≡ true → k < n → is_instr (decode_result_for p (0xde00 + k) 0) ≡ false
 unfolding all_others
 among p zero k e h = absurd (omega (arith, h))
 among p (suc n) k e h =
-    let w = and_parts (cond (is_instr (decoded_for p (0xde00 + n) 0)) false true) (all_others p n) e in
+    let w = and_parts (cond (is_instr (decode_result_for p (0xde00 + n) 0)) false true) (all_others p n) e in
     elim (cases_eq k n) [
-      | inl same ↦ subst (λ j. is_instr (decoded_for p (0xde00 + j) 0) ≡ false) (sym same) (other (is_instr (decoded_for p (0xde00 + n) 0)) w.0)
+      | inl same ↦ subst (λ j. is_instr (decode_result_for p (0xde00 + j) 0) ≡ false) (sym same) (other (is_instr (decode_result_for p (0xde00 + n) 0)) w.0)
       | inr differ ↦ among p n k w.1 (omega (arith, h, differ))
     ]
 
@@ -76,13 +77,13 @@ none_of Undefined e = refl
 none_of Unpredictable e = refl
 none_of NotInProfile e = refl
 
-udf_none : (p : Profile) (first : ℕ) → is_udf first ≡ true → instr_of (decoded_for p first 0) ≡ None
+udf_none : (p : Profile) (first : ℕ) → is_udf first ≡ true → instr_of (decode_result_for p first 0) ≡ None
 udf_none p first e =
     let top : first / 256 ≡ 0xde = eqb-true (first / 256) 0xde e in
     let same : 0xde00 + (first - 0xde00) ≡ first = omega (arith, top) in
-    subst (λ n. instr_of (decoded_for p n 0) ≡ None) same (none_of (decoded_for p (0xde00 + (first - 0xde00)) 0) (among p 256 (first - 0xde00) (all p) (omega (arith, top))))
+    subst (λ n. instr_of (decode_result_for p n 0) ≡ None) same (none_of (decode_result_for p (0xde00 + (first - 0xde00)) 0) (among p 256 (first - 0xde00) (all p) (omega (arith, top))))
 
-not_udf : (d : Decoded) → of_decoded d ≡ Udf → ⊥
+not_udf : (d : Decoded) → standing_of_decoded d ≡ Udf → ⊥
 not_udf (Is i size) e = cc
 not_udf Undefined e = cc
 not_udf Unpredictable e = cc
@@ -90,7 +91,7 @@ not_udf NotInProfile e = cc
 
 wide_not : (p : Profile) (first : ℕ) (w : Option ℕ) → wide_of p first w ≡ Udf → ⊥
 wide_not p first None e = cc
-wide_not p first (Some second) e = not_udf (decoded_for p first second) e
+wide_not p first (Some second) e = not_udf (decode_result_for p first second) e
 
 -- ---- what stands at pc
 
@@ -106,9 +107,9 @@ module _ (x : Accepted) (is : IsProgram x) (s : Recorded) (k : Keeps x s) (at : 
   not_nothing e =
       let c = code x at.function at.marks in
       let yes : is_undecodable c.flow_graph at.place ≡ true = ap is_nothing e in
-      let first : Contains (shown (is_undecodable c.flow_graph at.place) Undecodable) Undecodable = rw yes (contains_head Undecodable []) in
+      let first : Contains (cause_if (is_undecodable c.flow_graph at.place) Undecodable) Undecodable = rw yes (contains_head Undecodable []) in
       not_found c at.place at.fact (none_stands x at.function at.marks is.sound at.of.among at.of.are) at.state Undecodable
-      (Contains-append_left (shown (is_undecodable c.flow_graph at.place) Undecodable) _ Undecodable first)
+      (Contains-append_left (cause_if (is_undecodable c.flow_graph at.place) Undecodable) _ Undecodable first)
 
   none_at : standing_at flow_graph at.place ≡ Udf → instr_for profile (memory_of s) s.regs.pc ≡ None
   unfolding standing_at
@@ -122,9 +123,9 @@ module _ (x : Accepted) (is : IsProgram x) (s : Recorded) (k : Keeps x s) (at : 
           rw (fetches, narrow) (udf_none profile first udf)
 
       by_udf : (u b : Bool) (first : ℕ) (w : Option ℕ) → halfword_of flow_graph at.place ≡ Some first → is_udf first ≡ u
-          → cond u Udf (cond b (of_decoded (decoded_for profile first 0)) (wide_of profile first w)) ≡ Udf → instr_for profile (memory_of s) s.regs.pc ≡ None
+          → cond u Udf (cond b (standing_of_decoded (decode_result_for profile first 0)) (wide_of profile first w)) ≡ Udf → instr_for profile (memory_of s) s.regs.pc ≡ None
       by_udf true b first w h u g = none_by first h u
-      by_udf false true first w h u g = absurd (not_udf (decoded_for profile first 0) g)
+      by_udf false true first w h u g = absurd (not_udf (decode_result_for profile first 0) g)
       by_udf false false first w h u g = absurd (wide_not profile first w g)
 
       by_halves : (o w : Option ℕ) → halfword_of flow_graph at.place ≡ o → standing_by profile o w ≡ Udf → instr_for profile (memory_of s) s.regs.pc ≡ None

@@ -15,24 +15,24 @@ use Rattle.eh_desc.specs.declared.descriptor.DescFault.{DescFault}
 use Rattle.eh_desc.specs.declared.descriptor.DescKind.{DescKind}
 use Rattle.eh_desc.specs.declared.descriptor.DescKind.TheVariants as kind
 use Rattle.eh_phase.specs.Cleanups.{can_stop, is_barrier_item, can_be_read, is_barrier, is_reached_in, is_reached}
-use Rattle.eh_phase.specs.Firsts.{first_some, or_next}
+use Rattle.eh_phase.specs.Firsts.{first_some, or_else}
 use Rattle.eh_phase.specs.Frames.{is_above}
-use Rattle.eh_phase.specs.Laws.{IsInOrder, seen, goal_of}
-use Rattle.eh_phase.specs.Phases.{Frame, Place, placed, places}
+use Rattle.eh_phase.specs.Laws.{IsInOrder, frame_through, goal_of}
+use Rattle.eh_phase.specs.Phases.{Frame, Place, descriptor_places, places}
 use Rattle.eh_phase.specs.Verdict.{in_scope}
 use Rattle.eh_phase.specs.declared.phase2.Goal.{Goal}
 use Rattle.eh_phase.proofs.Due.{reached_past, reached_stop}
 use Rattle.eh_phase.proofs.Reached.{reached_append, places-append, places-cons}
-use Rattle.eh_machine.specs.two_machines.Agreeing.{handed_on}
-use Rattle.eh_machine.specs.stands_for.Cleanups.{IsWithin}
+use Rattle.sim_machines.specs.Agreeing.{preserved_registers}
+use Rattle.sim_relation.specs.Cleanups.{IsWithin}
 use Rattle.eh_walk.specs.declared.stopping.ForceFault.TheVariants.{InsideCleanup, BadTables, BadType}
-use Rattle.eh_walk.specs.declared.stopping.Stop.{Stop}
+use Rattle.eh_walk.specs.declared.stopping.StopFrame.{StopFrame}
 use Rattle.eh_walk.specs.Forced.{stop_barrier}
-use Rattle.eh_walk.specs.Stops.{takes_all, stop_by, stop_in, fault_of, is_unreadable, stopped, stop_among, stop_at}
+use Rattle.eh_walk.specs.Stops.{takes_all, stop_by, stop_in, fault_of, is_unreadable, stop_or_fault, stop_among, stop_at}
 
 -- ---- in one frame
 
-pub record Split (f : Frame) (items : List (Result Desc DescFault)) (stop : Stop) : Type 0 where
+pub record Split (f : Frame) (items : List (Result Desc DescFault)) (stop : StopFrame) : Type 0 where
   pub before : List (Result Desc DescFault)
   pub desc : Desc
   pub after : List (Result Desc DescFault)
@@ -41,7 +41,7 @@ pub record Split (f : Frame) (items : List (Result Desc DescFault)) (stop : Stop
   pub all : takes_all desc.kind ≡ true
   pub is : stop ≡ record { sp = f.sp; desc = desc.at; site = f.site }
 
-later : (f : Frame) (i : Result Desc DescFault) (more : List (Result Desc DescFault)) (stop : Stop) → Split f more stop → Split f (i ∷ more) stop
+later : (f : Frame) (i : Result Desc DescFault) (more : List (Result Desc DescFault)) (stop : StopFrame) → Split f more stop → Split f (i ∷ more) stop
 later f i more stop w = record {
   before = i ∷ w.before;
   desc = w.desc;
@@ -52,14 +52,14 @@ later f i more stop w = record {
   is = w.is;
 }
 
-split : (f : Frame) (items : List (Result Desc DescFault)) (stop : Stop) → first_some (stop_by f) items ≡ Some stop → Split f items stop
+split : (f : Frame) (items : List (Result Desc DescFault)) (stop : StopFrame) → first_some (stop_by f) items ≡ Some stop → Split f items stop
 unfolding first_some
 split f [] stop e = absurd (none-some stop e)
 split f (Err fault ∷ more) stop e = later f (Err fault) more stop (split f more stop e)
 split f (Ok d ∷ more) stop e = by (in_scope f.site d) refl (takes_all d.kind) refl e (λ w. split f more stop w)
   where
     by : (b : Bool) → in_scope f.site d ≡ b → (c : Bool) → takes_all d.kind ≡ c
-        → or_next (cond (b && c) (Some (record { sp = f.sp; desc = d.at; site = f.site })) None) (first_some (stop_by f) more) ≡ Some stop
+        → or_else (cond (b && c) (Some (record { sp = f.sp; desc = d.at; site = f.site })) None) (first_some (stop_by f) more) ≡ Some stop
         → (first_some (stop_by f) more ≡ Some stop → Split f more stop) → Split f (Ok d ∷ more) stop
     by true s true t e further = record {
       before = [];
@@ -75,7 +75,7 @@ split f (Ok d ∷ more) stop e = by (in_scope f.site d) refl (takes_all d.kind) 
 
 -- ---- among the frames
 
-pub record StopIn (limit : Option ℕ) (fs : List Frame) (stop : Stop) : Type 0 where
+pub record StopIn (limit : Option ℕ) (fs : List Frame) (stop : StopFrame) : Type 0 where
   pub inner : List Frame
   pub frame : Frame
   pub outer : List Frame
@@ -84,8 +84,8 @@ pub record StopIn (limit : Option ℕ) (fs : List Frame) (stop : Stop) : Type 0 
   pub within : is_above limit frame.sp ≡ false
   pub own : Split frame frame.items stop
 
-module _ (limit : Option ℕ) (holds : Bool) (number : ℕ) (fs : List Frame) (stop : Stop) where
-  by_faulty : (f : Frame) (outer : List Frame) → drop number fs ≡ f ∷ outer → is_above limit f.sp ≡ false → (s : Stop) → stop_in f ≡ Some s
+module _ (limit : Option ℕ) (holds : Bool) (number : ℕ) (fs : List Frame) (stop : StopFrame) where
+  by_faulty : (f : Frame) (outer : List Frame) → drop number fs ≡ f ∷ outer → is_above limit f.sp ≡ false → (s : StopFrame) → stop_in f ≡ Some s
       → (b : Bool) → list_any is_unreadable (take number fs) ≡ b → (c : Bool) → cond b (Err BadTables) (cond c (Ok s) (Err BadType)) ≡ Ok stop → StopIn limit fs stop
   by_faulty f outer q w s h true r c e = absurd cc
   by_faulty f outer q w s h false r false e = absurd cc
@@ -101,13 +101,13 @@ module _ (limit : Option ℕ) (holds : Bool) (number : ℕ) (fs : List Frame) (s
         own = split f f.items stop (h ∙ ap Some same);
       }
 
-  by_stop : (f : Frame) (outer : List Frame) → drop number fs ≡ f ∷ outer → is_above limit f.sp ≡ false → (o : Option Stop) → stop_in f ≡ o
-      → stopped (list_any is_unreadable (take number fs)) holds o ≡ Ok stop → StopIn limit fs stop
+  by_stop : (f : Frame) (outer : List Frame) → drop number fs ≡ f ∷ outer → is_above limit f.sp ≡ false → (o : Option StopFrame) → stop_in f ≡ o
+      → stop_or_fault (list_any is_unreadable (take number fs)) holds o ≡ Ok stop → StopIn limit fs stop
   by_stop f outer q w None h e = absurd cc
   by_stop f outer q w (Some s) h e = by_faulty f outer q w s h (list_any is_unreadable (take number fs)) refl holds e
 
   by_limit : (f : Frame) (outer : List Frame) → drop number fs ≡ f ∷ outer → (b : Bool) → is_above limit f.sp ≡ b
-      → cond b (Err InsideCleanup) (stopped (list_any is_unreadable (take number fs)) holds (stop_in f)) ≡ Ok stop → StopIn limit fs stop
+      → cond b (Err InsideCleanup) (stop_or_fault (list_any is_unreadable (take number fs)) holds (stop_in f)) ≡ Ok stop → StopIn limit fs stop
   by_limit f outer q true w e = absurd cc
   by_limit f outer q false w e = by_stop f outer q w (stop_in f) refl e
 
@@ -128,7 +128,7 @@ read_append : (ps qs : List Place) → AreRead ps → AreRead qs → AreRead (ps
 read_append [] qs h k = k
 read_append (p ∷ ps) qs h k = (h.0, read_append ps qs h.1 k)
 
-read_items : (f : Frame) (items : List (Result Desc DescFault)) → is_some (first_some fault_of items) ≡ false → AreRead (placed f items)
+read_items : (f : Frame) (items : List (Result Desc DescFault)) → is_some (first_some fault_of items) ≡ false → AreRead (descriptor_places f items)
 unfolding first_some
 read_items f [] e = tt
 read_items f (Ok d ∷ more) e = (refl, read_items f more e)
@@ -142,14 +142,14 @@ read_frames : (fs : List Frame) → list_any is_unreadable fs ≡ false → AreR
 read_frames [] e = read_none
 read_frames (f ∷ fs) e =
     let w = or_parts (is_unreadable f) (list_any is_unreadable fs) e in
-    subst AreRead (sym (places-cons f fs)) (read_append (placed f f.items) (places 0 fs) (read_items f f.items w.0) (read_frames fs w.1))
+    subst AreRead (sym (places-cons f fs)) (read_append (descriptor_places f f.items) (places 0 fs) (read_items f f.items w.0) (read_frames fs w.1))
 
 no_end : (xs : List (Result Desc DescFault)) (y : Result Desc DescFault) (ys : List (Result Desc DescFault)) → xs ++ y ∷ ys ≡ [] → ⊥
 no_end [] y ys e = cc
 no_end (x ∷ xs) y ys e = cc
 
 -- a fault is the last of a frame's descriptors
-read_before : (f : Frame) (a : ℕ) (before : List (Result Desc DescFault)) (d : Desc) (after : List (Result Desc DescFault)) → Follow a (before ++ Ok d ∷ after) → AreRead (placed f before)
+read_before : (f : Frame) (a : ℕ) (before : List (Result Desc DescFault)) (d : Desc) (after : List (Result Desc DescFault)) → Follow a (before ++ Ok d ∷ after) → AreRead (descriptor_places f before)
 read_before f a [] d after h = tt
 read_before f a (Ok e ∷ before) d after h = (refl, read_before f e.next before d after h.1)
 read_before f a (Err fault ∷ before) d after h = absurd (no_end before (Ok d) after h)
@@ -177,7 +177,7 @@ order_at : (inner : List Frame) (f : Frame) (outer : List Frame) → All IsInOrd
 order_at [] f outer h = All-head IsInOrder f outer h
 order_at (x ∷ inner) f outer h = order_at inner f outer (All-tail IsInOrder x (inner ++ f ∷ outer) h)
 
-module _ (limit : Option ℕ) (fs : List Frame) (stop : Stop) (w : StopIn limit fs stop) (ordered : All IsInOrder fs) where
+module _ (limit : Option ℕ) (fs : List Frame) (stop : StopFrame) (w : StopIn limit fs stop) (ordered : All IsInOrder fs) where
   abbrev goal : Goal
   goal = record { sp = w.frame.sp; desc = w.own.desc.at }
 
@@ -187,13 +187,13 @@ module _ (limit : Option ℕ) (fs : List Frame) (stop : Stop) (w : StopIn limit 
   order : IsInOrder w.frame
   order = order_at w.inner w.frame w.outer (subst (λ (l : List Frame). All IsInOrder l) w.parts ordered)
 
-  reached_own : is_reached_in goal (placed w.frame w.frame.items) ≡ true
+  reached_own : is_reached_in goal (descriptor_places w.frame w.frame.items) ≡ true
   reached_own =
       let front = read_before w.frame order.address w.own.before w.own.desc w.own.after (subst (λ (l : List (Result Desc DescFault)). Follow order.address l) w.own.parts order.follow) in
       subst (λ (ps : List Place). is_reached_in goal ps ≡ true)
-      (sym (ap (placed w.frame) w.own.parts ∙ map-append (λ (i : Result Desc DescFault). record { frame = w.frame; item = i }) w.own.before (Ok w.own.desc ∷ w.own.after)))
-      (reached_after goal (placed w.frame w.own.before) (place ∷ placed w.frame w.own.after) front
-      (reached_stop goal place (placed w.frame w.own.after) refl (barrier_there w.frame w.own.desc w.own.scope (stops w.own.desc.kind w.own.all))))
+      (sym (ap (descriptor_places w.frame) w.own.parts ∙ map-append (λ (i : Result Desc DescFault). record { frame = w.frame; item = i }) w.own.before (Ok w.own.desc ∷ w.own.after)))
+      (reached_after goal (descriptor_places w.frame w.own.before) (place ∷ descriptor_places w.frame w.own.after) front
+      (reached_stop goal place (descriptor_places w.frame w.own.after) refl (barrier_there w.frame w.own.desc w.own.scope (stops w.own.desc.kind w.own.all))))
 
   reached_all : is_reached goal 0 fs ≡ true
   reached_all =
@@ -201,10 +201,10 @@ module _ (limit : Option ℕ) (fs : List Frame) (stop : Stop) (w : StopIn limit 
       (subst (λ (ps : List Place). is_reached_in goal ps ≡ true) (sym (places-append w.inner (w.frame ∷ w.outer)))
       (reached_after goal (places 0 w.inner) (places 0 (w.frame ∷ w.outer)) (read_frames w.inner w.read)
       (subst (λ (ps : List Place). is_reached_in goal ps ≡ true) (sym (places-cons w.frame w.outer))
-      (reached_append goal (placed w.frame w.frame.items) (places 0 w.outer) reached_own))))
+      (reached_append goal (descriptor_places w.frame w.frame.items) (places 0 w.outer) reached_own))))
 
   pub stop_reached : (object : ℕ) → is_reached (goal_of (stop_barrier object stop)) 0 fs ≡ true
-  stop_reached object = subst (λ (s : Stop). is_reached (goal_of (stop_barrier object s)) 0 fs ≡ true) (sym w.own.is) reached_all
+  stop_reached object = subst (λ (s : StopFrame). is_reached (goal_of (stop_barrier object s)) 0 fs ≡ true) (sym w.own.is) reached_all
 
 -- ---- and below the landing sp of the innermost cleanup in progress
 
@@ -215,20 +215,20 @@ within_of sp (c ∷ more) e = let low : sp ≤ c.sp = grind (arith, nat_tests) i
 -- ---- frames that agree have the same stops
 
 module _ (limit : Option ℕ) (holds : Bool) where
-  seen_any : (n : ℕ) (fs : List Frame) → list_any is_unreadable (take n (map (seen handed_on) fs)) ≡ list_any is_unreadable (take n fs)
+  seen_any : (n : ℕ) (fs : List Frame) → list_any is_unreadable (take n (map (frame_through preserved_registers) fs)) ≡ list_any is_unreadable (take n fs)
   seen_any zero fs = refl
   seen_any (suc n) [] = refl
   seen_any (suc n) (f ∷ more) = rw (seen_any n more) refl
 
-  seen_rest : (faulty : Bool) (n : ℕ) (fs : List Frame) → stop_among limit faulty holds (drop n (map (seen handed_on) fs)) ≡ stop_among limit faulty holds (drop n fs)
+  seen_rest : (faulty : Bool) (n : ℕ) (fs : List Frame) → stop_among limit faulty holds (drop n (map (frame_through preserved_registers) fs)) ≡ stop_among limit faulty holds (drop n fs)
   seen_rest faulty zero [] = refl
   seen_rest faulty zero (f ∷ more) = refl
   seen_rest faulty (suc n) [] = refl
   seen_rest faulty (suc n) (f ∷ more) = seen_rest faulty n more
 
-  seen_stop : (n : ℕ) (fs : List Frame) → stop_at limit holds n (map (seen handed_on) fs) ≡ stop_at limit holds n fs
+  seen_stop : (n : ℕ) (fs : List Frame) → stop_at limit holds n (map (frame_through preserved_registers) fs) ≡ stop_at limit holds n fs
   seen_stop n fs =
-      ap (λ (b : Bool). stop_among limit b holds (drop n (map (seen handed_on) fs))) (seen_any n fs) ∙ seen_rest (list_any is_unreadable (take n fs)) n fs
+      ap (λ (b : Bool). stop_among limit b holds (drop n (map (frame_through preserved_registers) fs))) (seen_any n fs) ∙ seen_rest (list_any is_unreadable (take n fs)) n fs
 
-  pub stops_agree : (n : ℕ) (fs gs : List Frame) → map (seen handed_on) fs ≡ map (seen handed_on) gs → stop_at limit holds n fs ≡ stop_at limit holds n gs
+  pub stops_agree : (n : ℕ) (fs gs : List Frame) → map (frame_through preserved_registers) fs ≡ map (frame_through preserved_registers) gs → stop_at limit holds n fs ≡ stop_at limit holds n gs
   stops_agree n fs gs e = sym (seen_stop n fs) ∙ ap (stop_at limit holds n) e ∙ seen_stop n gs

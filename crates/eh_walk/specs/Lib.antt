@@ -1,15 +1,3 @@
-pub mod guest_gates
-pub use Rattle.eh_machine.specs.event_runs
-pub mod thumb_core
-pub use Rattle.eh_machine.specs.eh_types
-pub mod eh_cxa
-pub mod eh_gates
-pub mod eh_phase
-pub mod frame_check
-pub use Rattle.eh_machine.specs.two_machines
-pub use Rattle.eh_machine.specs.stands_for
-pub use Rattle.eh_machine.specs.resumes_keep
-pub use Rattle.eh_machine.specs.machines_agree
 pub mod Forced
 pub mod Laws
 pub mod Reaching

@@ -5,7 +5,7 @@ use Rattle.elf_image.specs.Image.{Image}
 use Rattle.eh_trace.specs.Text.{place_text}
 use Rattle.eh_walk.specs.declared.walk.WalkFrame.{WalkFrame}
 
--- where a frame stands in its function, and its stack pointer
+-- the place of a frame in its function, and its stack pointer
 abbrev pub frame_line : Image → WalkFrame → List ℕ
 frame_line image f = codes "frame " ++ place_text image f.site ++ codes " sp " ++ address_text f.sp ++ codes "\n"
 

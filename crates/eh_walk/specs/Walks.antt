@@ -1,4 +1,4 @@
--- What a walk gives of a state (docs/walks.md).
+-- What a walk gives of a state (docs/guide/walks-and-threads.md).
 use Rattle.std.specs.Prelude.{ℕ, ◌≡◌, nat_lt, false, List, [], ◌∷◌, length, map, take, slice_index, if◌then◌else◌, Option, Some, None, option_map, Result, Ok, Err}
 use Rattle.elf_image.specs.Image.{Image}
 use Rattle.eh_bus.specs.Memory.{Memory}
@@ -8,12 +8,12 @@ use Rattle.thumb_core.specs.declared.ends.Cause.{Cause}
 use Rattle.thumb_core.specs.declared.ends.Cause.TheVariants.{NoHandler, CannotUnwind, NoThrow, LeavesCleanup, Unexpected, NothingCaught, PoolFull, Called}
 use Rattle.eh_bytecode.specs.declared.frame.Vrs.{Vrs}
 use Rattle.eh_phase.specs.Calls.{stack_of}
-use Rattle.eh_phase.specs.Frames.{Stack, frames_of, covered_at, outer, site_of}
+use Rattle.eh_phase.specs.Frames.{Stack, frames_of, entry_contents_at, outer, site_of}
 use Rattle.eh_phase.specs.Phases.{Frame, Frames}
-use Rattle.eh_phase.specs.declared.walk.Covered.{Covered}
+use Rattle.eh_phase.specs.declared.walk.CoveringEntry.{CoveringEntry}
 use Rattle.eh_phase.specs.declared.walk.Cursor.{Cursor}
-use Rattle.eh_machine.specs.two_machines.Activations.{Recorded, memory_of, frames_at}
-use Rattle.eh_machine.specs.two_machines.Program.{Program}
+use Rattle.sim_machines.specs.Activations.{Recorded, memory_of, frames_at}
+use Rattle.sim_machines.specs.Program.{Program}
 use Rattle.eh_walk.specs.Sites.{site_state}
 use Rattle.eh_walk.specs.declared.walk.Backtrace.{Backtrace}
 use Rattle.eh_walk.specs.declared.walk.WalkEnd.{WalkEnd}
@@ -24,18 +24,18 @@ use Rattle.eh_walk.specs.declared.stands.WalkPlace.TheVariants.{Nothing, Last, I
 
 -- ---- what is shown
 
--- of a frame: the address at which it stands in its function, sp, and r4 to r11
-abbrev pub shown_of : ℕ → ℕ → List ℕ → WalkFrame
-shown_of site sp r = record {
+-- of a frame: its site, sp, and r4 to r11
+abbrev pub walk_frame_of : ℕ → ℕ → List ℕ → WalkFrame
+walk_frame_of site sp r = record {
   site = site;
   sp = sp;
   regs = slice_index r 4 ∷ slice_index r 5 ∷ slice_index r 6 ∷ slice_index r 7 ∷ slice_index r 8 ∷ slice_index r 9 ∷ slice_index r 10 ∷ slice_index r 11 ∷ [];
 }
 
-abbrev pub shown : Frame → WalkFrame
-shown f = shown_of f.site f.sp f.r
+abbrev pub walk_frame : Frame → WalkFrame
+walk_frame f = walk_frame_of f.site f.sp f.r
 
--- of the cause by which frames end: nobody called the outermost, or there is no further frame for another reason
+-- why there are no more frames, from the cause that ends them: nobody called the outermost, or another one
 abbrev pub end_by : Cause → WalkEnd
 end_by NoHandler = Root
 end_by CannotUnwind = NoUnwind
@@ -48,44 +48,44 @@ end_by Called = NoUnwind
 
 -- ---- a walk
 
--- at most so many of these frames, the innermost first; without a site there are none
-abbrev pub frames_given : ℕ → Option Frames → List WalkFrame
-frames_given most None = []
-frames_given most (Some fs) = take most (map shown fs.frames)
+-- at most as many of these frames as asked for, the innermost first; without a site there are none
+abbrev pub walk_frames : ℕ → Option Frames → List WalkFrame
+walk_frames most None = []
+walk_frames most (Some fs) = take most (map walk_frame fs.frames)
 
--- why no further one is given
-abbrev pub end_given : ℕ → Option Frames → WalkEnd
-end_given most None = NotSite
-end_given most (Some fs) = if nat_lt most (length fs.frames) then Most else end_by fs.last
+-- why there is no further one
+abbrev pub end_of_walk : ℕ → Option Frames → WalkEnd
+end_of_walk most None = NotSite
+end_of_walk most (Some fs) = if nat_lt most (length fs.frames) then Most else end_by fs.last
 
 -- a walk that was asked for at most so many frames
 pub record IsWalk (most : ℕ) (o : Option Frames) (t : Backtrace) : Type 0 where
-  pub frames : t.frames.items ≡ frames_given most o
-  pub end : t.end ≡ end_given most o
+  pub frames : t.frames.items ≡ walk_frames most o
+  pub end : t.end ≡ end_of_walk most o
 
--- ---- the frames that are walked, from the site of a state on
+-- ---- the frames of a walk, from the site of a state outwards
 
--- over bytes: those that the tables of the image give of the registers and the memory, and no cleanup in progress ends them
+-- Over bytes: the frames that the image's tables give for the registers and the memory. A cleanup in progress doesn't end them.
 abbrev pub walk_of : Program → Regs → Memory → Option Frames
 walk_of p regs m = option_map (λ site. frames_of p.image (stack_of m) None site (all_of regs)) (site_state p regs m)
 
--- with recorded activations: the first one's, and the frame of each other with what the one inside it recorded at its call
+-- with recorded activations: the first one's own frame, and for each other what the one inside it recorded at its call
 abbrev pub recorded_walk : Program → Recorded → Option Frames
 recorded_walk p s = option_map (λ site. frames_at p.image None site (all_of s.regs) s.first s.outer) (site_state p s.regs (memory_of s))
 
--- ---- one place of a walk
+-- ---- one step of a walk
 
-abbrev pub frame_shown : Cursor → WalkFrame
-frame_shown at = shown_of at.site (slice_index at.vrs.r 13) at.vrs.r
+abbrev pub walk_frame_at : Cursor → WalkFrame
+walk_frame_at at = walk_frame_of at.site (slice_index at.vrs.r 13) at.vrs.r
 
 abbrev pub outside_of : Result Vrs Cause → WalkPlace
 outside_of (Ok next) = Inside (record { vrs = next; site = site_of next.r; innermost = false })
 outside_of (Err cause) = Last (end_by cause)
 
-abbrev pub stands_by : Stack → Cursor → Option Covered → WalkPlace
+abbrev pub stands_by : Stack → Cursor → Option CoveringEntry → WalkPlace
 stands_by stack at None = Nothing
 stands_by stack at (Some c) = outside_of (outer stack None at.innermost c.codes at.vrs.r)
 
 -- no frame, the last one, or one that has another outside it
 unfoldable pub stands_at : Image → Stack → Cursor → WalkPlace
-stands_at image stack at = stands_by stack at (covered_at image at.site)
+stands_at image stack at = stands_by stack at (entry_contents_at image at.site)

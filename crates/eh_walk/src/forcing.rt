@@ -1,12 +1,13 @@
-//! Forced unwinding: an exception is thrown to the frame of a number, past all handlers inside it (docs/walks.md, "Forced unwinding").
+//! Forced unwinding: an exception is thrown to a frame given by its number, past all handlers inside that frame
+//! (docs/guide/walks-and-threads.md, "Forced unwinding").
 ghost use Rattle.std.specs.Prelude.{◌≡◌, ◌≤◌};
 ghost use Rattle.eh_gates.specs.State.{state_of};
-ghost use Rattle.eh_machine.specs.two_machines.Checked.{program_of};
-ghost use Rattle.eh_walk.specs.Forced.{forced, flown, forced_event, stop_barrier};
+ghost use Rattle.sim_machines.specs.Checked.{program_of};
+ghost use Rattle.eh_walk.specs.Forced.{force_outcome, allocate_and_fly, forced_event, stop_barrier};
 ghost use Rattle.eh_walk.specs.Laws.{ForcesActivations};
 
 use crate::sites::site;
-use crate::stopping::{ForceFault, Sought, Stop, stop_from};
+use crate::stopping::{ForceFault, StopFrame, StopRequest, stop_from};
 use eh_bus::bus::Bus;
 use eh_cxa::{allocate, innermost_sp, start_throw};
 use eh_gates::throw_to;
@@ -17,17 +18,18 @@ use eh_trace::event::MAX_BYTES;
 use eh_trace::{Event, EventKind, Events};
 use frame_check::Accepted;
 
-/// What a forced unwinding throws, from where, and to where.
+/// What a forced unwinding throws, from where and to where.
 #[derive(Clone, Copy)]
 pub(crate) struct Forcing {
     /// The site of the innermost frame.
     pub site: u32,
-    /// The type that is thrown.
+    /// The address of the type that is thrown.
     pub ty: u32,
-    pub stop: Stop,
+    /// Where it stops.
+    pub stop: StopFrame,
 }
 
-/// The event of a throw of an object of no bytes.
+/// The event of a throw of an object without bytes.
 fn forced_event(object: u32, ty: u32) -> Event
     ensures is { result ≡ forced_event object ty }
     ensures count { result.count ≤ MAX_BYTES }
@@ -42,7 +44,7 @@ fn forced_event(object: u32, ty: u32) -> Event
     }
 }
 
-fn stop_barrier(object: u32, stop: &Stop) -> Barrier
+fn stop_barrier(object: u32, stop: &StopFrame) -> Barrier
     ensures { result ≡ stop_barrier object stop.now }
 {
     Barrier {
@@ -53,15 +55,16 @@ fn stop_barrier(object: u32, stop: &Stop) -> Barrier
     }
 }
 
-/// A new exception flies to the stop, after the event of its throw. `PoolFull` where no slot is free, and then nothing changes.
-fn fly<B: Bus>(
+/// Makes a new exception, records the event of its throw, and lets it fly to the stop. `PoolFull` if no slot is free, and then nothing
+/// changes.
+fn allocate_and_fly<B: Bus>(
     a: &Accepted,
     core: &mut Core,
     shared: &mut Shared<B>,
     events: &mut Events,
     f: &Forcing,
 ) -> Result<(), ForceFault>
-    ensures { (result, state_of core.new (B.memory shared.new.bus) events.new) ≡ flown (program_of a.now) f.now (state_of core.old (B.memory shared.old.bus) events.old) }
+    ensures { (result, state_of core.new (B.memory shared.new.bus) events.new) ≡ allocate_and_fly (program_of a.now) f.now (state_of core.old (B.memory shared.old.bus) events.old) }
 {
     let object = match allocate(&mut shared.bus, 0) {
         Ok(object) => object,
@@ -78,9 +81,9 @@ fn fly<B: Bus>(
     }
 }
 
-/// Unwinds to the frame of a number, the innermost being 0, past all handlers inside it: an object of no bytes and of a type is thrown from
-/// the state's site, and its barrier is the first catch of everything in scope in that frame. Each refusal leaves everything as it was, and
-/// the first that is so is told. It takes no memory. It does the same over recorded activations.
+/// Unwinds to frame `number` (0 is the innermost), past all handlers inside it. An object without bytes, of a given type, is thrown from
+/// the state's site. Its barrier is the first catch of everything in scope in that frame. Each refusal leaves everything as it was; the
+/// first that applies is given. Takes no memory. The machine with recorded activations does the same.
 pub fn force<B: Bus>(
     a: &Accepted,
     core: &mut Core,
@@ -89,7 +92,7 @@ pub fn force<B: Bus>(
     stop: usize,
     ty: u32,
 ) -> Result<(), ForceFault>
-    ensures bytes { (result, state_of core.new (B.memory shared.new.bus) events.new) ≡ forced (program_of a.now) stop ty (state_of core.old (B.memory shared.old.bus) events.old) }
+    ensures bytes { (result, state_of core.new (B.memory shared.new.bus) events.new) ≡ force_outcome (program_of a.now) stop ty (state_of core.old (B.memory shared.old.bus) events.old) }
     ensures recorded { ForcesActivations a.now stop ty (state_of core.old (B.memory shared.old.bus) events.old) result (state_of core.new (B.memory shared.new.bus) events.new) }
 {
     a.holds();
@@ -98,13 +101,13 @@ pub fn force<B: Bus>(
         return Err(ForceFault::NotSite);
     };
     let t = tables(a);
-    let sought = Sought {
+    let sought = StopRequest {
         number: stop,
         limit: innermost_sp(&shared.bus, &core.globals),
         holds: t.types.holds(ty),
     };
     match stop_from(&t, &shared.bus, &core.regs, from, &sought) {
-        Ok(stop) => fly(
+        Ok(stop) => allocate_and_fly(
             a,
             core,
             shared,

@@ -1,4 +1,4 @@
-//! Walks over the frames of a running program, and forced unwinding to one of them (docs/walks.md).
+//! Walks over the frames of a running program, and forced unwinding to one of them (docs/guide/walks-and-threads.md).
 #![tactic(auto)]
 
 pub mod forcing;

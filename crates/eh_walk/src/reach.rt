@@ -1,7 +1,7 @@
-//! A run that goes on to a site (docs/walks.md, "How far a run goes").
+//! A run that goes on until it is at a site (docs/guide/walks-and-threads.md, "Sites").
 ghost use Rattle.std.specs.Prelude.{◌≡◌, ◌-◌, ◌&&◌, nat_le, is_some, IfSome};
 ghost use Rattle.eh_gates.specs.State.{State, state_of};
-ghost use Rattle.eh_machine.specs.two_machines.Checked.{program_of};
+ghost use Rattle.sim_machines.specs.Checked.{program_of};
 ghost use Rattle.eh_machine.specs.Turns.{CountsFaults};
 ghost use Rattle.eh_walk.specs.Reaching.{RunsToSite, most_events};
 ghost use Rattle.eh_walk.specs.Sites.{site_state};
@@ -13,32 +13,33 @@ use eh_port::{Sink, Source};
 use frame_check::Accepted;
 use thumb_core::ends::End;
 
-/// How many events a run goes on for at most to come to a site.
+/// The most events that a run may go on after its budget to reach a site.
 pub const MOST_FURTHER: u64 = 1_000_000;
 
-/// A run to a site that is over.
+/// A run to a site that has ended.
 #[derive(Clone, Copy)]
 pub struct SiteRun {
+    /// Why it ended.
     pub end: End,
-    /// How many events went; one that ended the run did not.
+    /// How many events were done. An event that ended the run isn't counted.
     pub done: u128,
 }
 
-/// How many events a run of this budget has at most.
+/// The most events that a run of this budget does.
 fn most_events(budget: u64) -> u128
     ensures { result ≡ most_events budget }
 {
     u128::from(budget) + u128::from(MOST_FURTHER)
 }
 
-/// What is left of a budget after an event.
-fn left_after(left: u64) -> u64
+/// The budget after an event.
+fn budget_after_event(left: u64) -> u64
     ensures { result ≡ left - 1 }
 {
     left.saturating_sub(1)
 }
 
-/// Whether as many events went as the budget has, and the state stands at a site.
+/// Whether the budget is spent and the state stands at a site.
 fn stands_there<B: Bus>(
     a: &Accepted,
     budget: u64,
@@ -51,8 +52,8 @@ fn stands_there<B: Bus>(
     u128::from(budget) <= done && site(a, core, shared).is_some()
 }
 
-/// Runs the events that are left of the budget, and then further ones until the state stands at a site, at most so many as it may go on for:
-/// where the run isn't ended on the way, its end is that of a spent budget. Takes no memory.
+/// Spends the budget, and then goes on until the state stands at a site, for at most `MOST_FURTHER` events. If no event ends the run on the
+/// way, its end is `Budget`. Takes no memory.
 pub fn run_to_site<B: Bus, I: Source, O: Sink>(
     machine: &mut Machine<B>,
     input: &mut I,
@@ -86,7 +87,7 @@ pub fn run_to_site<B: Bus, I: Source, O: Sink>(
             out,
         ) {
             Turned::Went => {
-                machine.left = left_after(machine.left);
+                machine.left = budget_after_event(machine.left);
                 done += 1;
             }
             Turned::Ended(end) => return SiteRun { end, done },

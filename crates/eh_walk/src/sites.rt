@@ -1,6 +1,6 @@
-//! Where the innermost frame of a state stands in its function (docs/walks.md, "Sites").
+//! The site of a state's innermost frame (docs/guide/walks-and-threads.md, "Sites").
 ghost use Rattle.std.specs.Prelude.{◌≡◌};
-ghost use Rattle.eh_machine.specs.two_machines.Checked.{program_of};
+ghost use Rattle.sim_machines.specs.Checked.{program_of};
 ghost use Rattle.eh_walk.specs.Sites.{site_by, site_state};
 
 use eh_bus::bus::Bus;
@@ -9,7 +9,8 @@ use frame_check::Accepted;
 use thumb_core::step::fetch_for;
 use thumb_isa::instr::Instr;
 
-/// The site of an instruction at an address: of a gate and of BLX its address, of BL that of its second halfword; no other has one.
+/// The site of an instruction at an address. For an SVC and BLX it is the address, for BL that of its second halfword. No other instruction
+/// has one.
 fn site_by(pc: u32, i: Instr) -> Option<u32>
     ensures { result ≡ site_by pc i }
 {
@@ -25,8 +26,8 @@ fn site_by(pc: u32, i: Instr) -> Option<u32>
     None
 }
 
-/// The site at which a state stands, by the rows of the image's profile. None where the checker reached no instruction at pc, and where the one
-/// that the memory has there is no gate and no call.
+/// The site at which a state stands, by the rows of the image's profile. None if the checker reached no instruction at pc, and if the
+/// instruction in memory there is no SVC and no call.
 #[tactic(auto, unfolding(crate::specs::Sites::site_state))]
 pub fn site<B: Bus>(a: &Accepted, core: &Core, shared: &Shared<B>) -> Option<u32>
     ensures { result ≡ site_state (program_of a.now) core.now.regs (B.memory shared.now.bus) }

@@ -1,8 +1,8 @@
-//! What stands at a place of a walk, and where the walk goes on (docs/walks.md, "Frames").
+//! One step of a walk: whether a frame stands at a place, and where the walk goes on (docs/guide/walks-and-threads.md, "Frames").
 ghost use Rattle.std.specs.Prelude.{◌≡◌, None, Some, is_some, slice_index};
 ghost use Rattle.eh_index.specs.Places.{table_of};
 ghost use Rattle.eh_phase.specs.Calls.{stack_of};
-ghost use Rattle.eh_phase.specs.Frames.{codes_of, covered_at, checked, is_no_frame, site_of};
+ghost use Rattle.eh_phase.specs.Frames.{codes_of, entry_contents_at, check_caller, is_no_frame, site_of};
 ghost use Rattle.thumb_core.specs.Registers.{all_of};
 ghost use Rattle.eh_walk.specs.Walks.{outside_of, stands_at};
 
@@ -12,21 +12,21 @@ use eh_bytecode::{Codes, Vrs};
 use eh_index::{Entry, EntryBody, Index};
 use eh_phase::walk::Cursor;
 use eh_phase::{Tables, caller_at};
-use guest_gates::NO_CALLER;
+use run_gates::NO_CALLER;
 use thumb_core::regs::Regs;
 
-/// What stands at a place of a walk.
+/// What a step of a walk finds.
 #[derive(Clone, Copy)]
 pub(crate) enum WalkPlace {
-    /// No frame: no entry covers the site, or it can't be unwound, or its codes can't be read.
+    /// No frame: no entry covers the site, its entry can't be unwound, or its codes can't be read.
     Nothing,
-    /// A frame, and why none stands outside it.
+    /// A frame, and why there is none outside it.
     Last(WalkEnd),
-    /// A frame, and the place of the one outside it.
+    /// A frame, and where to find the one outside it.
     Inside(Cursor),
 }
 
-/// The registers as those of a frame; pc is the last of them.
+/// The virtual registers of a frame with these registers; pc is the last of them.
 pub(crate) fn registers(regs: &Regs) -> Vrs
     ensures { result.r ≡ all_of regs.now }
 {
@@ -53,10 +53,10 @@ fn has_codes(index: &Index, entry: &Entry) -> bool
     }
 }
 
-/// Whether a frame stands at a site: an entry covers it, and its codes can be read.
-#[tactic(auto, unfolding(eh_phase::specs::Frames::covered_at))]
+/// Whether a frame stands at a site: an entry covers the site, and its codes can be read.
+#[tactic(auto, unfolding(eh_phase::specs::Frames::entry_contents_at))]
 pub(crate) fn is_covered(index: &Index, site: u32) -> bool
-    ensures { result ≡ is_some (covered_at index.now site) }
+    ensures { result ≡ is_some (entry_contents_at index.now site) }
 {
     match index.find(site) {
         None => false,
@@ -70,7 +70,7 @@ fn is_no_frame(end: u32, innermost: bool, sp: u32, next: u32) -> bool
     next < sp || (!innermost && next == sp) || end < next
 }
 
-/// The address of the call by its return address.
+/// The site of a call, from its return address.
 fn site_of(vrs: &Vrs) -> u32
     ensures { result ≡ site_of vrs.now.r }
 {
@@ -78,9 +78,9 @@ fn site_of(vrs: &Vrs) -> u32
     (back - back % 2).wrapping_sub(2)
 }
 
-/// What the registers that the codes of a frame gave are: those of the frame outside it, or none.
+/// What the registers after unwinding a frame are: those of the frame outside it, or of none.
 fn outside(end: u32, at: &Cursor, next: Vrs) -> WalkPlace
-    ensures { result ≡ outside_of (checked end None at.now.innermost (slice_index at.now.vrs.r 13) (Some next)) }
+    ensures { result ≡ outside_of (check_caller end None at.now.innermost (slice_index at.now.vrs.r 13) (Some next)) }
 {
     if is_no_frame(end, at.innermost, at.vrs.r[13], next.r[13]) {
         WalkPlace::Last(WalkEnd::NoUnwind)
@@ -95,7 +95,7 @@ fn outside(end: u32, at: &Cursor, next: Vrs) -> WalkPlace
     }
 }
 
-/// What stands at a place of a walk.
+/// What a walk finds at a place.
 #[tactic(auto, unfolding(eh_phase::specs::Frames::outer))]
 pub(crate) fn stands_at<B: Bus>(t: &Tables, bus: &B, at: &Cursor) -> WalkPlace
     ensures { result ≡ stands_at t.now.index (stack_of (B.memory bus.now)) at.now }

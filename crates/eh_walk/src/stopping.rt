@@ -1,10 +1,10 @@
-//! Where a forced unwinding stops (docs/walks.md, "Forced unwinding").
+//! Where a forced unwinding stops (docs/guide/walks-and-threads.md, "Forced unwinding").
 ghost use Rattle.std.specs.Prelude.{◌≡◌, ◌||◌, IfSome, None, is_some};
 ghost use Rattle.eh_phase.specs.Calls.{frame_at, stack_of};
 ghost use Rattle.eh_phase.specs.Firsts.{first_some};
-ghost use Rattle.eh_phase.specs.Frames.{covered_at, frames_of, is_above};
+ghost use Rattle.eh_phase.specs.Frames.{entry_contents_at, frames_of, is_above};
 ghost use Rattle.thumb_core.specs.Registers.{all_of};
-ghost use Rattle.eh_walk.specs.Stops.{takes_all, stop_by, fault_of, stopped, stop_at, items_at, stop_here};
+ghost use Rattle.eh_walk.specs.Stops.{takes_all, stop_by, fault_of, stop_or_fault, stop_at, items_at, stop_here};
 
 use crate::stands::{WalkPlace, is_covered, registers, stands_at};
 use eh_bus::bus::Bus;
@@ -14,20 +14,20 @@ use eh_phase::Tables;
 use eh_phase::walk::Cursor;
 use thumb_core::regs::Regs;
 
-/// Why nothing was thrown.
+/// Why a forced unwinding was refused.
 #[derive(Clone, Copy, Debug)]
 pub enum ForceFault {
-    /// The state stands at no call and at no gate.
+    /// The state stands at no call and at no SVC.
     NotSite,
-    /// The walk has no frame of the number.
+    /// The walk has no frame with the number.
     NoFrame,
-    /// A cleanup is in progress, and the frame stands above its landing sp.
+    /// A cleanup is in progress, and the frame lies above its landing sp.
     InsideCleanup,
     /// The frame has no catch of everything in scope.
     NoStop,
     /// The descriptors of a frame inside it can't be read.
     BadTables,
-    /// There is no such type.
+    /// The address is no type of the image.
     BadType,
     /// No slot of the pool is free.
     PoolFull,
@@ -35,23 +35,23 @@ pub enum ForceFault {
 
 /// Where a forced unwinding stops.
 #[derive(Clone, Copy)]
-pub struct Stop {
+pub struct StopFrame {
     /// The stack pointer of its frame.
     pub sp: u32,
-    /// The address of its descriptor.
+    /// The address of the descriptor at which it stops.
     pub desc: u32,
-    /// The address at which the frame stands in its function.
+    /// The frame's site: the address in its function at which it stands.
     pub site: u32,
 }
 
-/// What is asked for of a forced unwinding, besides where it begins.
+/// What a forced unwinding asks for, besides where it begins.
 #[derive(Clone, Copy)]
-pub(crate) struct Sought {
-    /// The number of the frame, the innermost being 0.
+pub(crate) struct StopRequest {
+    /// The number of the frame; 0 is the innermost.
     pub number: usize,
-    /// The landing sp of the innermost cleanup in progress, above which the frame may not stand.
+    /// The landing sp of the innermost cleanup in progress. The frame may not lie above it.
     pub limit: Option<u32>,
-    /// Whether the type is one.
+    /// Whether the image's types include the type to be thrown.
     pub holds: bool,
 }
 
@@ -68,14 +68,14 @@ fn takes_all(kind: &DescKind) -> bool
     }
 }
 
-/// The stop that an item of a frame's descriptors is.
-fn stop_by(at: &Cursor, item: Result<Desc, DescFault>) -> Option<Stop>
+/// The stop that one descriptor of a frame gives, if it is one.
+fn stop_by(at: &Cursor, item: Result<Desc, DescFault>) -> Option<StopFrame>
     ensures { result ≡ stop_by (frame_at at.now) item }
 {
     match item {
         Ok(desc) => {
             if desc.covers(at.site) && takes_all(&desc.kind) {
-                Some(Stop {
+                Some(StopFrame {
                     sp: at.vrs.r[13],
                     desc: desc.at,
                     site: at.site,
@@ -88,9 +88,9 @@ fn stop_by(at: &Cursor, item: Result<Desc, DescFault>) -> Option<Stop>
     }
 }
 
-/// The first stop of some descriptors.
+/// The first stop among some descriptors.
 #[tactic(auto, using(eh_phase::proofs::First::first_past, eh_phase::proofs::First::first_here, eh_phase::proofs::First::first_none))]
-fn first_stop(at: &Cursor, descs: Descs) -> Option<Stop>
+fn first_stop(at: &Cursor, descs: Descs) -> Option<StopFrame>
     ensures { result ≡ first_some (stop_by (frame_at at.now)) descs.entry }
 {
     for item in descs {
@@ -125,9 +125,9 @@ fn first_fault(descs: Descs) -> Option<DescFault>
     None
 }
 
-/// The first stop of the entry that covers the site.
+/// The first stop in the entry that covers the site.
 #[tactic(auto, using(eh_phase::proofs::First::first_none), unfolding(crate::specs::Stops::items_at))]
-fn stop_of_site(index: &Index, at: &Cursor) -> Option<Stop>
+fn stop_of_site(index: &Index, at: &Cursor) -> Option<StopFrame>
     ensures { result ≡ first_some (stop_by (frame_at at.now)) (items_at index.now at.now.site) }
 {
     match index.find(at.site) {
@@ -147,7 +147,7 @@ fn fault_of_site(index: &Index, site: u32) -> Option<DescFault>
     }
 }
 
-/// Whether there was a frame that can't be read, or the one at a site can't.
+/// Whether an earlier frame was unreadable, or the descriptors of the one at a site are.
 fn or_unreadable(faulty: bool, index: &Index, site: u32) -> bool
     ensures { result ≡ (faulty || is_some (first_some fault_of (items_at index.now site))) }
 {
@@ -163,9 +163,14 @@ fn is_above(limit: Option<u32>, sp: u32) -> bool
     }
 }
 
-/// What is found in the frame of the number.
-fn stopped(faulty: bool, holds: bool, stop: Option<Stop>) -> Result<Stop, ForceFault>
-    ensures { result ≡ stopped faulty holds stop }
+/// What is found in the frame asked for. `faulty` says whether a frame inside it is unreadable, `holds` whether the type is one of the
+/// image.
+fn stop_or_fault(
+    faulty: bool,
+    holds: bool,
+    stop: Option<StopFrame>,
+) -> Result<StopFrame, ForceFault>
+    ensures { result ≡ stop_or_fault faulty holds stop }
 {
     match stop {
         None => Err(ForceFault::NoStop),
@@ -181,8 +186,13 @@ fn stopped(faulty: bool, holds: bool, stop: Option<Stop>) -> Result<Stop, ForceF
     }
 }
 
-/// What is found where the frame of the number would stand.
-fn stop_here(index: &Index, sought: &Sought, faulty: bool, at: &Cursor) -> Result<Stop, ForceFault>
+/// What is found where the frame asked for would stand.
+fn stop_here(
+    index: &Index,
+    sought: &StopRequest,
+    faulty: bool,
+    at: &Cursor,
+) -> Result<StopFrame, ForceFault>
     ensures { result ≡ stop_here index.now sought.now.limit faulty sought.now.holds at.now }
 {
     if !is_covered(index, at.site) {
@@ -191,17 +201,17 @@ fn stop_here(index: &Index, sought: &Sought, faulty: bool, at: &Cursor) -> Resul
     if is_above(sought.limit, at.vrs.r[13]) {
         return Err(ForceFault::InsideCleanup);
     }
-    stopped(faulty, sought.holds, stop_of_site(index, at))
+    stop_or_fault(faulty, sought.holds, stop_of_site(index, at))
 }
 
-/// Where a forced unwinding stops that begins with registers at a site. It takes no memory, and unwinds each frame on the way once.
+/// Where a forced unwinding from these registers and this site stops. Takes no memory, and unwinds each frame on the way once.
 pub(crate) fn stop_from<B: Bus>(
     t: &Tables,
     bus: &B,
     regs: &Regs,
     site: u32,
-    sought: &Sought,
-) -> Result<Stop, ForceFault>
+    sought: &StopRequest,
+) -> Result<StopFrame, ForceFault>
     ensures { result ≡ stop_at sought.now.limit sought.now.holds sought.now.number (frames_of t.now.index (stack_of (B.memory bus.now)) None site (all_of regs.now)).frames }
 {
     let mut at = Cursor {

@@ -1,9 +1,9 @@
-//! The frames from a site of a state on (docs/walks.md, "Frames").
+//! The frames from a site outwards (docs/guide/walks-and-threads.md, "Frames").
 ghost use Rattle.std.specs.Prelude.{◌≡◌, ◌++◌, ◌∷◌, [], IfOk, None, Some};
 ghost use Rattle.eh_phase.specs.Calls.{stack_of};
 ghost use Rattle.eh_phase.specs.Frames.{frames_of};
 ghost use Rattle.thumb_core.specs.Registers.{all_of};
-ghost use Rattle.eh_walk.specs.Walks.{IsWalk, frame_shown};
+ghost use Rattle.eh_walk.specs.Walks.{IsWalk, walk_frame_at};
 
 use crate::stands::{WalkPlace, is_covered, registers, stands_at};
 use eh_bus::bus::Bus;
@@ -15,37 +15,40 @@ use thumb_core::regs::Regs;
 /// What a walk shows of a frame.
 #[derive(Clone, Copy)]
 pub struct WalkFrame {
-    /// The address at which the frame stands in its function.
+    /// The frame's site: the address in its function at which it stands.
     pub site: u32,
     /// Its stack pointer.
     pub sp: u32,
-    /// Its registers r4 to r11.
+    /// Its registers r4 to r11, in this order.
     pub regs: [u32; 8],
 }
 
 /// Why a walk gives no further frame.
 #[derive(Clone, Copy, Debug)]
 pub enum WalkEnd {
-    /// Nobody called the outermost of its frames.
+    /// Nobody called the outermost frame.
     Root,
-    /// The next frame can't be told: no entry covers a site, or one that can't be unwound, or the codes of a frame give no frame.
+    /// The next frame can't be found: no entry covers a site, an entry can't be unwound, or the codes of a frame give no frame.
     NoUnwind,
-    /// As many frames were given as were asked for, and a further one stands there.
+    /// As many frames as asked for were given, and there is a further one.
     Most,
-    /// The state stands at no call and at no gate.
+    /// The state stands at no call and at no SVC.
     NotSite,
 }
 
-/// A walk: its frames, the innermost first, and why it gives no further one.
+/// A walk: its frames, and why there are no more.
 #[derive(Drop)]
 pub struct Backtrace {
+    /// The frames, the innermost first.
     pub frames: Vec<WalkFrame>,
+    /// Why there is no further frame.
     pub end: WalkEnd,
 }
 
-/// Why there is no walk.
+/// Lack of memory for the list of frames.
 #[derive(Clone, Copy)]
 pub enum WalkMemory {
+    /// An allocation failed.
     OutOfMemory,
 }
 
@@ -55,9 +58,9 @@ impl<T: Drop> From<AllocFailed<T>> for WalkMemory {
     }
 }
 
-/// What a walk shows of the frame at its place.
-fn frame_shown(at: &Cursor) -> WalkFrame
-    ensures { result ≡ frame_shown at.now }
+/// What a walk shows of the frame at a place.
+fn walk_frame_at(at: &Cursor) -> WalkFrame
+    ensures { result ≡ walk_frame_at at.now }
 {
     let r = at.vrs.r;
     WalkFrame {
@@ -67,16 +70,20 @@ fn frame_shown(at: &Cursor) -> WalkFrame
     }
 }
 
-/// The walk with these frames and, as the last, the one at a place.
-fn ended_by(mut frames: Vec<WalkFrame>, at: &Cursor, end: WalkEnd) -> Result<Backtrace, WalkMemory>
-    ensures frames { IfOk result (λ w. w.frames.items ≡ frames.items ++ (frame_shown at.now ∷ [])) }
+/// The walk with these frames and one more, the last.
+fn backtrace_with_last(
+    mut frames: Vec<WalkFrame>,
+    at: &Cursor,
+    end: WalkEnd,
+) -> Result<Backtrace, WalkMemory>
+    ensures frames { IfOk result (λ w. w.frames.items ≡ frames.items ++ (walk_frame_at at.now ∷ [])) }
     ensures end { IfOk result (λ w. w.end ≡ end) }
 {
-    frames.push(frame_shown(at))?;
+    frames.push(walk_frame_at(at))?;
     Ok(Backtrace { frames, end })
 }
 
-/// The frames from registers and a site on, the innermost first, at most so many.
+/// The frames from registers and a site outwards, the innermost first, at most as many as asked for.
 pub(crate) fn walk_from<B: Bus>(
     alloc: Global,
     t: &Tables,
@@ -101,9 +108,9 @@ pub(crate) fn walk_from<B: Bus>(
                     end: WalkEnd::NoUnwind,
                 });
             }
-            WalkPlace::Last(end) => return ended_by(frames, &at, end),
+            WalkPlace::Last(end) => return backtrace_with_last(frames, &at, end),
             WalkPlace::Inside(next) => {
-                frames.push(frame_shown(&at))?;
+                frames.push(walk_frame_at(&at))?;
                 at = next;
             }
         }

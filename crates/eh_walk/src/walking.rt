@@ -1,6 +1,6 @@
-//! The frames of a running program, the innermost first (docs/walks.md).
+//! The frames of a running program, the innermost first (docs/guide/walks-and-threads.md).
 ghost use Rattle.std.specs.Prelude.{◌≡◌, IfOk};
-ghost use Rattle.eh_machine.specs.two_machines.Checked.{program_of};
+ghost use Rattle.sim_machines.specs.Checked.{program_of};
 ghost use Rattle.eh_walk.specs.Walks.{IsWalk, walk_of};
 ghost use Rattle.eh_walk.specs.Laws.{WalksActivations};
 
@@ -11,8 +11,8 @@ use eh_machine::{Core, Shared, tables};
 use frame_check::Accepted;
 use std::alloc::Global;
 
-/// The frames of a state, the innermost first, at most so many. It takes memory for their list alone, and unwinds each frame once. Its
-/// frames are those of the recorded activations.
+/// The frames of a state, the innermost first, at most as many as asked for. Takes memory for their list only, and unwinds each frame once.
+/// They are the frames of the recorded activations.
 pub fn backtrace<B: Bus>(
     alloc: Global,
     a: &Accepted,

@@ -1,4 +1,4 @@
-//! Addresses in the lines that are written: eight upper-case hexadecimal digits (docs/command-line.md, docs/exceptions.md).
+//! Addresses in printed lines: eight upper-case hexadecimal digits (docs/guide/command-line.md, docs/rules/phases-and-exceptions.md).
 ghost use Rattle.std.specs.Prelude.{◌≡◌, ◌<◌};
 ghost use Rattle.eh_word.specs.Address.{hex_digit, address_text, ReadsBack};
 
@@ -31,7 +31,7 @@ pub fn address_text(n: u32) -> [u8; 8]
     ]
 }
 
-/// The digits of an address, read as a number to the base 16, are the address.
+/// The digits of an address, read as a hexadecimal number, give the address.
 pub fn addresses_read_back()
     ensures { ReadsBack }
 {}

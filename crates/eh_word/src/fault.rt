@@ -1,19 +1,19 @@
-//! Why a number or a name of this crate cannot be had.
+//! The errors of this crate.
 use std::alloc::AllocError;
 
-/// Why no ULEB128 number stands at a place.
+/// Why there is no ULEB128 number at an offset.
 #[derive(Clone, Copy, Debug)]
 pub enum WordFault {
-    /// The bytes end before a byte with bit 7 clear, and before five bytes.
+    /// The bytes end before the number does.
     Ends,
     /// The fifth byte is above 0x0F: the number has more than 32 bits.
     TooWide,
 }
 
-/// Want of memory for a name.
+/// A name could not be allocated.
 #[derive(Clone, Copy, Debug)]
 pub enum NameMemory {
-    /// No memory is left for the bytes.
+    /// Memory ran out.
     OutOfMemory,
 }
 

@@ -1,4 +1,4 @@
-//! Names of symbols: bytes that are compared, hashed and found as such.
+//! Names of symbols, compared and hashed by their bytes.
 ghost use Rattle.std.specs.Prelude.{◌≡◌, IfOk, IsOkUnless};
 ghost use Rattle.eh_word.specs.Names.{same_bytes};
 ghost use Rattle.std.specs.Cmp.{partial_equiv_from_equiv};
@@ -12,7 +12,7 @@ use std::alloc::Global;
 use std::hash::{Hash, Hasher};
 use std::marker::Model;
 
-/// A name: bytes that contracts see as their list.
+/// A name. Contracts see the list of its bytes.
 #[derive(Debug, Drop)]
 pub struct Name {
     bytes: Vec<u8>,
@@ -27,7 +27,7 @@ impl Model for Name {
 }
 
 impl Name {
-    /// The name of these bytes, which are copied.
+    /// A name with a copy of these bytes. Err if memory runs out.
     pub fn of(alloc: Global, bytes: &[u8]) -> Result<Name, NameMemory>
         ensures { IfOk result (λ n. n ≡ bytes.now) }
     {
@@ -36,14 +36,14 @@ impl Name {
         })
     }
 
-    /// The name of these bytes, which are kept.
+    /// A name of these bytes, without copying.
     pub fn of_vec(bytes: Vec<u8>) -> Name
         ensures { result ≡ bytes.items }
     {
         Name { bytes }
     }
 
-    /// The bytes that the name was made of.
+    /// The bytes of the name.
     pub fn bytes(&self) -> &[u8]
         ensures { result.now ≡ self.now }
     {

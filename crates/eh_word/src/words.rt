@@ -1,15 +1,15 @@
-//! Words of two and four bytes, relative addresses (IHI 0044, R_ARM_PREL31) and ULEB128 numbers (DWARF).
+//! Little-endian words, relative addresses (IHI 0044, R_ARM_PREL31) and ULEB128 numbers (DWARF).
 ghost use Rattle.std.specs.Prelude.{◌≡◌, ◌+◌, ◌-◌, ◌*◌, ◌^◌, ◌<◌, ◌≤◌, length, take};
 ghost use Rattle.std.specs.List.{prefix_len};
-ghost use Rattle.eh_word.specs.Words.{signed, prel31_of, number_at, has_more, base_128, uleb128_of};
+ghost use Rattle.eh_word.specs.Words.{signed_value, prel31_of, number_at, has_more, base_128, uleb128_of};
 
 use crate::fault::WordFault;
 use byteorder::{ByteOrder, LittleEndian};
 
-/// A number of 31 bits read as two's complement.
+/// A 31-bit number in two's complement.
 fn signed_31(value: u32) -> i32
     requires { value < 2 ^ 31 }
-    ensures { result ≡ signed 31 value }
+    ensures { result ≡ signed_value 31 value }
 {
     if value < 0x4000_0000 {
         value as i32
@@ -18,8 +18,8 @@ fn signed_31(value: u32) -> i32
     }
 }
 
-/// The address that a 31-bit relative word stands for (R_ARM_PREL31): `place`, the address of the word, plus bits
-/// 30 to 0 of `word` as a signed number, modulo 2^32. Bit 31 is ignored.
+/// The target of a 31-bit relative word (R_ARM_PREL31): the word's address `place` plus its bits 30 to 0 as a signed
+/// number, modulo 2^32. Bit 31 is ignored.
 #[tactic(auto, unfolding(crate::specs::Words::prel31_of))]
 pub fn prel31(place: u32, word: u32) -> u32
     ensures { result ≡ prel31_of place word }
@@ -27,7 +27,7 @@ pub fn prel31(place: u32, word: u32) -> u32
     place.wrapping_add_signed(signed_31(word % 0x8000_0000))
 }
 
-/// The word at offset `at`, the lowest byte first. None exactly where fewer than four bytes stand there.
+/// The word at offset `at`, lowest byte first. None exactly if fewer than four bytes are left there.
 #[tactic(auto, unfolding(crate::specs::Words::number_at))]
 pub fn get_word(bytes: &[u8], at: usize) -> Option<u32>
     ensures { result ≡ number_at 4 bytes.now at }
@@ -39,7 +39,7 @@ pub fn get_word(bytes: &[u8], at: usize) -> Option<u32>
     }
 }
 
-/// The halfword at offset `at`, the lowest byte first. None exactly where fewer than two bytes stand there.
+/// The halfword at offset `at`, lowest byte first. None exactly if fewer than two bytes are left there.
 #[tactic(auto, unfolding(crate::specs::Words::number_at))]
 pub fn get_half(bytes: &[u8], at: usize) -> Option<u16>
     ensures { result ≡ number_at 2 bytes.now at }
@@ -51,17 +51,17 @@ pub fn get_half(bytes: &[u8], at: usize) -> Option<u16>
     }
 }
 
-/// The most bytes of a ULEB128 number of 32 bits.
+/// The most bytes of a 32-bit ULEB128 number.
 pub const ULEB128_BYTES: usize = 5;
 
-/// The most that the last of so many bytes is: bits 28 to 31 of the number.
+/// The greatest value of the fifth byte, which holds bits 28 to 31 of the number.
 pub const ULEB128_LAST: u8 = 0x0f;
 
-/// The bit of a byte that says that another one of the same number follows.
+/// The bit of a byte that says that another byte follows.
 pub const ULEB128_MORE: u8 = 0x80;
 
-/// How many of the first four bytes have bit 7 set, up to the first that hasn't.
-fn continued(bytes: &[u8]) -> usize
+/// How many of the first four bytes have bit 7 set, up to the first one without.
+fn continuation_count(bytes: &[u8]) -> usize
     ensures count { result ≡ prefix_len has_more (take (ULEB128_BYTES - 1) bytes.now) }
     ensures within { result ≤ ULEB128_BYTES - 1 }
 {
@@ -74,7 +74,7 @@ fn continued(bytes: &[u8]) -> usize
     front.len()
 }
 
-/// The number whose digits in base 128 are the low seven bits of the bytes, the lowest first.
+/// The number whose base-128 digits are the low seven bits of the bytes, lowest first.
 fn base_128(bytes: &[u8]) -> u32
     requires { base_128 bytes.now < 2 ^ 32 }
     ensures { result ≡ base_128 bytes.now }
@@ -85,16 +85,15 @@ fn base_128(bytes: &[u8]) -> u32
     }
 }
 
-/// The ULEB128 number (DWARF) at offset `at`, and the offset after it. Longer spellings of small numbers are
-/// accepted. Ends exactly where the bytes end before a byte with bit 7 clear and before five bytes; TooWide exactly
-/// where the fifth byte is above 0x0F.
+/// The ULEB128 number (DWARF) at offset `at`, and the offset after it. Encodings longer than needed are accepted. Ends
+/// exactly if the bytes end before the number does; TooWide exactly if the fifth byte is above 0x0F.
 #[tactic(auto, using(crate::proofs::Digits::digits_fit), unfolding(crate::specs::Words::uleb128_of))]
 pub fn uleb128(bytes: &[u8], at: usize) -> Result<(u32, usize), WordFault>
     requires { at ≤ length bytes.now }
     ensures { result ≡ uleb128_of bytes.now at }
 {
     let rest = &bytes[at..];
-    let last = continued(rest);
+    let last = continuation_count(rest);
     if rest.len() <= last {
         return Err(WordFault::Ends);
     }

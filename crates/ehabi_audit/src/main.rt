@@ -1,7 +1,9 @@
-//! The program: what `ehabi_audit_host` does with its system. Its words and its statuses are those of docs/audit.md.
+//! The entry point of `ehabi_audit`; the work is in `host`. Words and statuses are those of docs/guide/audit.md.
 #![tactic(auto)]
 
-use ehabi_audit_host::program;
+mod host;
+
+use crate::host::program;
 use std::process::ExitCode;
 
 fn main(host: HostRuntime) -> ExitCode {

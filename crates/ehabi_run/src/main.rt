@@ -1,7 +1,9 @@
-//! The program: what `ehabi_host` does with its system. Its words and its statuses are those of docs/command-line.md.
+//! The entry point of `ehabi_run`; the work is in `host`. Words and statuses are those of docs/guide/command-line.md.
 #![tactic(auto)]
 
-use ehabi_host::program;
+mod host;
+
+use crate::host::program;
 use std::process::ExitCode;
 
 fn main(host: HostRuntime) -> ExitCode {

@@ -8,7 +8,7 @@ use Rattle.std.specs.List.Sorted.{IsPermutation}
 use Rattle.std.specs.Map.{values_of}
 use Rattle.std.specs.Ordering.{nat_cmp}
 use Rattle.std.specs.BTreeMap.{insert_entry}
-use Rattle.elf_image.specs.Format.{first_of, when, entry_field, program_headers}
+use Rattle.elf_image.specs.Format.{first_of, fault_when, entry_field, program_headers}
 use Rattle.elf_image.specs.Header.{header_refusal, table_refusal}
 use Rattle.elf_image.specs.Segments.{Segment, bytes_refusal, is_out_of_range, some_overlap, overlap, segment_refusal, by_address, segment_of, segments_of, RiseFrom}
 use Rattle.elf_image.specs.Sorted.{Hold}
@@ -63,7 +63,7 @@ accepted_from bytes image h =
 
 -- ---- headers that don't overlap, put in order
 
-none_passes : (t : Bool) (fault : ImageFault) → when t fault ≡ None → t ≡ false
+none_passes : (t : Bool) (fault : ImageFault) → fault_when t fault ≡ None → t ≡ false
 none_passes true fault h = absurd cc
 none_passes false fault h = refl
 
@@ -74,9 +74,9 @@ pub record Apart (bytes : List ℕ) (headers : List ProgramHeader) : Type 0 wher
 apart_from : (bytes : List ℕ) (headers : List ProgramHeader) → segment_refusal bytes headers ≡ None → Apart bytes headers
 unfolding segment_refusal
 apart_from bytes headers h =
-    let p = none_more (bytes_refusal bytes headers) (when (list_any is_out_of_range headers) SegmentRange ∷ when (some_overlap headers) SegmentOverlap ∷ []) h in
-    let q = none_more (when (list_any is_out_of_range headers) SegmentRange) (when (some_overlap headers) SegmentOverlap ∷ []) p.1 in
-    let r = none_more (when (some_overlap headers) SegmentOverlap) [] q.1 in
+    let p = none_more (bytes_refusal bytes headers) (fault_when (list_any is_out_of_range headers) SegmentRange ∷ fault_when (some_overlap headers) SegmentOverlap ∷ []) h in
+    let q = none_more (fault_when (list_any is_out_of_range headers) SegmentRange) (fault_when (some_overlap headers) SegmentOverlap ∷ []) p.1 in
+    let r = none_more (fault_when (some_overlap headers) SegmentOverlap) [] q.1 in
     record { inside = none_passes _ SegmentRange q.0; apart = none_passes _ SegmentOverlap r.0 }
 
 -- what the entries hold, seen so far

@@ -7,7 +7,7 @@ use Rattle.std.specs.Ordering.{nat_cmp}
 use Rattle.std.specs.List.Sorted.{IsStrictlySortedBy}
 use Rattle.elf_image.specs.Segments.{Segment, holds, segment_end, RiseFrom}
 use Rattle.elf_image.specs.Functions.{segment_at}
-use Rattle.elf_image.specs.Marks.{marked, mark_or, next_mark}
+use Rattle.elf_image.specs.Marks.{is_code_by_marks, mark_or, next_mark}
 use Rattle.elf_image.specs.Image.{Image, IsSound, is_code_in, run_end, code_end}
 use Rattle.std.proofs.lemmas.Bool.{cases_lt, false≢true}
 use Rattle.elf_image.proofs.Lookups.{marked_is, both_true, execute_some, holds_found}
@@ -76,7 +76,7 @@ same_front (m ∷ ms) a b end le inside h =
           rw (le_true m.0 a at, le_true m.0 b (omega arith), same_front ms a b end le inside on) refl
     ]
 
-marked_same : (ms : List (ℕ × Bool)) (a b end : ℕ) → IsStrictlySortedBy nat_cmp (keys_of ms) → a ≤ b → b < end → b < next_mark ms a end → marked ms b ≡ marked ms a
+marked_same : (ms : List (ℕ × Bool)) (a b end : ℕ) → IsStrictlySortedBy nat_cmp (keys_of ms) → a ≤ b → b < end → b < next_mark ms a end → is_code_by_marks ms b ≡ is_code_by_marks ms a
 marked_same ms a b end sorted le inside h =
     marked_is ms b (prefix_len (λ m. nat_le m.0 b) ms) (0, false) sorted refl
     ∙ rw (same_front ms a b end le inside h) refl
@@ -112,7 +112,7 @@ min_right b x y h = omega (arith, h)
 in_run : (image : Image) (a k : ℕ) (s : Segment) → IsSound image → is_code_in image a ≡ true → segment_at image.segments a ≡ Some s
     → a + 2 * k < min (segment_end s) (next_mark image.marks a (segment_end s)) → is_code_in image (a + 2 * k) ≡ true
 in_run image a k s sound code at h =
-    let front = both_true (a % 2 == 0 && list_any (λ t. holds a t && t.exec) image.segments) (marked image.marks a) code in
+    let front = both_true (a % 2 == 0 && list_any (λ t. holds a t && t.exec) image.segments) (is_code_by_marks image.marks a) code in
     let even = both_true (a % 2 == 0) (list_any (λ t. holds a t && t.exec) image.segments) front.0 in
     let inside = min_left (a + 2 * k) (segment_end s) (next_mark image.marks a (segment_end s)) h in
     let next = min_right (a + 2 * k) (segment_end s) (next_mark image.marks a (segment_end s)) h in

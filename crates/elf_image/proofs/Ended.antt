@@ -12,7 +12,7 @@ use Rattle.std.specs.List.Sorted.{IsStrictlySortedBy}
 use Rattle.std.proofs.lemmas.Map.Keys.{sorted_head, sorted_tail}
 use Rattle.elf_image.specs.Segments.{Segment, holds, segment_end}
 use Rattle.elf_image.specs.Symbols.{Symbol}
-use Rattle.elf_image.specs.Functions.{Function, is_thumb_function, function_in, segment_at, function_of_symbol, put_first, functions_by_start, ended, FunctionsFrom}
+use Rattle.elf_image.specs.Functions.{Function, is_thumb_function, function_in, segment_at, function_of_symbol, insert_first, functions_by_start, clip_ends, FunctionsFrom}
 
 -- each stands at its start and has an address
 abbrev pub AreStarted : List (ℕ × Function) → Type 0
@@ -75,30 +75,30 @@ started_unless : (b : Bool) (es more : List (ℕ × Function)) → AreStarted es
 started_unless true es more h i = h
 started_unless false es more h i = i
 
-started_put : (es : List (ℕ × Function)) (o : Option Function) → IfSome o (λ f. f.start < f.end) → AreStarted es → AreStarted (put_first es o)
+started_put : (es : List (ℕ × Function)) (o : Option Function) → IfSome o (λ f. f.start < f.end) → AreStarted es → AreStarted (insert_first es o)
 started_put es None some h = h
 started_put es (Some f) some h = started_unless (is_some (lookup (is_at (nat_cmp f.start)) es)) es (insert_entry nat_cmp es f.start f) h (started_insert es f some h)
 
 pub started_fold : (segments : List Segment) (es : List (ℕ × Function)) (symbols : List Symbol) → AreStarted es
-    → AreStarted (fold (λ (entries : List (ℕ × Function)) (s : Symbol). put_first entries (function_of_symbol segments s)) es symbols)
+    → AreStarted (fold (λ (entries : List (ℕ × Function)) (s : Symbol). insert_first entries (function_of_symbol segments s)) es symbols)
 started_fold segments es [] h = h
 started_fold segments es (s ∷ symbols) h =
-    started_fold segments (put_first es (function_of_symbol segments s)) symbols (started_put es (function_of_symbol segments s) (proper segments s) h)
+    started_fold segments (insert_first es (function_of_symbol segments s)) symbols (started_put es (function_of_symbol segments s) (proper segments s) h)
 
 -- ---- cut at the next one's start
 
 ended_from : (low : ℕ) (e : ℕ × Function) (es : List (ℕ × Function)) → low ≤ e.0 → AreStarted (e ∷ es) → IsStrictlySortedBy nat_cmp (keys_of (e ∷ es))
-    → FunctionsFrom low (ended (values_of (e ∷ es)))
+    → FunctionsFrom low (clip_ends (values_of (e ∷ es)))
 ended_from low e [] above h s = (omega (arith, h.0), omega (arith, h.1), tt)
 ended_from low e (f ∷ es) above h s =
     let rising = nat_cmp_less e.0 f.0 (sorted_head nat_cmp e.0 (keys_of (f ∷ es)) s).0 in
     let rest = ended_from (min e.1.end f.1.start) f es (omega (arith, h.2.0)) h.2 (sorted_tail nat_cmp e.0 (keys_of (f ∷ es)) s) in
     (omega (arith, h.0), omega (arith, h.0, h.1, h.2.0), rest)
 
-pub ended_all : (es : List (ℕ × Function)) → AreStarted es → IsStrictlySortedBy nat_cmp (keys_of es) → FunctionsFrom 0 (ended (values_of es))
+pub ended_all : (es : List (ℕ × Function)) → AreStarted es → IsStrictlySortedBy nat_cmp (keys_of es) → FunctionsFrom 0 (clip_ends (values_of es))
 ended_all [] h s = tt
 ended_all (e ∷ es) h s = ended_from 0 e es (omega arith) h s
 
 pub functions_from : (segments : List Segment) (symbols : List Symbol) (es : List (ℕ × Function)) → es ≡ functions_by_start segments symbols → IsStrictlySortedBy nat_cmp (keys_of es)
-    → FunctionsFrom 0 (ended (values_of es))
+    → FunctionsFrom 0 (clip_ends (values_of es))
 functions_from segments symbols es is s = ended_all es (rw is (started_fold segments [] symbols tt)) s

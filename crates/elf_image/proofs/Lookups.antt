@@ -10,7 +10,7 @@ use Rattle.std.specs.Ordering.{nat_cmp}
 use Rattle.std.specs.declared.cmp.Ordering.TheVariants.{Less}
 use Rattle.std.specs.List.Sorted.{IsStrictlySortedBy}
 use Rattle.std.proofs.lemmas.Map.Keys.{sorted_head, sorted_tail}
-use Rattle.elf_image.specs.Marks.{marked}
+use Rattle.elf_image.specs.Marks.{is_code_by_marks}
 use Rattle.elf_image.specs.Image.{holds_word}
 use Rattle.std.proofs.lemmas.Bool.{false≢true}
 use Rattle.std.specs.List.{list_any}
@@ -132,14 +132,14 @@ marks_ascend [] h = tt
 marks_ascend (m ∷ ms) h = (omega arith, marks_from m ms h)
 
 pub marked_is : (ms : List (ℕ × Bool)) (a k : ℕ) (d : ℕ × Bool) → IsStrictlySortedBy nat_cmp (keys_of ms) → k ≡ prefix_len (λ m. nat_le m.0 a) ms
-    → marked ms a ≡ cond (nat_eq k 0) true (get_or ms (k - 1) d).1
+    → is_code_by_marks ms a ≡ cond (nat_eq k 0) true (get_or ms (k - 1) d).1
 marked_is ms a k d h e = rw e (marked_last (λ (m : ℕ × Bool). m.0) (λ (m : ℕ × Bool). m.1) 0 a true ms (marks_ascend ms h) d)
 
-pub marked_none : (ms : List (ℕ × Bool)) (a k : ℕ) → IsStrictlySortedBy nat_cmp (keys_of ms) → k ≡ prefix_len (λ m. nat_le m.0 a) ms → k ≡ 0 → marked ms a ≡ true
+pub marked_none : (ms : List (ℕ × Bool)) (a k : ℕ) → IsStrictlySortedBy nat_cmp (keys_of ms) → k ≡ prefix_len (λ m. nat_le m.0 a) ms → k ≡ 0 → is_code_by_marks ms a ≡ true
 marked_none ms a k h e z = marked_is ms a k (0, false) h e ∙ rw (test_zero k z) refl
 
 pub marked_some : (ms : List (ℕ × Bool)) (a k : ℕ) (d : ℕ × Bool) → IsStrictlySortedBy nat_cmp (keys_of ms) → k ≡ prefix_len (λ m. nat_le m.0 a) ms → (k ≡ 0 → ⊥)
-    → marked ms a ≡ (get_or ms (k - 1) d).1
+    → is_code_by_marks ms a ≡ (get_or ms (k - 1) d).1
 marked_some ms a k d h e some = marked_is ms a k d h e ∙ rw (test_some k some) refl
 
 pub ruleset mark_lookups = (marked_none, marked_some)

@@ -9,7 +9,7 @@ use Rattle.std.specs.Option.{IfSome, option_or}
 use Rattle.std.specs.Ordering.{nat_cmp}
 use Rattle.std.specs.BTreeMap.{insert_entry}
 use Rattle.elf_image.specs.Symbols.{Symbol}
-use Rattle.elf_image.specs.Marks.{is_mark_name, is_mark, begins_code, with_mark, marks_of, marked}
+use Rattle.elf_image.specs.Marks.{is_mark_name, is_mark, begins_code, with_mark, marks_of, is_code_by_marks}
 use Rattle.elf_image.specs.Laws.{is_mapping_name, is_mapping, says_code, Decides, IsMarkedBy}
 use Rattle.elf_image.proofs.Entries.{cmp_less, cmp_equal, cmp_greater, Rising, rising_insert}
 
@@ -369,10 +369,10 @@ pub marks_rising : (symbols : List Symbol) → Rising 0 (marks_of symbols)
 unfolding marks_of
 marks_rising symbols = (seen_all 0 [] symbols [] tt (inr (All-nil (NotBelow 0), refl))).0
 
-marked_by : (a : ℕ) (symbols : List Symbol) (es : List Entry) → Seen a symbols (last_at a es) → IsMarkedBy symbols a (marked es a)
+marked_by : (a : ℕ) (symbols : List Symbol) (es : List Entry) → Seen a symbols (last_at a es) → IsMarkedBy symbols a (is_code_by_marks es a)
 marked_by a symbols es (inl h) = inl (h.0, h.1, marked_from a true es ∙ ap (says true) h.2 ∙ code_is h.0 h.1.mapping)
 marked_by a symbols es (inr h) = inr (h.0, marked_from a true es ∙ ap (says true) h.1)
 
-pub marks_decide : (a : ℕ) (symbols : List Symbol) → IsMarkedBy symbols a (marked (marks_of symbols) a)
+pub marks_decide : (a : ℕ) (symbols : List Symbol) → IsMarkedBy symbols a (is_code_by_marks (marks_of symbols) a)
 unfolding marks_of
 marks_decide a symbols = marked_by a symbols (fold with_mark [] symbols) (seen_all a [] symbols [] tt (inr (All-nil (NotBelow a), refl))).1

@@ -5,14 +5,14 @@ use Rattle.std.proofs.lemmas.Bool.{false≢true}
 use Rattle.std.proofs.lemmas.List.Elements.{All-cons, All-nil}
 use Rattle.std.proofs.lemmas.List.Sums.{take_while-cons}
 use Rattle.std.specs.List.{find, list_any, All, Contains, take_while, range_with_len}
-use Rattle.elf_image.specs.Format.{first_of, when, field, part, entry_field}
+use Rattle.elf_image.specs.Format.{first_of, fault_when, field, part, entry_field}
 use Rattle.elf_image.specs.Segments.{Segment, RiseFrom}
 use Rattle.elf_image.specs.Symbols.{Symbol, HasPlainName, symbol_at, symbols_of, symbol_count}
 use Rattle.elf_image.specs.Functions.{Function, functions_of}
 use Rattle.elf_image.specs.Index.{holds_index, index_refusal, index_of}
-use Rattle.elf_image.specs.Image.{Named, named_of, Image, IsSound, StandsAt, IndexStands, image_of, image_with, size_refusal, count_refusal, entry_refusal, build_refusal, file_indexes, file_segments, file_table, file_tables, file_symbols, file_functions, strings_in}
+use Rattle.elf_image.specs.Image.{NamedAddress, named_addresses, Image, IsSound, StandsAt, IndexStands, image_of, image_with, size_refusal, count_refusal, entry_refusal, build_refusal, file_indexes, file_segments, file_table, file_tables, file_symbols, file_functions, strings_in}
 use Rattle.elf_image.specs.Laws.{AreFunctionsOf, IsMarkedBy}
-use Rattle.elf_image.specs.Marks.{marks_of, marked}
+use Rattle.elf_image.specs.Marks.{marks_of, is_code_by_marks}
 use Rattle.elf_image.specs.declared.fault.ImageFault.{ImageFault}
 use Rattle.elf_image.specs.declared.fault.ImageFault.TheVariants.{TooLarge, Entry, IndexRange}
 use Rattle.elf_image.specs.declared.format.ProgramHeader.{ProgramHeader}
@@ -90,7 +90,7 @@ stands_in h segments s t c =
       same = rw whole refl;
     }
 
-not_refused : (t : Bool) → when (not t) IndexRange ≡ None → t ≡ true
+not_refused : (t : Bool) → fault_when (not t) IndexRange ≡ None → t ≡ true
 not_refused true h = refl
 not_refused false h = absurd cc
 
@@ -111,7 +111,7 @@ both_false false b h = (refl, h)
 at_most : (x y : ℕ) → nat_lt y x ≡ false → x ≤ y
 at_most x y h = grind (arith, nat_tests)
 
-none_passes : (t : Bool) (fault : ImageFault) → when t fault ≡ None → t ≡ false
+none_passes : (t : Bool) (fault : ImageFault) → fault_when t fault ≡ None → t ≡ false
 none_passes true fault h = absurd cc
 none_passes false fault h = refl
 
@@ -188,16 +188,16 @@ functions_as : (bytes : List ℕ) (image : Image) → Accepted bytes image → i
 unfolding image_with
 functions_as bytes image k = ap (λ (i : Image). i.functions) k.image_is
 
-marks_as : (bytes : List ℕ) (image : Image) → Accepted bytes image → (a : ℕ) → IsMarkedBy (file_symbols bytes) a (marked image.marks a)
+marks_as : (bytes : List ℕ) (image : Image) → Accepted bytes image → (a : ℕ) → IsMarkedBy (file_symbols bytes) a (is_code_by_marks image.marks a)
 unfolding image_with
-marks_as bytes image k a = subst (λ (i : Image). IsMarkedBy (file_symbols bytes) a (marked i.marks a)) (sym k.image_is) (marks_decide a (file_symbols bytes))
+marks_as bytes image k a = subst (λ (i : Image). IsMarkedBy (file_symbols bytes) a (is_code_by_marks i.marks a)) (sym k.image_is) (marks_decide a (file_symbols bytes))
 
 pub functions_law : (bytes : List ℕ) (image : Image) → image_of bytes ≡ Ok image → AreFunctionsOf image.segments (file_symbols bytes) image.functions
 functions_law bytes image h =
     let k = accepted_from bytes image h in
     rw (segments_as bytes image k, functions_as bytes image k) (functions_are (file_segments bytes) (file_symbols bytes) (loaded_from bytes k.loaded).rise)
 
-pub marks_law : (bytes : List ℕ) (image : Image) → image_of bytes ≡ Ok image → (a : ℕ) → IsMarkedBy (file_symbols bytes) a (marked image.marks a)
+pub marks_law : (bytes : List ℕ) (image : Image) → image_of bytes ≡ Ok image → (a : ℕ) → IsMarkedBy (file_symbols bytes) a (is_code_by_marks image.marks a)
 marks_law bytes image h = marks_as bytes image (accepted_from bytes image h)
 
 -- ---- where an image is put together
@@ -206,13 +206,13 @@ pub accepted_parts : (field : ℕ) (functions : List Function) → length functi
 unfolding count_refusal
 accepted_parts field functions h e = both_accepted (count_refusal functions) (entry_refusal field functions) (few (nat_lt 4096 (length functions)) refl) e
   where
-    few : (b : Bool) → nat_lt 4096 (length functions) ≡ b → when b TooLarge ≡ None
+    few : (b : Bool) → nat_lt 4096 (length functions) ≡ b → fault_when b TooLarge ≡ None
     few true e = let no : nat_lt 4096 (length functions) ≡ false = grind (arith, nat_tests) in absurd cc
     few false e = refl
 
-pub sound_built : (field : ℕ) (segments : List Segment) (start : ℕ) (bytes : List ℕ) (symbols : List Symbol) (functions : List Function) (marks : List (ℕ × Bool)) (all : List Named)
+pub sound_built : (field : ℕ) (segments : List Segment) (start : ℕ) (bytes : List ℕ) (symbols : List Symbol) (functions : List Function) (marks : List (ℕ × Bool)) (all : List NamedAddress)
     → RiseFrom 0 segments → sum_by (λ (s : Segment). s.size) segments ≤ MEMORY_LIMIT → length segments ≤ SEGMENT_LIMIT → IndexStands segments start bytes → All HasPlainName symbols
-    → length functions ≤ 4096 → entry_refusal field functions ≡ None → functions ≡ functions_of segments symbols → marks ≡ marks_of symbols → all ≡ named_of segments symbols
+    → length functions ≤ 4096 → entry_refusal field functions ≡ None → functions ≡ functions_of segments symbols → marks ≡ marks_of symbols → all ≡ named_addresses segments symbols
     → IsSound (record { entry = field - 1; segments = segments; functions = functions; marks = marks; symbols = all; index_start = start; index_bytes = bytes })
 unfolding image_with
 sound_built field segments start bytes symbols functions marks all rise memory count stands plain few entry f m n =

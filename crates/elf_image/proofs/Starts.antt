@@ -10,7 +10,7 @@ use Rattle.std.specs.Ordering.{nat_cmp}
 use Rattle.std.specs.BTreeMap.{insert_entry}
 use Rattle.elf_image.specs.Segments.{Segment, holds, segment_end, RiseFrom}
 use Rattle.elf_image.specs.Symbols.{Symbol, HasPlainName}
-use Rattle.elf_image.specs.Functions.{Function, is_thumb_function, function_in, segment_at, function_of_symbol, put_first, functions_by_start, next_start, ended, functions_of, FunctionsFrom}
+use Rattle.elf_image.specs.Functions.{Function, is_thumb_function, function_in, segment_at, function_of_symbol, insert_first, functions_by_start, next_start, clip_ends, functions_of, FunctionsFrom}
 use Rattle.elf_image.specs.Image.{IsWithinCode}
 use Rattle.elf_image.specs.Laws.{is_in_code, is_function_at, IsFunctionOf, AreFunctionsOf}
 use Rattle.elf_image.proofs.Entries.{at_key, lookup_insert, lookup_first, lookup_rest, lookup_below, Rising, rising_insert, sorted_from_rising, test_eq, test_ne}
@@ -163,7 +163,7 @@ put_some a es f false e =
           ∙ or_none (at_key a es) ∙ ap (λ (b : Bool). option_or (at_key a es) (cond b (Some f) None)) (sym (test_ne a f.start other))
     ]
 
-put_at : (a : ℕ) (es : List (ℕ × Function)) (o : Option Function) → at_key a (put_first es o) ≡ option_or (at_key a es) (only a o)
+put_at : (a : ℕ) (es : List (ℕ × Function)) (o : Option Function) → at_key a (insert_first es o) ≡ option_or (at_key a es) (only a o)
 put_at a es None = or_none (at_key a es)
 put_at a es (Some f) = put_some a es f (is_some (at_key f.start es)) refl
 
@@ -180,17 +180,17 @@ abbrev pub draft_at : List Segment → List Symbol → ℕ → Option Function
 draft_at segments symbols a = option_and_then (function_of_symbol segments) (find (is_function_at segments a) symbols)
 
 at_fold : (segments : List Segment) (a : ℕ) (es : List (ℕ × Function)) (symbols : List Symbol) → RiseFrom 0 segments
-    → at_key a (fold (λ entries s. put_first entries (function_of_symbol segments s)) es symbols) ≡ option_or (at_key a es) (draft_at segments symbols a)
+    → at_key a (fold (λ entries s. insert_first entries (function_of_symbol segments s)) es symbols) ≡ option_or (at_key a es) (draft_at segments symbols a)
 at_fold segments a es [] h = or_none (at_key a es)
 at_fold segments a es (s ∷ symbols) h =
-    at_fold segments a (put_first es (function_of_symbol segments s)) symbols h
+    at_fold segments a (insert_first es (function_of_symbol segments s)) symbols h
     ∙ ap (λ (o : Option Function). option_or o (draft_at segments symbols a)) (put_at a es (function_of_symbol segments s))
     ∙ or_assoc (at_key a es) (only a (function_of_symbol segments s)) (draft_at segments symbols a)
     ∙ ap (λ (o : Option Function). option_or (at_key a es) o)
     (draft_step segments s a (find (is_function_at segments a) symbols) (function_of_symbol segments s) refl
     ∙ ap (λ (b : Bool). option_and_then (function_of_symbol segments) (cond b (Some s) (find (is_function_at segments a) symbols))) (sym (says segments s a h)))
 
-rising_put : (es : List (ℕ × Function)) (o : Option Function) → Rising 0 es → Rising 0 (put_first es o)
+rising_put : (es : List (ℕ × Function)) (o : Option Function) → Rising 0 es → Rising 0 (insert_first es o)
 rising_put es None h = h
 rising_put es (Some f) h = by_test (is_some (at_key f.start es))
   where
@@ -199,9 +199,9 @@ rising_put es (Some f) h = by_test (is_some (at_key f.start es))
     by_test false = rising_insert 0 es f.start f (omega arith) h
 
 rising_fold : (segments : List Segment) (es : List (ℕ × Function)) (symbols : List Symbol) → Rising 0 es
-    → Rising 0 (fold (λ entries s. put_first entries (function_of_symbol segments s)) es symbols)
+    → Rising 0 (fold (λ entries s. insert_first entries (function_of_symbol segments s)) es symbols)
 rising_fold segments es [] h = h
-rising_fold segments es (s ∷ symbols) h = rising_fold segments (put_first es (function_of_symbol segments s)) symbols (rising_put es (function_of_symbol segments s) h)
+rising_fold segments es (s ∷ symbols) h = rising_fold segments (insert_first es (function_of_symbol segments s)) symbols (rising_put es (function_of_symbol segments s) h)
 
 -- ---- each cut at the next one's start
 
@@ -253,14 +253,14 @@ cut_one total e (g ∷ es) r s t = record {
 }
 
 cut_all : (total : ℕ → Option Function) (low : ℕ) (es : List (ℕ × Function)) → Rising low es → AreStarted es → ((a : ℕ) → low ≤ a → at_key a es ≡ total a)
-    → All (Cut total) (ended (values_of es))
+    → All (Cut total) (clip_ends (values_of es))
 cut_all total low [] r s t = All-nil (Cut total)
 cut_all total low (e ∷ es) r s t =
-    All-cons (Cut total) (record e.1 { end = min e.1.end (next_start (values_of es) e.1.end) }) (ended (values_of es))
+    All-cons (Cut total) (record e.1 { end = min e.1.end (next_start (values_of es) e.1.end) }) (clip_ends (values_of es))
     (cut_one total e es (omega arith, r.1) s (λ a above. t a (omega (arith, r.0))))
     (cut_all total (e.0 + 1) es r.1 s.2 (λ a above. sym (lookup_rest a e es (omega arith)) ∙ t a (omega (arith, r.0))))
 
-any_start : (a : ℕ) (es : List (ℕ × Function)) → AreStarted es → list_any (λ f. nat_eq f.start a) (ended (values_of es)) ≡ is_some (at_key a es)
+any_start : (a : ℕ) (es : List (ℕ × Function)) → AreStarted es → list_any (λ f. nat_eq f.start a) (clip_ends (values_of es)) ≡ is_some (at_key a es)
 any_start a [] s = refl
 any_start a (e ∷ es) s =
     elim (cases_eq a e.0) [

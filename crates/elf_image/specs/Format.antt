@@ -17,7 +17,8 @@ field n bytes at = little_number n (drop at bytes)
 abbrev pub part : List ℕ → ℕ → ℕ → List ℕ
 part bytes at size = take size (drop at bytes)
 
--- a part that the file does not hold whole: the file would need to reach the part's end. A part of no bytes is never missing.
+-- the refusal of a part that the file doesn't hold whole, with the length that the file would need. A part of no bytes
+-- is never missing.
 abbrev pub missing : List ℕ → ℕ → ℕ → Option ImageFault
 missing bytes at size = if size == 0 then None else (if nat_lt (length bytes) (at + size) then Some (Truncated (at + size)) else None)
 
@@ -28,8 +29,8 @@ first_of (None ∷ more) = first_of more
 first_of (Some fault ∷ more) = Some fault
 
 -- a refusal where a test holds
-abbrev pub when : Bool → ImageFault → Option ImageFault
-when holds fault = if holds then Some fault else None
+abbrev pub fault_when : Bool → ImageFault → Option ImageFault
+fault_when holds fault = if holds then Some fault else None
 
 -- ---- the file header
 

@@ -28,33 +28,33 @@ function_in s (Some segment) =
     then Some (record { name = s.name; start = s.value - 1; end = if s.size == 0 then segment_end segment else min (segment_end segment) (s.value - 1 + s.size) })
     else None
 
--- what a symbol gives alone, if it is a function
+-- the function of a symbol, if it is one
 unfoldable pub function_of_symbol : List Segment → Symbol → Option Function
 function_of_symbol segments s = if is_thumb_function s then function_in s (segment_at segments (s.value - 1)) else None
 
--- entries in rising order; the first at one start counts
-abbrev pub put_first : List (ℕ × Function) → Option Function → List (ℕ × Function)
-put_first entries None = entries
-put_first entries (Some f) = if is_some (lookup (is_at (nat_cmp f.start)) entries) then entries else insert_entry nat_cmp entries f.start f
+-- entries in ascending order; the first at one start counts
+abbrev pub insert_first : List (ℕ × Function) → Option Function → List (ℕ × Function)
+insert_first entries None = entries
+insert_first entries (Some f) = if is_some (lookup (is_at (nat_cmp f.start)) entries) then entries else insert_entry nat_cmp entries f.start f
 
 abbrev pub functions_by_start : List Segment → List Symbol → List (ℕ × Function)
-functions_by_start segments symbols = fold (λ entries s. put_first entries (function_of_symbol segments s)) [] symbols
+functions_by_start segments symbols = fold (λ entries s. insert_first entries (function_of_symbol segments s)) [] symbols
 
 abbrev pub next_start : List Function → ℕ → ℕ
 next_start [] none = none
 next_start (f ∷ more) none = f.start
 
--- each ends at the start of the next one at the latest
-abbrev pub ended : List Function → List Function
-ended [] = []
-ended (f ∷ more) = record f { end = min f.end (next_start more f.end) } ∷ ended more
+-- each function is cut off at the start of the next
+abbrev pub clip_ends : List Function → List Function
+clip_ends [] = []
+clip_ends (f ∷ more) = record f { end = min f.end (next_start more f.end) } ∷ clip_ends more
 
 unfoldable pub functions_of : List Segment → List Symbol → List Function
-functions_of segments symbols = ended (values_of (functions_by_start segments symbols))
+functions_of segments symbols = clip_ends (values_of (functions_by_start segments symbols))
 
 -- ---- what holds of the functions of every image
 
--- they rise from an address on, none reaches into the next
+-- they ascend from an address on and don't overlap
 abbrev pub FunctionsFrom : ℕ → List Function → Type 0
 FunctionsFrom low [] = Unit {0}
 FunctionsFrom low (f ∷ more) = (low ≤ f.start) × (f.start < f.end) × FunctionsFrom f.end more

@@ -6,13 +6,13 @@ use Rattle.std.specs.Ordering.{nat_cmp}
 use Rattle.std.specs.Map.{keys_of}
 use Rattle.byteorder.specs.Endian.{little_number}
 use Rattle.eh_word.specs.Names.{same_bytes}
-use Rattle.elf_image.specs.Format.{first_of, when, part, entry_field, program_headers, section_headers}
+use Rattle.elf_image.specs.Format.{first_of, fault_when, part, entry_field, program_headers, section_headers}
 use Rattle.elf_image.specs.Header.{header_refusal, table_refusal}
 use Rattle.elf_image.specs.Segments.{Segment, holds, segment_end, is_load, segment_refusal, segments_of, RiseFrom}
 use Rattle.elf_image.specs.Index.{is_index, index_refusal, index_of}
 use Rattle.elf_image.specs.Symbols.{Symbol, tables_of, tables_refusal, symbol_count, symbols_of}
 use Rattle.elf_image.specs.Functions.{Function, segment_at, function_of_symbol, functions_of, is_inside, FunctionsFrom}
-use Rattle.elf_image.specs.Marks.{marks_of, marked, next_mark}
+use Rattle.elf_image.specs.Marks.{marks_of, is_code_by_marks, next_mark}
 use Rattle.elf_image.specs.declared.limits.TheConstants.{MEMORY_LIMIT, SEGMENT_LIMIT, SYMBOL_LIMIT, FUNCTION_LIMIT}
 use Rattle.elf_image.specs.declared.symbol.TheConstants.{SHN_UNDEF}
 use Rattle.elf_image.specs.declared.fault.ImageFault.{ImageFault}
@@ -21,7 +21,7 @@ use Rattle.elf_image.specs.declared.format.ProgramHeader.{ProgramHeader}
 use Rattle.elf_image.specs.declared.format.SectionHeader.{SectionHeader}
 
 -- a name and the address that it stands for
-pub record Named : Type 0 where
+pub record NamedAddress : Type 0 where
   pub name : List ℕ
   pub address : ℕ
 
@@ -35,7 +35,7 @@ pub record Image : Type 0 where
   -- addresses in rising order, each with whether code begins there
   pub marks : List (ℕ × Bool)
   -- the defined symbols in the order of the table
-  pub symbols : List Named
+  pub symbols : List NamedAddress
   pub index_start : ℕ
   pub index_bytes : List ℕ
 
@@ -49,23 +49,23 @@ address_of s None = s.value
 address_of s (Some f) = f.start
 
 -- a symbol's value; for a function bit 0 is clear
-unfoldable pub named : List Segment → Symbol → Named
-named segments s = record { name = s.name; address = address_of s (function_of_symbol segments s) }
+unfoldable pub named_address : List Segment → Symbol → NamedAddress
+named_address segments s = record { name = s.name; address = address_of s (function_of_symbol segments s) }
 
-unfoldable pub named_of : List Segment → List Symbol → List Named
-named_of segments symbols = map (λ s. named segments s) (filter is_defined symbols)
+unfoldable pub named_addresses : List Segment → List Symbol → List NamedAddress
+named_addresses segments symbols = map (λ s. named_address segments s) (filter is_defined symbols)
 
 -- ---- limits, and the entry
 
 unfoldable pub size_refusal : List Segment → ℕ → Option ImageFault
-size_refusal segments symbols = when (nat_lt MEMORY_LIMIT (sum_by (λ s. s.size) segments) || nat_lt SEGMENT_LIMIT (length segments) || nat_lt SYMBOL_LIMIT symbols) TooLarge
+size_refusal segments symbols = fault_when (nat_lt MEMORY_LIMIT (sum_by (λ s. s.size) segments) || nat_lt SEGMENT_LIMIT (length segments) || nat_lt SYMBOL_LIMIT symbols) TooLarge
 
 unfoldable pub count_refusal : List Function → Option ImageFault
-count_refusal functions = when (nat_lt FUNCTION_LIMIT (length functions)) TooLarge
+count_refusal functions = fault_when (nat_lt FUNCTION_LIMIT (length functions)) TooLarge
 
--- bit 0 of the field is set, and a function begins at the address without it
+-- bit 0 of the entry field must be set, and a function must begin at the address without it
 unfoldable pub entry_refusal : ℕ → List Function → Option ImageFault
-entry_refusal field functions = when (not (field % 2 == 1 && list_any (λ f. f.start == field - 1) functions)) Entry
+entry_refusal field functions = fault_when (not (field % 2 == 1 && list_any (λ f. f.start == field - 1) functions)) Entry
 
 -- what is refused of the functions
 abbrev pub build_refusal : ℕ → List Function → Option ImageFault
@@ -110,7 +110,7 @@ image_with field segments index symbols = record {
   segments = segments;
   functions = functions_of segments symbols;
   marks = marks_of symbols;
-  symbols = named_of segments symbols;
+  symbols = named_addresses segments symbols;
   index_start = index.0;
   index_bytes = index.1;
 }
@@ -139,7 +139,7 @@ image_of bytes = unless_refused (refusal_of bytes)
 
 -- ---- what holds of every image
 
--- a function: its start is even, and its range lies whole in one read-only segment that may be executed
+-- a function: its start is even, and it lies in one read-only executable segment
 pub record IsWithinCode (segments : List Segment) (f : Function) : Type 0 where
   pub even : f.start % 2 ≡ 0
   pub named : All (λ b. b ≢ 0) f.name
@@ -149,7 +149,7 @@ pub record IsWithinCode (segments : List Segment) (f : Function) : Type 0 where
   pub read_only : segment.write ≡ false
   pub within : f.end ≤ segment_end segment
 
--- the bytes stand at the address, a multiple of 4, in the file's bytes of one read-only segment
+-- the bytes are at the address, a multiple of 4, in the file bytes of one read-only segment
 pub record StandsAt (segments : List Segment) (start : ℕ) (bytes : List ℕ) : Type 0 where
   pub aligned : start % 4 ≡ 0
   pub segment : Segment
@@ -163,8 +163,8 @@ pub record StandsAt (segments : List Segment) (start : ℕ) (bytes : List ℕ) :
 abbrev pub IndexStands : List Segment → ℕ → List ℕ → Type 0
 IndexStands segments start bytes = ((start ≡ 0) × (bytes ≡ [])) ⊎ StandsAt segments start bytes
 
--- at most 1,024 segments with at most 1,048,576 bytes of memory, rising below 0x30000000; at most 4,096 functions, rising, each in
--- code, one of them at the even entry; marks rise; the index stands in a read-only segment
+-- At most 1,024 segments with at most 1,048,576 bytes of memory, ascending below 0x30000000. At most 4,096 functions,
+-- ascending, each in code, and one at the even entry. Marks ascend. The index lies in a read-only segment.
 pub record IsSound (image : Image) : Type 0 where
   pub rise : RiseFrom 0 image.segments
   pub memory : sum_by (λ s. s.size) image.segments ≤ MEMORY_LIMIT
@@ -187,16 +187,16 @@ segment_number image a = position_from (holds a) 0 image.segments
 abbrev pub function_at : Image → ℕ → Option ℕ
 function_at image a = position_from (is_inside a) 0 image.functions
 
--- an even address in a segment that may be executed, where the last mark at or below it is code
+-- an even address in an executable segment, and the last mark at or below it, if any, says code
 abbrev pub is_code_in : Image → ℕ → Bool
-is_code_in image a = a % 2 == 0 && list_any (λ s. holds a s && s.exec) image.segments && marked image.marks a
+is_code_in image a = a % 2 == 0 && list_any (λ s. holds a s && s.exec) image.segments && is_code_by_marks image.marks a
 
 abbrev pub run_end : List (ℕ × Bool) → ℕ → Option Segment → ℕ
 run_end marks a None = a
 run_end marks a (Some s) = min (segment_end s) (next_mark marks a (segment_end s))
 
--- where code that is no longer told by one segment and one mark begins: the end of the address's segment, or the next mark where that
--- comes first; of an address that isn't code itself
+-- the end of the stretch of code from an address on: the end of its segment or the next mark, whichever is lower; the
+-- address itself if it is no code
 abbrev pub code_end : Image → ℕ → ℕ
 code_end image a = if is_code_in image a then run_end image.marks a (segment_at image.segments a) else a
 
@@ -205,10 +205,10 @@ abbrev pub symbol_in : Image → List ℕ → Option ℕ
 symbol_in image name = option_map (λ n. n.address) (find (λ n. same_bytes n.name name) image.symbols)
 
 -- the addresses of the defined symbols whose names begin with _ZTI
-abbrev pub type_symbols_of : List Named → List ℕ
+abbrev pub type_symbols_of : List NamedAddress → List ℕ
 type_symbols_of symbols = map (λ n. n.address) (filter (λ n. starts_with nat_eq n.name (codes "_ZTI")) symbols)
 
--- the bytes of a read-only segment hold all four bytes at an address
+-- the file bytes of a read-only segment contain all four bytes at an address
 abbrev pub holds_word : ℕ → Segment → Bool
 holds_word a s = not s.write && nat_le s.start a && nat_le (a - s.start + 4) (length s.bytes)
 

@@ -21,18 +21,18 @@ begins_code s = slice_index s.name 1 == 116
 abbrev pub with_mark : List (ℕ × Bool) → Symbol → List (ℕ × Bool)
 with_mark marks s = if is_mark s then insert_entry nat_cmp marks s.value (begins_code s) else marks
 
--- addresses in rising order, each with whether code begins there; the last at one address counts
+-- addresses in ascending order, each with whether code begins there; the last at one address counts
 unfoldable pub marks_of : List Symbol → List (ℕ × Bool)
 marks_of symbols = fold with_mark [] symbols
 
--- what the last mark at or below an address says; below every mark it is code
-abbrev pub marked : List (ℕ × Bool) → ℕ → Bool
-marked marks a = fold (λ code mark. if nat_le mark.0 a then mark.1 else code) true marks
+-- what the last mark at or below an address says; code if there is none
+abbrev pub is_code_by_marks : List (ℕ × Bool) → ℕ → Bool
+is_code_by_marks marks a = fold (λ code mark. if nat_le mark.0 a then mark.1 else code) true marks
 
 abbrev pub mark_or : ℕ → Option (ℕ × Bool) → ℕ
 mark_or end None = end
 mark_or end (Some mark) = mark.0
 
--- the address of the first mark above an address, or `end` where there is none
+-- the address of the first mark above an address, or `end` if there is none
 abbrev pub next_mark : List (ℕ × Bool) → ℕ → ℕ → ℕ
 next_mark marks a end = mark_or end (find (λ mark. nat_lt a mark.0) marks)

@@ -3,14 +3,14 @@ use Rattle.std.specs.Prelude.{ℕ, ◌+◌, ◌%◌, ◌/◌, ◌<◌, ◌≤◌
 use Rattle.std.specs.List.{list_any}
 use Rattle.std.specs.Ordering.{nat_cmp}
 use Rattle.std.specs.BTreeMap.{insert_entry}
-use Rattle.elf_image.specs.Format.{first_of, when, missing, part, program_headers}
+use Rattle.elf_image.specs.Format.{first_of, fault_when, missing, part, program_headers}
 use Rattle.elf_image.specs.declared.format.TheConstants.{PT_LOAD}
 use Rattle.elf_image.specs.declared.limits.TheConstants.{ADDRESS_LIMIT}
 use Rattle.elf_image.specs.declared.fault.ImageFault.{ImageFault}
 use Rattle.elf_image.specs.declared.fault.ImageFault.TheVariants.{SegmentRange, SegmentOverlap}
 use Rattle.elf_image.specs.declared.format.ProgramHeader.{ProgramHeader}
 
--- bytes in memory from an address on: those of the file, and zeros up to the size
+-- memory from an address on: bytes of the file, then zeros up to the size
 pub record Segment : Type 0 where
   pub start : ℕ
   pub bytes : List ℕ
@@ -30,8 +30,8 @@ segment_end s = s.start + s.size
 abbrev pub is_load : ProgramHeader → Bool
 is_load h = h.kind == PT_LOAD && not (h.memory_size == 0)
 
-unfoldable pub loads : List ℕ → List ProgramHeader
-loads bytes = filter is_load (program_headers bytes)
+unfoldable pub load_headers : List ℕ → List ProgramHeader
+load_headers bytes = filter is_load (program_headers bytes)
 
 -- ---- what is refused
 
@@ -59,8 +59,8 @@ some_overlap (h ∷ more) = list_any (overlap h) more || some_overlap more
 unfoldable pub segment_refusal : List ℕ → List ProgramHeader → Option ImageFault
 segment_refusal bytes headers = first_of (
     bytes_refusal bytes headers
-    ∷ when (list_any is_out_of_range headers) SegmentRange
-    ∷ when (some_overlap headers) SegmentOverlap
+    ∷ fault_when (list_any is_out_of_range headers) SegmentRange
+    ∷ fault_when (some_overlap headers) SegmentOverlap
     ∷ [])
 
 -- ---- what the headers stand for
@@ -74,7 +74,7 @@ segment_of bytes h = record {
   exec = h.flags % 2 == 1;
 }
 
--- headers by their addresses, in rising order; no two are at one address unless they overlap
+-- headers by their addresses, ascending; two have one address only if they overlap
 abbrev pub by_address : List ProgramHeader → List (ℕ × ProgramHeader)
 by_address headers = fold (λ entries h. insert_entry nat_cmp entries h.address h) [] headers
 
@@ -84,7 +84,7 @@ segments_of bytes headers = map (λ entry. segment_of bytes entry.1) (by_address
 
 -- ---- what holds of the segments of every image
 
--- they rise from an address on, each with its bytes and at least one byte of memory, up to ADDRESS_LIMIT
+-- they ascend from an address on, each with its bytes and at least one byte of memory, up to ADDRESS_LIMIT
 abbrev pub RiseFrom : ℕ → List Segment → Type 0
 RiseFrom low [] = low ≤ ADDRESS_LIMIT
 RiseFrom low (s ∷ more) = (low ≤ s.start) × (0 < s.size) × (length s.bytes ≤ s.size) × RiseFrom (s.start + s.size) more

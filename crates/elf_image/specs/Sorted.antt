@@ -1,4 +1,4 @@
--- Headers in rising order of their addresses: what a look at neighbours alone tells of all pairs.
+-- Headers in ascending order of their addresses: comparing neighbours is enough to know that no two overlap.
 use Rattle.std.specs.Prelude.{◌≡◌, ℕ, ◌<◌, ◌||◌, nat_lt, Bool, false, List, [], ◌∷◌}
 use Rattle.std.specs.List.{list_any}
 use Rattle.std.specs.Map.{values_of}

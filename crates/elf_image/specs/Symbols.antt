@@ -67,6 +67,6 @@ abbrev pub zeros_from : ℕ → List ℕ → List ℕ
 zeros_from at [] = []
 zeros_from at (b ∷ more) = if b == 0 then at ∷ zeros_from (at + 1) more else zeros_from (at + 1) more
 
--- the first of rising places at a or above; past them the given end
+-- the first of the ascending offsets that is at least a, or the given end if there is none
 abbrev pub next_zero : ℕ → List ℕ → ℕ → ℕ
 next_zero a zeros end = slice_index_or zeros (prefix_len (λ z. nat_lt z a) zeros) end

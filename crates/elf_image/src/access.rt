@@ -1,4 +1,4 @@
-//! What a function and a segment of an image are, for crates that see them as their values.
+//! Accessors of functions and segments for crates that see them by their values.
 ghost use Rattle.std.specs.Prelude.{◌≡◌};
 
 use crate::function::Function;
@@ -14,35 +14,35 @@ impl<'a> Function<'a> {
 }
 
 impl<'a> Segment<'a> {
-    /// The first address.
+    /// The address of the first byte.
     pub fn start(&self) -> u32
         ensures { result ≡ self.now.start }
     {
         self.start
     }
 
-    /// The bytes of the file, from the first address on.
+    /// The bytes that the file gives, from the first address on.
     pub fn bytes(&self) -> &'a [u8]
         ensures { result.now ≡ self.now.bytes }
     {
         self.bytes
     }
 
-    /// How many bytes of memory there are.
+    /// The size in memory, in bytes.
     pub fn size(&self) -> u32
         ensures { result ≡ self.now.size }
     {
         self.size
     }
 
-    /// Whether it may be written.
+    /// Whether the segment is writable.
     pub fn may_write(&self) -> bool
         ensures { result ≡ self.now.write }
     {
         self.write
     }
 
-    /// Whether it may be executed.
+    /// Whether the segment is executable.
     pub fn may_execute(&self) -> bool
         ensures { result ≡ self.now.exec }
     {

@@ -1,4 +1,5 @@
-//! The headers of an ELF file by their fields, and their numbers ("Tool Interface Standard: ELF"; IHI 0044; docs/elf.md).
+//! The headers of an ELF file, field by field, and their constants ("Tool Interface Standard: ELF"; IHI 0044;
+//! docs/rules/elf.md).
 ghost use Rattle.std.specs.Prelude.{◌≡◌, ◌+◌, ◌*◌, ◌^◌, ◌<◌, ◌≤◌, length, IfOk, Some, None};
 ghost use Rattle.elf_image.specs.Format.{file_header, field, missing, program_header, section_header, program_headers, section_headers, program_offset, program_count, section_offset, section_count};
 
@@ -16,60 +17,73 @@ pub const SECTION_HEADER_SIZE: u32 = 40;
 pub const ET_EXEC: u16 = 2;
 /// `e_machine` of Arm.
 pub const EM_ARM: u16 = 40;
-/// The version of the ABI that the top byte of `e_flags` gives.
+/// The EABI version in the top byte of `e_flags`.
 pub const EABI_VERSION: u8 = 5;
-/// The type of a segment to load.
+/// The type of a loaded segment.
 pub const PT_LOAD: u32 = 1;
-/// The type of the exception index.
+/// The type of the segment of the exception index.
 pub const PT_ARM_EXIDX: u32 = 0x7000_0001;
 /// The type of a symbol table.
 pub const SHT_SYMTAB: u32 = 2;
-/// The type of a table of strings.
+/// The type of a string table.
 pub const SHT_STRTAB: u32 = 3;
 
-/// The file header, as far as it is looked at.
+/// The fields of the file header that are read.
 #[derive(Clone, Copy)]
 pub struct FileHeader {
-    /// What kind of file it is (`e_type`).
+    /// The kind of file (`e_type`).
     pub kind: u16,
+    /// The machine (`e_machine`).
     pub machine: u16,
+    /// The entry (`e_entry`): an address, bit 0 set for Thumb code.
     pub entry: u32,
-    /// The offset of the program headers in the file.
+    /// The offset in bytes of the program headers in the file (`e_phoff`).
     pub program_offset: u32,
-    /// The offset of the section headers in the file.
+    /// The offset in bytes of the section headers in the file (`e_shoff`).
     pub section_offset: u32,
-    /// The top byte of `e_flags`.
+    /// The EABI version: the top byte of `e_flags`.
     pub abi_version: u8,
+    /// The size in bytes of a program header (`e_phentsize`).
     pub program_size: u16,
+    /// The number of program headers (`e_phnum`).
     pub program_count: u16,
+    /// The size in bytes of a section header (`e_shentsize`).
     pub section_size: u16,
+    /// The number of section headers (`e_shnum`).
     pub section_count: u16,
 }
 
-/// A program header: what it is about, and where its bytes lie in the file and in memory.
+/// The fields of a program header that are read.
 #[derive(Clone, Copy)]
 pub struct ProgramHeader {
+    /// The type (`p_type`).
     pub kind: u32,
-    /// The offset of its bytes in the file.
+    /// The offset in bytes of its contents in the file (`p_offset`).
     pub offset: u32,
+    /// The address in memory (`p_vaddr`).
     pub address: u32,
+    /// The number of bytes in the file (`p_filesz`).
     pub file_size: u32,
+    /// The number of bytes in memory (`p_memsz`).
     pub memory_size: u32,
+    /// The access rights (`p_flags`).
     pub flags: u32,
 }
 
-/// A section header, as far as it is looked at.
+/// The fields of a section header that are read.
 #[derive(Clone, Copy)]
 pub struct SectionHeader {
+    /// The type (`sh_type`).
     pub kind: u32,
-    /// The offset of its bytes in the file.
+    /// The offset in bytes of its contents in the file (`sh_offset`).
     pub offset: u32,
+    /// The size of its contents in bytes (`sh_size`).
     pub size: u32,
-    /// The number of another section.
+    /// The number of a linked section (`sh_link`).
     pub link: u32,
 }
 
-/// The word at an offset.
+/// The 32-bit word at an offset.
 pub(crate) fn word(bytes: &[u8], at: usize) -> u32
     requires { at + 4 ≤ length bytes.now }
     ensures { result ≡ field 4 bytes.now at }
@@ -77,7 +91,7 @@ pub(crate) fn word(bytes: &[u8], at: usize) -> u32
     LittleEndian::read_u32(&bytes[at..])
 }
 
-/// The halfword at an offset.
+/// The 16-bit halfword at an offset.
 pub(crate) fn half(bytes: &[u8], at: usize) -> u16
     requires { at + 2 ≤ length bytes.now }
     ensures { result ≡ field 2 bytes.now at }
@@ -85,7 +99,7 @@ pub(crate) fn half(bytes: &[u8], at: usize) -> u16
     LittleEndian::read_u16(&bytes[at..])
 }
 
-/// The refusal of a file that does not hold the part at `at` of `size` bytes.
+/// Truncated if the file doesn't hold all of the `size` bytes at `at`, else None.
 pub(crate) fn missing(bytes: &[u8], at: u64, size: u64) -> Option<ImageFault>
     requires at_fits { at + size < 2 ^ 64 }
     ensures { result ≡ missing bytes.now at size }
@@ -97,7 +111,7 @@ pub(crate) fn missing(bytes: &[u8], at: u64, size: u64) -> Option<ImageFault>
     }
 }
 
-/// The file header, whose bytes are there.
+/// Reads the file header; its bytes must be there.
 pub(crate) fn file_header(bytes: &[u8]) -> FileHeader
     requires { 52 ≤ length bytes.now }
     ensures { result ≡ file_header bytes.now }
@@ -116,6 +130,7 @@ pub(crate) fn file_header(bytes: &[u8]) -> FileHeader
     }
 }
 
+/// Reads the program header at an offset.
 #[tactic(auto, unfolding(crate::specs::Format::program_header))]
 fn program_header(bytes: &[u8], at: usize) -> ProgramHeader
     requires { at + 32 ≤ length bytes.now }
@@ -131,6 +146,7 @@ fn program_header(bytes: &[u8], at: usize) -> ProgramHeader
     }
 }
 
+/// Reads the section header at an offset.
 #[tactic(auto, unfolding(crate::specs::Format::section_header))]
 fn section_header(bytes: &[u8], at: usize) -> SectionHeader
     requires { at + 40 ≤ length bytes.now }
@@ -144,7 +160,7 @@ fn section_header(bytes: &[u8], at: usize) -> SectionHeader
     }
 }
 
-/// The program headers, of 32 bytes each.
+/// Reads the program headers, 32 bytes each.
 pub(crate) fn program_headers(alloc: Global, bytes: &[u8]) -> Result<Vec<ProgramHeader>, AllocError>
     requires whole { 52 ≤ length bytes.now }
     requires there { missing bytes.now (program_offset bytes.now) (32 * program_count bytes.now) ≡ None }
@@ -160,7 +176,7 @@ pub(crate) fn program_headers(alloc: Global, bytes: &[u8]) -> Result<Vec<Program
     Ok(headers)
 }
 
-/// The section headers, of 40 bytes each.
+/// Reads the section headers, 40 bytes each.
 pub(crate) fn section_headers(alloc: Global, bytes: &[u8]) -> Result<Vec<SectionHeader>, AllocError>
     requires whole { 52 ≤ length bytes.now }
     requires there { missing bytes.now (section_offset bytes.now) (40 * section_count bytes.now) ≡ None }

@@ -1,4 +1,4 @@
-//! The functions of an image: which symbols are one, and where each ends (docs/elf.md).
+//! Finds the functions of an image in its symbols (docs/rules/elf.md).
 ghost use Rattle.elf_image.specs.declared.limits.TheConstants.{ADDRESS_LIMIT};
 ghost use Rattle.std.specs.Prelude.{◌≡◌, ◌+◌, ◌-◌, ◌^◌, ◌<◌, ◌≤◌, length, drop, nat_le, ◌==◌, min, if◌then◌else◌, IfOk, IfSome, Some, None, option_copied};
 ghost use Rattle.std.specs.List.{prefix_len, position_from};
@@ -6,7 +6,7 @@ ghost use Rattle.std.specs.List.Sorted.{IsStrictlySortedBy};
 ghost use Rattle.std.specs.Ordering.{nat_cmp};
 ghost use Rattle.std.specs.Map.{values_of, keys_of};
 ghost use Rattle.elf_image.specs.Segments.{RiseFrom, segment_end};
-ghost use Rattle.elf_image.specs.Functions.{Function as Range, is_thumb_function, segment_at, function_of_symbol, functions_by_start, next_start, ended, functions_of, FunctionsFrom, is_inside};
+ghost use Rattle.elf_image.specs.Functions.{Function as Range, is_thumb_function, segment_at, function_of_symbol, functions_by_start, next_start, clip_ends, functions_of, FunctionsFrom, is_inside};
 
 use crate::holder::segment_at;
 use crate::segment::Segment;
@@ -15,11 +15,14 @@ use std::alloc::{AllocError, Global};
 use std::collections::BTreeMap;
 use std::marker::Model;
 
-/// A function: its name, its first address, with bit 0 clear, and the first address above it.
+/// A function of an image.
 #[derive(Drop)]
 pub struct Function<'a> {
+    /// The name of its symbol.
     pub name: &'a [u8],
+    /// The address of its first byte, bit 0 clear.
     pub start: u32,
+    /// The address after its last byte.
     pub end: u32,
 }
 
@@ -31,14 +34,14 @@ impl<'a> Model for Function<'a> {
     ghost view = { λ f. record { name = f.name.now; start = f.start; end = f.end } };
 }
 
+/// Whether a symbol is a defined function in Thumb code.
 fn is_thumb_function(s: &Symbol) -> bool
     ensures { result ≡ is_thumb_function s.now }
 {
     s.info % 16 == STT_FUNC && s.value % 2 == 1 && s.section != SHN_UNDEF
 }
 
-/// The first address above a function of that size, which ends with its segment at the latest. A size of 0 reaches to the
-/// segment's end.
+/// The end address of a function by its size, cut off at its segment's end. A size of 0 reaches to the segment's end.
 fn limit(segment: &Segment, start: u32, size: u32) -> u32
     requires { segment_end segment.now ≤ ADDRESS_LIMIT }
     ensures { result ≡ (if size == 0 then segment_end segment.now else min (segment_end segment.now) (start + size)) }
@@ -51,7 +54,7 @@ fn limit(segment: &Segment, start: u32, size: u32) -> u32
     }
 }
 
-/// What a symbol gives alone, if it is a function.
+/// The function of a symbol, or None if the symbol is no function.
 #[tactic(auto, unfolding(crate::specs::Functions::function_of_symbol))]
 pub(crate) fn function_of_symbol<'a>(segments: &[Segment], s: &Symbol<'a>) -> Option<Function<'a>>
     requires { RiseFrom 0 segments.now }
@@ -72,7 +75,7 @@ pub(crate) fn function_of_symbol<'a>(segments: &[Segment], s: &Symbol<'a>) -> Op
     })
 }
 
-/// The functions by their starts; the first symbol at one start counts.
+/// The functions by their start addresses. Of several at one address, the first symbol counts.
 fn functions_by_start<'a>(
     alloc: Global,
     segments: &[Segment],
@@ -93,6 +96,7 @@ fn functions_by_start<'a>(
     Ok(entries)
 }
 
+/// The functions of a map, in its order.
 fn values<'a>(
     alloc: Global,
     entries: BTreeMap<u32, Function<'a>>,
@@ -103,7 +107,7 @@ fn values<'a>(
     entries.into_values().collect(alloc)
 }
 
-/// The start of the function at place `i`, or `none` past the last one.
+/// The start of function `i`, or `none` past the last function.
 fn next_start(functions: &[Function], i: usize, none: u32) -> u32
     ensures { result ≡ next_start (drop i functions.now) none }
 {
@@ -115,9 +119,9 @@ fn next_start(functions: &[Function], i: usize, none: u32) -> u32
     }
 }
 
-/// The functions, each ended at the start of the next one at the latest.
-fn ended<'a>(alloc: Global, drafts: &[Function<'a>]) -> Result<Vec<Function<'a>>, AllocError>
-    ensures { IfOk result (λ v. v.items ≡ ended drafts.now) }
+/// The functions, each cut off at the start of the next.
+fn clip_ends<'a>(alloc: Global, drafts: &[Function<'a>]) -> Result<Vec<Function<'a>>, AllocError>
+    ensures { IfOk result (λ v. v.items ≡ clip_ends drafts.now) }
 {
     let mut functions = Vec::with_capacity(alloc, drafts.len())?;
     for (i, f) in drafts.iter().enumerate() {
@@ -131,7 +135,7 @@ fn ended<'a>(alloc: Global, drafts: &[Function<'a>]) -> Result<Vec<Function<'a>>
     Ok(functions)
 }
 
-/// The functions of the symbols, in rising order of their starts.
+/// The functions of the symbols, in ascending order of their starts.
 #[tactic(auto, using(crate::proofs::Ended::functions_from), unfolding(crate::specs::Functions::functions_of))]
 pub(crate) fn read_functions<'a>(
     alloc: Global,
@@ -144,10 +148,10 @@ pub(crate) fn read_functions<'a>(
 {
     let entries = functions_by_start(alloc, segments, symbols)?;
     let drafts = values(alloc, entries)?;
-    ended(alloc, &drafts)
+    clip_ends(alloc, &drafts)
 }
 
-/// How many functions begin at `a` or below.
+/// How many functions begin at or below `a`.
 fn functions_up_to(functions: &[Function], a: u32) -> usize
     requires { FunctionsFrom 0 functions.now }
     ensures count { result ≡ prefix_len (λ f. nat_le f.start a) functions.now }
@@ -156,7 +160,7 @@ fn functions_up_to(functions: &[Function], a: u32) -> usize
     functions.partition_point(|f| f.start <= a)
 }
 
-/// The number of the function that holds an address.
+/// The number of the function that contains an address, or None.
 #[tactic(auto, using(crate::proofs::Lookups::function_lookups))]
 pub(crate) fn function_number(functions: &[Function], a: u32) -> Option<usize>
     requires { FunctionsFrom 0 functions.now }

@@ -1,4 +1,4 @@
-//! What is refused before any segment is looked at (docs/elf.md).
+//! The tests of the headers, which come before those of the segments (docs/rules/elf.md).
 ghost use Rattle.std.specs.Prelude.{◌≡◌, ◌+◌, ◌*◌, ◌≤◌, ◌==◌, not, ◌&&◌, ◌||◌, length, slice_index, None};
 ghost use Rattle.elf_image.specs.declared.format.TheConstants.{PROGRAM_HEADER_SIZE, SECTION_HEADER_SIZE};
 ghost use Rattle.elf_image.specs.Header.{header_refusal, table_refusal};
@@ -9,7 +9,7 @@ use crate::format::{
     SECTION_HEADER_SIZE, file_header, missing,
 };
 
-/// Whether the bytes begin with the mark of an ELF file.
+/// Whether the file begins with the ELF magic.
 fn is_elf(bytes: &[u8]) -> bool
     requires { 52 ≤ length bytes.now }
     ensures { result ≡ (slice_index bytes.now 0 == 0x7f && slice_index bytes.now 1 == 0x45 && slice_index bytes.now 2 == 0x4c && slice_index bytes.now 3 == 0x46) }
@@ -17,7 +17,7 @@ fn is_elf(bytes: &[u8]) -> bool
     bytes[0] == 0x7f && bytes[1] == 0x45 && bytes[2] == 0x4c && bytes[3] == 0x46
 }
 
-/// Whether the file has words of 32 bits, lowest byte first, in the one version of the format.
+/// Whether the file is of class 32, little-endian and version 1.
 fn is_little_32(bytes: &[u8]) -> bool
     requires { 52 ≤ length bytes.now }
     ensures { result ≡ (slice_index bytes.now 4 == 1 && slice_index bytes.now 5 == 1 && slice_index bytes.now 6 == 1) }
@@ -25,7 +25,7 @@ fn is_little_32(bytes: &[u8]) -> bool
     bytes[4] == 1 && bytes[5] == 1 && bytes[6] == 1
 }
 
-/// What is refused of the file header.
+/// The first refusal of the file header, if any.
 #[tactic(auto, unfolding(crate::specs::Header::header_refusal))]
 pub(crate) fn header_refusal(bytes: &[u8]) -> Option<ImageFault>
     ensures refusal { result ≡ header_refusal bytes.now }
@@ -53,7 +53,7 @@ pub(crate) fn header_refusal(bytes: &[u8]) -> Option<ImageFault>
     None
 }
 
-/// Whether a table that has entries has some of another size.
+/// Whether there are headers of another size than expected.
 fn has_other_sizes(header: &FileHeader) -> bool
     ensures { result ≡ ((not (header.now.program_count == 0) && not (header.now.program_size == PROGRAM_HEADER_SIZE)) || (not (header.now.section_count == 0) && not (header.now.section_size == SECTION_HEADER_SIZE))) }
 {
@@ -61,7 +61,7 @@ fn has_other_sizes(header: &FileHeader) -> bool
         || (header.section_count != 0 && u32::from(header.section_size) != SECTION_HEADER_SIZE)
 }
 
-/// What is refused of the tables of program and section headers.
+/// The first refusal of the tables of program and section headers, if any.
 #[tactic(auto, unfolding(crate::specs::Header::table_refusal))]
 pub(crate) fn table_refusal(bytes: &[u8]) -> Option<ImageFault>
     requires { 52 ≤ length bytes.now }

@@ -1,4 +1,4 @@
-//! Which segment holds an address, by halving (docs/elf.md).
+//! Finds the segment of an address by binary search (docs/rules/elf.md).
 ghost use Rattle.elf_image.specs.declared.limits.TheConstants.{ADDRESS_LIMIT};
 ghost use Rattle.std.specs.Prelude.{◌≡◌, ◌+◌, ◌<◌, ◌≤◌, length, nat_le, IfSome, option_copied};
 ghost use Rattle.std.specs.List.{prefix_len, position_from};
@@ -7,7 +7,7 @@ ghost use Rattle.elf_image.specs.Functions.{segment_at};
 
 use crate::segment::Segment;
 
-/// How many segments begin at `a` or below.
+/// How many segments begin at or below `a`.
 fn segments_up_to(segments: &[Segment], a: u32) -> usize
     requires { RiseFrom 0 segments.now }
     ensures count { result ≡ prefix_len (λ s. nat_le s.start a) segments.now }
@@ -16,7 +16,7 @@ fn segments_up_to(segments: &[Segment], a: u32) -> usize
     segments.partition_point(|s| s.start <= a)
 }
 
-/// The number of the segment that holds an address.
+/// The number of the segment that contains an address, or None.
 #[tactic(auto, using(crate::proofs::Lookups::segment_numbers))]
 pub(crate) fn segment_number(segments: &[Segment], a: u32) -> Option<usize>
     requires { RiseFrom 0 segments.now }
@@ -35,7 +35,7 @@ pub(crate) fn segment_number(segments: &[Segment], a: u32) -> Option<usize>
     }
 }
 
-/// The segment that holds an address.
+/// The segment that contains an address, or None.
 #[tactic(auto, using(crate::proofs::Lookups::segment_lookups))]
 pub(crate) fn segment_at<'b, 'a>(segments: &'b [Segment<'a>], a: u32) -> Option<&'b Segment<'a>>
     requires { RiseFrom 0 segments.now }

@@ -1,4 +1,4 @@
-//! The range of the exception index (IHI 0038; docs/elf.md).
+//! Reads the exception index (IHI 0038; docs/rules/elf.md).
 ghost use Rattle.std.specs.Prelude.{◌≡◌, IfOk, IfErr, Some, None, filter, Ok, Err, IfNone, IfSome, true, false, find};
 ghost use Rattle.std.specs.List.{list_any};
 ghost use Rattle.elf_image.specs.Index.{is_index, holds_index, index_bytes_in, index_refusal, index_of};
@@ -9,7 +9,7 @@ use crate::format::{PT_ARM_EXIDX, ProgramHeader};
 use crate::segment::Segment;
 use std::alloc::{AllocError, Global};
 
-/// The headers of exception indexes (PT_ARM_EXIDX).
+/// The program headers of exception indexes (PT_ARM_EXIDX).
 pub(crate) fn index_headers(
     alloc: Global,
     headers: &[ProgramHeader],
@@ -23,7 +23,7 @@ pub(crate) fn index_headers(
         .collect(alloc)
 }
 
-/// Whether the file's bytes of a read-only segment hold the index, at a multiple of 4.
+/// Whether the segment is read-only and its file bytes contain the index, at a multiple of 4.
 fn holds_index(h: &ProgramHeader, s: &Segment) -> bool
     ensures { result ≡ holds_index h.now s.now }
 {
@@ -34,7 +34,7 @@ fn holds_index(h: &ProgramHeader, s: &Segment) -> bool
         && h.address % 4 == 0
 }
 
-/// The bytes of an index in the first segment that holds it.
+/// The bytes of an index, from the first segment that holds it; None if none does.
 fn index_bytes<'a>(h: &ProgramHeader, segments: &[Segment<'a>]) -> Option<&'a [u8]>
     ensures none { IfNone result (list_any (holds_index h.now) segments.now ≡ false) }
     ensures there { IfSome result (λ b. list_any (holds_index h.now) segments.now ≡ true) }
@@ -49,7 +49,7 @@ fn index_bytes<'a>(h: &ProgramHeader, segments: &[Segment<'a>]) -> Option<&'a [u
     None
 }
 
-/// The address and the bytes of the index of these headers, or what is refused of it. Without a header 0 and no bytes.
+/// The address and the bytes of the exception index; 0 and no bytes without one. IndexRange if it is refused.
 #[tactic(auto, unfolding(crate::specs::Index::index_refusal, crate::specs::Index::index_of))]
 pub(crate) fn index_of<'a>(
     headers: &[ProgramHeader],

@@ -1,4 +1,4 @@
-//! Arm ELF images: reading them, and what they hold (docs/elf.md).
+//! Reads Arm ELF images and answers queries on them (docs/rules/elf.md).
 #![tactic(auto)]
 
 mod access;

@@ -1,4 +1,4 @@
-//! Reading an image: the tests in their order, and what is put together (docs/elf.md).
+//! Reads an image: makes the tests in order and puts its parts together (docs/rules/elf.md).
 ghost use Rattle.elf_image.specs.declared.limits.TheConstants.{MEMORY_LIMIT, SEGMENT_LIMIT};
 ghost use Rattle.std.specs.Prelude.{◌≡◌, ◌≢◌, All, ◌+◌, ◌*◌, ◌^◌, ◌<◌, ◌≤◌, [], ◌∷◌, length, sum_by, Option, Some, None, Ok, Err, filter, IfOk, IfErr};
 ghost use Rattle.elf_image.specs.Format.{missing, program_headers, program_offset, program_count, section_offset, section_count, section_headers, first_of};
@@ -22,7 +22,7 @@ use crate::segment::{Segment, loads, part, segments_of};
 use crate::symbol::{SYMBOL_SIZE, Symbol, read_symbols, tables};
 use std::alloc::Global;
 
-/// The segments to load, or what is refused of them.
+/// Reads the loaded segments.
 fn read_segments<'a>(
     alloc: Global,
     bytes: &'a [u8],
@@ -37,7 +37,7 @@ fn read_segments<'a>(
     segments_of(alloc, bytes, &loads)
 }
 
-/// The address and the bytes of the index, or what is refused of it.
+/// Reads the address and the bytes of the exception index.
 fn read_index<'a>(
     alloc: Global,
     headers: &[ProgramHeader],
@@ -51,7 +51,7 @@ fn read_index<'a>(
     index_of(&indexes, segments)
 }
 
-/// The bytes of the symbol table and of its strings, or what is refused of them.
+/// Finds the bytes of the symbol table and of its strings.
 #[tactic(auto, unfolding(crate::specs::Symbols::tables_refusal))]
 fn read_tables<'a>(alloc: Global, bytes: &'a [u8]) -> Result<(&'a [u8], &'a [u8]), ImageFault>
     requires whole { 52 ≤ length bytes.now }
@@ -78,7 +78,7 @@ fn read_tables<'a>(alloc: Global, bytes: &'a [u8]) -> Result<(&'a [u8], &'a [u8]
     ))
 }
 
-/// The image of these segments and symbols, or what is refused of its functions and its entry field.
+/// Makes the image of these segments and symbols. Err if there are too many functions or the entry is refused.
 #[tactic(auto, using(crate::proofs::Building::building), unfolding(crate::specs::Image::count_refusal, crate::specs::Image::image_with))]
 fn build<'a>(
     alloc: Global,
@@ -119,11 +119,11 @@ fn build<'a>(
     })
 }
 
-/// The image that the bytes of an ELF file stand for ("ELF for the Arm Architecture"; docs/elf.md has the tests in their
-/// order). Refused is what the first test names; numbers in `Truncated` are offsets in bytes and are not wrapped.
+/// Reads the image of an ELF file ("ELF for the Arm Architecture"). Err with the first test that fails (docs/rules/elf.md has
+/// their order), or if memory runs out. The number in `Truncated` is a file length in bytes, computed without wrapping.
 pub fn read_image<'a>(alloc: Global, bytes: &'a [u8]) -> Result<Image<'a>, ImageFault>
     ensures image { IfOk result (λ image. image_of bytes.now ≡ Ok image) }
-    // Want of memory alone is free.
+    // Only OutOfMemory may come at any time.
     ensures refused { IfErr result (λ fault. fault ≢ OutOfMemory → image_of bytes.now ≡ Err fault) }
 {
     if let Some(fault) = header_refusal(bytes) {

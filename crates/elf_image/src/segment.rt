@@ -1,4 +1,4 @@
-//! The segments to load: what is refused of them, and their order (docs/elf.md).
+//! The loaded segments: their tests and their order (docs/rules/elf.md).
 ghost use Rattle.std.specs.Prelude.{◌≡◌, ◌+◌, ◌-◌, ◌^◌, ◌<◌, ◌≤◌, [], ◌∷◌, length, IfOk, IfSome, IfNone, MatchOption, OnOk, IsTrue, Option, Some, None, true, false, map, IfErr, All, filter, ◌≢◌};
 ghost use Rattle.elf_image.specs.declared.fault.ImageFault.TheVariants.{OutOfMemory};
 ghost use Rattle.std.specs.List.{list_any};
@@ -7,7 +7,7 @@ ghost use Rattle.std.specs.List.Sorted.{IsStrictlySortedBy};
 ghost use Rattle.std.specs.Ordering.{nat_cmp};
 ghost use Rattle.elf_image.specs.Format.{missing, part};
 ghost use Rattle.elf_image.specs.Sorted.{overlap_from, Hold};
-ghost use Rattle.elf_image.specs.Segments.{Segment as Bytes, holds, is_load, loads, bytes_refusal, is_out_of_range, some_overlap, segment_refusal, segment_of, segments_of, by_address, RiseFrom};
+ghost use Rattle.elf_image.specs.Segments.{Segment as Bytes, holds, is_load, load_headers, bytes_refusal, is_out_of_range, some_overlap, segment_refusal, segment_of, segments_of, by_address, RiseFrom};
 
 use crate::fault::ImageFault;
 use crate::format::{PT_LOAD, ProgramHeader, missing};
@@ -16,14 +16,18 @@ use std::alloc::{AllocError, Global};
 use std::collections::BTreeMap;
 use std::marker::Model;
 
-/// A loaded segment: `size` bytes of memory from the address `start` on, at first those of the file and then zeros.
-/// Every segment may be read.
+/// A loaded segment: memory that begins with bytes of the file, then has zeros. Every segment is readable.
 #[derive(Drop)]
 pub struct Segment<'a> {
+    /// The address of its first byte.
     pub start: u32,
+    /// The bytes that the file gives, from `start` on.
     pub bytes: &'a [u8],
+    /// The size in memory, in bytes.
     pub size: u32,
+    /// Whether it is writable.
     pub write: bool,
+    /// Whether it is executable.
     pub exec: bool,
 }
 
@@ -35,8 +39,8 @@ impl<'a> Model for Segment<'a> {
     ghost view = { λ s. record { start = s.start; bytes = s.bytes.now; size = s.size; write = s.write; exec = s.exec } };
 }
 
-/// The headers of segments that are loaded: of type PT_LOAD and with memory.
-#[tactic(auto, unfolding(crate::specs::Segments::loads))]
+/// The program headers of loaded segments: of type PT_LOAD, with memory.
+#[tactic(auto, unfolding(crate::specs::Segments::load_headers))]
 pub(crate) fn loads(
     alloc: Global,
     headers: &[ProgramHeader],
@@ -50,7 +54,7 @@ pub(crate) fn loads(
         .collect(alloc)
 }
 
-/// The first loaded segment whose bytes the file does not hold.
+/// Truncated for the first loaded segment whose bytes the file doesn't hold, else None.
 fn bytes_refusal(bytes: &[u8], headers: &[ProgramHeader]) -> Option<ImageFault>
     ensures { result ≡ bytes_refusal bytes.now headers.now }
 {
@@ -62,19 +66,21 @@ fn bytes_refusal(bytes: &[u8], headers: &[ProgramHeader]) -> Option<ImageFault>
     None
 }
 
+/// Whether a header has a bad range.
 fn is_out_of_range(h: &ProgramHeader) -> bool
     ensures { result ≡ is_out_of_range h.now }
 {
     u64::from(h.address) + u64::from(h.memory_size) > ADDRESS_LIMIT || h.file_size > h.memory_size
 }
 
+/// Whether one of the headers has a bad range.
 fn some_out_of_range(headers: &[ProgramHeader]) -> bool
     ensures { result ≡ list_any is_out_of_range headers.now }
 {
     headers.iter().any(|h| is_out_of_range(h))
 }
 
-/// Whether one of the headers, in rising order of their addresses, begins below the end of the one before it.
+/// Whether a header begins below the end of the one before it, for headers in ascending order of their addresses.
 fn overlap_from(headers: &[ProgramHeader]) -> bool
     ensures { result ≡ overlap_from 0 headers.now }
 {
@@ -88,7 +94,7 @@ fn overlap_from(headers: &[ProgramHeader]) -> bool
     false
 }
 
-/// The headers by their addresses, or None where two are at one address.
+/// The headers by address, or None if two have one address.
 fn by_address(
     alloc: Global,
     headers: &[ProgramHeader],
@@ -107,6 +113,7 @@ fn by_address(
     Ok(Some(entries))
 }
 
+/// The headers of a map, in its order.
 fn values(
     alloc: Global,
     entries: BTreeMap<u32, ProgramHeader>,
@@ -117,7 +124,7 @@ fn values(
     entries.into_values().collect(alloc)
 }
 
-/// The headers in rising order of their addresses, or None where two share a byte of memory.
+/// The headers in ascending order of their addresses, or None if two share a byte of memory.
 #[tactic(auto, using(crate::proofs::Overlaps::sorted_overlap))]
 fn sorted(
     alloc: Global,
@@ -140,7 +147,7 @@ fn sorted(
     Ok(Some(sorted))
 }
 
-/// The bytes of a part that the file holds.
+/// A part of the file, whose bytes must be there.
 pub(crate) fn part<'a>(bytes: &'a [u8], at: u32, size: u32) -> &'a [u8]
     requires { missing bytes.now at size ≡ None }
     ensures { result.now ≡ part bytes.now at size }
@@ -151,8 +158,9 @@ pub(crate) fn part<'a>(bytes: &'a [u8], at: u32, size: u32) -> &'a [u8]
     &bytes[at as usize..at as usize + size as usize]
 }
 
+/// The segment of a header.
 #[tactic(auto, unfolding(crate::specs::Segments::segment_of))]
-fn loaded<'a>(bytes: &'a [u8], h: &ProgramHeader) -> Segment<'a>
+fn loaded_segment<'a>(bytes: &'a [u8], h: &ProgramHeader) -> Segment<'a>
     requires { missing bytes.now h.now.offset h.now.file_size ≡ None }
     ensures { result ≡ segment_of bytes.now h.now }
 {
@@ -176,12 +184,12 @@ fn segments<'a>(
 {
     let mut segments = Vec::with_capacity(alloc, headers.len())?;
     for h in headers {
-        segments.push(loaded(bytes, h))?;
+        segments.push(loaded_segment(bytes, h))?;
     }
     Ok(segments)
 }
 
-/// The segments of the headers to load, in rising order of their starts, or what is refused of them.
+/// The segments of the headers, in ascending order of their starts. Err with the first refusal.
 #[tactic(auto, unfolding(crate::specs::Segments::segment_refusal))]
 pub(crate) fn segments_of<'a>(
     alloc: Global,

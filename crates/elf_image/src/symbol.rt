@@ -1,4 +1,4 @@
-//! The symbol table and its strings (docs/elf.md).
+//! Reads the symbol table and its strings (docs/rules/elf.md).
 ghost use Rattle.std.specs.Prelude.{◌≡◌, ◌+◌, ◌*◌, ◌/◌, ◌^◌, ◌<◌, ◌≤◌, length, drop, nat_lt, IfOk, IfErr, IfSome, Some, None, option_copied, find};
 ghost use Rattle.std.specs.List.{slice_get, prefix_len};
 ghost use Rattle.std.specs.List.Sorted.{IsNonDecreasing};
@@ -8,22 +8,25 @@ use crate::format::{SHT_STRTAB, SHT_SYMTAB, SectionHeader, half, word};
 use std::alloc::{AllocError, Global};
 use std::marker::Model;
 
-/// The size of a symbol in its table in bytes.
+/// The size in bytes of a row of the symbol table.
 pub const SYMBOL_SIZE: usize = 16;
 /// The type of a function, in the low four bits of a symbol's `info`.
 pub const STT_FUNC: u8 = 2;
-/// The section of a symbol that is not defined.
+/// The section number of an undefined symbol.
 pub const SHN_UNDEF: u16 = 0;
 
-/// A symbol as the table has it, with its name.
+/// A row of the symbol table, with its name.
 #[derive(Drop)]
 pub struct Symbol<'a> {
+    /// The name.
     pub name: &'a [u8],
+    /// The value: for a function, its address with bit 0 set for Thumb code.
     pub value: u32,
+    /// The size in bytes.
     pub size: u32,
-    /// The type in the low four bits, the binding above them.
+    /// The type in the low four bits, the binding in the high four.
     pub info: u8,
-    /// The number of its section; 0 where it is not defined.
+    /// The number of its section; 0 if it is undefined.
     pub section: u16,
 }
 
@@ -42,15 +45,15 @@ fn symbol_table(sections: &[SectionHeader]) -> Option<SectionHeader>
     sections.iter().copied().find(|s| s.kind == SHT_SYMTAB)
 }
 
-/// A section by its number.
+/// The section with a number, or None.
 fn section(sections: &[SectionHeader], number: u32) -> Option<SectionHeader>
     ensures { result ≡ slice_get sections.now number }
 {
     sections.get(number as usize).copied()
 }
 
-/// The symbol table and its strings: the first section of type SHT_SYMTAB, and the one of type SHT_STRTAB that its link
-/// names.
+/// The symbol table and its strings: the first section of type SHT_SYMTAB, and the section that its link names, if that
+/// is of type SHT_STRTAB.
 #[tactic(auto, unfolding(crate::specs::Symbols::tables_of))]
 pub(crate) fn tables(sections: &[SectionHeader]) -> Option<(SectionHeader, SectionHeader)>
     ensures { result ≡ tables_of sections.now }
@@ -64,7 +67,7 @@ pub(crate) fn tables(sections: &[SectionHeader]) -> Option<(SectionHeader, Secti
     }
 }
 
-/// The places of the zero bytes.
+/// The offsets of the zero bytes.
 fn zeros(alloc: Global, strings: &[u8]) -> Result<Vec<u32>, AllocError>
     requires { length strings.now < 2 ^ 32 }
     ensures { IfOk result (λ v. v.items ≡ zeros_from 0 strings.now) }
@@ -78,7 +81,7 @@ fn zeros(alloc: Global, strings: &[u8]) -> Result<Vec<u32>, AllocError>
     Ok(zeros)
 }
 
-/// How many of the places, which rise, are below `at`.
+/// How many of the ascending offsets are below `at`.
 fn zeros_below(zeros: &[u32], at: u32) -> usize
     requires { IsNonDecreasing zeros.now }
     ensures { result ≡ prefix_len (λ z. nat_lt z at) zeros.now }
@@ -86,7 +89,7 @@ fn zeros_below(zeros: &[u32], at: u32) -> usize
     zeros.partition_point(|z| *z < at)
 }
 
-/// The first of the places, which rise, at `at` or above; past them `end`.
+/// The first of the ascending offsets that is at least `at`, or `end` if there is none.
 fn next_zero(zeros: &[u32], at: u32, end: usize) -> usize
     requires { IsNonDecreasing zeros.now }
     ensures { result ≡ next_zero at zeros.now end }
@@ -99,7 +102,7 @@ fn next_zero(zeros: &[u32], at: u32, end: usize) -> usize
     }
 }
 
-/// The name at an offset of the strings: up to the first zero byte, or to the strings' end.
+/// The name at an offset of the strings: up to the next zero byte, or to the strings' end.
 #[tactic(auto, using(crate::proofs::Names::names))]
 fn name_at<'a>(strings: &'a [u8], zeros: &[u32], at: u32) -> &'a [u8]
     requires fits { length strings.now < 2 ^ 32 }
@@ -113,6 +116,7 @@ fn name_at<'a>(strings: &'a [u8], zeros: &[u32], at: u32) -> &'a [u8]
     &strings[start..next_zero(zeros, at, strings.len())]
 }
 
+/// Reads the row at an offset of the table.
 #[tactic(auto, unfolding(crate::specs::Symbols::symbol_at))]
 fn symbol_at<'a>(table: &[u8], strings: &'a [u8], zeros: &[u32], at: usize) -> Symbol<'a>
     requires there { at + 16 ≤ length table.now }
@@ -129,7 +133,7 @@ fn symbol_at<'a>(table: &[u8], strings: &'a [u8], zeros: &[u32], at: usize) -> S
     }
 }
 
-/// The symbols of a table, 16 bytes for each.
+/// Reads the rows of a table, 16 bytes each.
 #[tactic(auto, using(crate::proofs::Listed::listed), unfolding(crate::specs::Symbols::symbols_of))]
 pub(crate) fn read_symbols<'a>(
     alloc: Global,

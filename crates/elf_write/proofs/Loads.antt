@@ -5,7 +5,7 @@ use Rattle.std.specs.BTreeMap.{insert_entry}
 use Rattle.std.specs.Map.{values_of}
 use Rattle.elf_image.specs.Segments.{Segment, is_load, segment_of, segments_of, by_address}
 use Rattle.elf_image.specs.declared.format.ProgramHeader.{ProgramHeader}
-use Rattle.elf_write.specs.Layout.{aligned, bit, padding, contents}
+use Rattle.elf_write.specs.Layout.{align_to_word, bit, padding, contents}
 use Rattle.elf_write.specs.Parts.{own_segment, has_memory, with_segment, segments_of_parts}
 use Rattle.elf_write.specs.declared.parts.OwnSegment.{OwnSegment}
 use Rattle.elf_write.proofs.Layouts.{length_zeros}
@@ -29,10 +29,10 @@ exec_back false false = refl
 same_segment : (x y : Segment) → x.start ≡ y.start → x.bytes ≡ y.bytes → x.size ≡ y.size → x.write ≡ y.write → x.exec ≡ y.exec → x ≡ y
 same_segment x y a b c d e = rw (sym a, sym b, sym c, sym d, sym e) refl
 
-segment_back : (bytes rest : List ℕ) (at : ℕ) (s : OwnSegment) → drop (aligned at) bytes ≡ s.bytes ++ rest → segment_of bytes (header_of at s) ≡ own_segment s
+segment_back : (bytes rest : List ℕ) (at : ℕ) (s : OwnSegment) → drop (align_to_word at) bytes ≡ s.bytes ++ rest → segment_of bytes (header_of at s) ≡ own_segment s
 unfolding segment_of
 segment_back bytes rest at s h =
-    same_segment (segment_of bytes (header_of at s)) (own_segment s) refl (piece_is (aligned at) bytes s.bytes rest h) refl (write_back s.write s.exec) (exec_back s.write s.exec)
+    same_segment (segment_of bytes (header_of at s)) (own_segment s) refl (piece_is (align_to_word at) bytes s.bytes rest h) refl (write_back s.write s.exec) (exec_back s.write s.exec)
 
 -- ---- their order
 
@@ -66,13 +66,13 @@ order_back : (bytes rest : List ℕ) (at : ℕ) (xs : List OwnSegment) (es : Lis
     → map (read_as bytes) (fold with_header es (filter is_load (headers_of at xs))) ≡ fold with_segment (map (read_as bytes) es) (filter has_memory xs)
 order_back bytes rest at [] es h = refl
 order_back bytes rest at (s ∷ xs) es h =
-    let next = aligned at + length s.bytes in
+    let next = align_to_word at + length s.bytes in
     let more = contents next xs in
     let whole : drop at bytes ≡ padding at ++ (s.bytes ++ (more ++ rest)) =
     h ∙ append_assoc (padding at ++ s.bytes) more rest ∙ append_assoc (padding at) s.bytes (more ++ rest) in
-    let own : drop (aligned at) bytes ≡ s.bytes ++ (more ++ rest) =
-    after at (aligned at) bytes (padding at) (s.bytes ++ (more ++ rest)) whole (omega (arith, length_zeros (aligned at - at))) in
-    let later : drop next bytes ≡ more ++ rest = after (aligned at) next bytes s.bytes (more ++ rest) own refl in
+    let own : drop (align_to_word at) bytes ≡ s.bytes ++ (more ++ rest) =
+    after at (align_to_word at) bytes (padding at) (s.bytes ++ (more ++ rest)) whole (omega (arith, length_zeros (align_to_word at - at))) in
+    let later : drop next bytes ≡ more ++ rest = after (align_to_word at) next bytes s.bytes (more ++ rest) own refl in
     order_step bytes (not (s.size == 0)) (header_of at s) s (filter is_load (headers_of next xs)) (filter has_memory xs) es (segment_back bytes (more ++ rest) at s own) refl
     (λ fs. order_back bytes rest next xs fs later)
 

@@ -5,8 +5,8 @@ use Rattle.std.proofs.lemmas.Bool.Decides.{nat_tests}
 use Rattle.elf_image.specs.Image.{image_of}
 use Rattle.elf_image.specs.declared.fault.ImageFault.{ImageFault}
 use Rattle.elf_image.specs.declared.fault.ImageFault.TheVariants.{TooLarge}
-use Rattle.eh_list.specs.Bytes.{zeros}
-use Rattle.elf_write.specs.Layout.{word, aligned, bit, contents, program_bytes, program_rows, file_place, index_row, has_index, base_of, segment_names, last_names, section_names, symbol_rows, strings_of, table_of, Plan, file_end, plan_of, layout_of, joined, is_too_long, is_read, if_read, written_of}
+use Rattle.eh_word.specs.Bytes.{zeros}
+use Rattle.elf_write.specs.Layout.{word, align_to_word, bit, contents, program_bytes, program_rows, file_place, index_row, has_index, base_of, segment_names, last_names, section_names, symbol_rows, strings_of, table_of, Plan, file_end, plan_of, layout_of, join_pieces, is_too_long, is_read, bytes_if_image, write_result}
 use Rattle.elf_write.specs.declared.parts.OwnSegment.{OwnSegment}
 use Rattle.elf_write.specs.declared.parts.ImageParts.{ImageParts}
 use Rattle.elf_write.proofs.Layouts.{length_zeros, length_rows}
@@ -19,9 +19,9 @@ length_program kind offset address file_size memory_size flags = refl
 pub length_program_rows : (at : ℕ) (xs : List OwnSegment) → length (program_rows at xs) ≡ 32 * length xs
 length_program_rows at [] = refl
 length_program_rows at (s ∷ xs) =
-    let rest = length_program_rows (aligned at + length s.bytes) xs in
-    let all = length-append (program_bytes (program 1 (aligned at) s.start (length s.bytes) s.size (4 + bit s.write 2 + bit s.exec 1))) (program_rows (aligned at + length s.bytes) xs) in
-    omega (arith, all, rest, length_program 1 (aligned at) s.start (length s.bytes) s.size (4 + bit s.write 2 + bit s.exec 1))
+    let rest = length_program_rows (align_to_word at + length s.bytes) xs in
+    let all = length-append (program_bytes (program 1 (align_to_word at) s.start (length s.bytes) s.size (4 + bit s.write 2 + bit s.exec 1))) (program_rows (align_to_word at + length s.bytes) xs) in
+    omega (arith, all, rest, length_program 1 (align_to_word at) s.start (length s.bytes) s.size (4 + bit s.write 2 + bit s.exec 1))
 
 index_step : (b : Bool) (row : List ℕ) → length row ≡ 32 → length (cond b row []) ≡ 32 * bit b 1
 index_step true row h = h
@@ -76,30 +76,30 @@ test_most x y h = grind (arith, nat_tests)
 test_less : (x y : ℕ) → y < x → nat_le x y ≡ false
 test_less x y h = grind (arith, nat_tests)
 
-pub many_segments : (parts : ImageParts) → SEGMENT_LIMIT < length parts.segments → written_of parts ≡ Err TooLarge
-unfolding written_of is_too_long
+pub many_segments : (parts : ImageParts) → SEGMENT_LIMIT < length parts.segments → write_result parts ≡ Err TooLarge
+unfolding write_result is_too_long
 many_segments parts h = rw (test_gt SEGMENT_LIMIT (length parts.segments) h) refl
 
-pub long_file : (parts : ImageParts) → length parts.segments ≤ SEGMENT_LIMIT → 2 ^ 32 ≤ file_end (plan_of parts) → written_of parts ≡ Err TooLarge
-unfolding written_of is_too_long
+pub long_file : (parts : ImageParts) → length parts.segments ≤ SEGMENT_LIMIT → 2 ^ 32 ≤ file_end (plan_of parts) → write_result parts ≡ Err TooLarge
+unfolding write_result is_too_long
 long_file parts few h = rw (test_le (length parts.segments) SEGMENT_LIMIT few, test_most (2 ^ 32) (file_end (plan_of parts)) h) refl
 
-pub written_is : (parts : ImageParts) → length parts.segments ≤ SEGMENT_LIMIT → file_end (plan_of parts) < 2 ^ 32 → written_of parts ≡ if_read (layout_of parts) (is_read (image_of (layout_of parts)))
-unfolding written_of is_too_long
+pub written_is : (parts : ImageParts) → length parts.segments ≤ SEGMENT_LIMIT → file_end (plan_of parts) < 2 ^ 32 → write_result parts ≡ bytes_if_image (layout_of parts) (is_read (image_of (layout_of parts)))
+unfolding write_result is_too_long
 written_is parts few h = rw (test_le (length parts.segments) SEGMENT_LIMIT few, test_less (2 ^ 32) (file_end (plan_of parts)) h) refl
 
-layout_is : (parts : ImageParts) (p : Plan) (bytes : List ℕ) → p ≡ plan_of parts → bytes ≡ joined p → bytes ≡ layout_of parts
+layout_is : (parts : ImageParts) (p : Plan) (bytes : List ℕ) → p ≡ plan_of parts → bytes ≡ join_pieces p → bytes ≡ layout_of parts
 unfolding layout_of
-layout_is parts p bytes e h = h ∙ ap (λ (q : Plan). joined q) e
+layout_is parts p bytes e h = h ∙ ap (λ (q : Plan). join_pieces q) e
 
-pub written_bytes : (parts : ImageParts) (p : Plan) (bytes : List ℕ) → length parts.segments ≤ SEGMENT_LIMIT → p ≡ plan_of parts → file_end p < 2 ^ 32 → bytes ≡ joined p
-    → is_read (image_of bytes) ≡ None → written_of parts ≡ Ok bytes
+pub written_bytes : (parts : ImageParts) (p : Plan) (bytes : List ℕ) → length parts.segments ≤ SEGMENT_LIMIT → p ≡ plan_of parts → file_end p < 2 ^ 32 → bytes ≡ join_pieces p
+    → is_read (image_of bytes) ≡ None → write_result parts ≡ Ok bytes
 written_bytes parts p bytes few e short h read =
     let whole = layout_is parts p bytes e h in
     written_is parts few (rw e at short) ∙ rw (← whole) (rw read refl)
 
-pub written_fault : (parts : ImageParts) (p : Plan) (bytes : List ℕ) (fault : ImageFault) → length parts.segments ≤ SEGMENT_LIMIT → p ≡ plan_of parts → file_end p < 2 ^ 32 → bytes ≡ joined p
-    → is_read (image_of bytes) ≡ Some fault → written_of parts ≡ Err fault
+pub written_fault : (parts : ImageParts) (p : Plan) (bytes : List ℕ) (fault : ImageFault) → length parts.segments ≤ SEGMENT_LIMIT → p ≡ plan_of parts → file_end p < 2 ^ 32 → bytes ≡ join_pieces p
+    → is_read (image_of bytes) ≡ Some fault → write_result parts ≡ Err fault
 written_fault parts p bytes fault few e short h read =
     let whole = layout_is parts p bytes e h in
     written_is parts few (rw e at short) ∙ rw (← whole) (rw read refl)

@@ -7,7 +7,7 @@ use Rattle.elf_image.specs.Segments.{Segment, is_load}
 use Rattle.byteorder.specs.Endian.{little_number}
 use Rattle.elf_image.specs.Format.{program_header}
 use Rattle.elf_image.specs.declared.format.ProgramHeader.{ProgramHeader}
-use Rattle.elf_write.specs.Layout.{word, aligned, bit, contents, program_bytes, program_rows}
+use Rattle.elf_write.specs.Layout.{word, align_to_word, bit, contents, program_bytes, program_rows}
 use Rattle.elf_write.specs.Parts.{SegmentsFit, IsWord, holds_range, range_in}
 use Rattle.elf_write.specs.declared.parts.OwnSegment.{OwnSegment}
 use Rattle.elf_write.proofs.Layouts.{contents_length}
@@ -41,11 +41,11 @@ header_back bytes rest at kind offset address file_size memory_size flags k o a 
     (field_is 4 24 at flags bytes row h (word_back flags (word 4 ++ rest) g))
 
 abbrev pub header_of : ℕ → OwnSegment → ProgramHeader
-header_of at s = header 1 (aligned at) s.start (length s.bytes) s.size (4 + bit s.write 2 + bit s.exec 1)
+header_of at s = header 1 (align_to_word at) s.start (length s.bytes) s.size (4 + bit s.write 2 + bit s.exec 1)
 
 abbrev pub headers_of : ℕ → List OwnSegment → List ProgramHeader
 headers_of at [] = []
-headers_of at (s ∷ more) = header_of at s ∷ headers_of (aligned at + length s.bytes) more
+headers_of at (s ∷ more) = header_of at s ∷ headers_of (align_to_word at + length s.bytes) more
 
 bit_small : (b : Bool) (n : ℕ) → bit b n ≤ n
 bit_small true n = omega arith
@@ -56,7 +56,7 @@ flags_fit s = omega (arith, bit_small s.write 2, bit_small s.exec 1)
 
 -- where the bytes of the first segment and of the others stand
 pub first_place : (at : ℕ) (s : OwnSegment) (xs : List OwnSegment)
-    → at + length (contents at (s ∷ xs)) ≡ (aligned at + length s.bytes) + length (contents (aligned at + length s.bytes) xs)
+    → at + length (contents at (s ∷ xs)) ≡ (align_to_word at + length s.bytes) + length (contents (align_to_word at + length s.bytes) xs)
 first_place at s xs = contents_length at (s ∷ xs) 0 s (omega arith)
 
 -- the rows of the segments, and then others
@@ -69,14 +69,14 @@ headers_back bytes rest others off k at m [] fit inside h last =
     let b : 0 + m ≡ m = omega arith in
     rw b (rw a at last)
 headers_back bytes rest others off k at m (s ∷ xs) fit inside h last =
-    let next = aligned at + length s.bytes in
-    let row = program_bytes (program 1 (aligned at) s.start (length s.bytes) s.size (4 + bit s.write 2 + bit s.exec 1)) in
+    let next = align_to_word at + length s.bytes in
+    let row = program_bytes (program 1 (align_to_word at) s.start (length s.bytes) s.size (4 + bit s.write 2 + bit s.exec 1)) in
     let place = first_place at s xs in
     let whole : drop (off + 32 * k) bytes ≡ row ++ (program_rows next xs ++ rest) = h ∙ append_assoc row (program_rows next xs) rest in
     let one : program_header bytes (off + 32 * k) ≡ header_of at s =
-    header_back bytes (program_rows next xs ++ rest) (off + 32 * k) 1 (aligned at) s.start (length s.bytes) s.size (4 + bit s.write 2 + bit s.exec 1)
+    header_back bytes (program_rows next xs ++ rest) (off + 32 * k) 1 (align_to_word at) s.start (length s.bytes) s.size (4 + bit s.write 2 + bit s.exec 1)
     (omega arith) (omega (arith, place, inside)) fit.0 (omega (arith, place, inside)) fit.1 (flags_fit s) whole in
-    let rows = length_program 1 (aligned at) s.start (length s.bytes) s.size (4 + bit s.write 2 + bit s.exec 1) in
+    let rows = length_program 1 (align_to_word at) s.start (length s.bytes) s.size (4 + bit s.write 2 + bit s.exec 1) in
     let later : drop (off + 32 * (k + 1)) bytes ≡ program_rows next xs ++ rest =
     after (off + 32 * k) (off + 32 * (k + 1)) bytes row (program_rows next xs ++ rest) whole (omega (arith, rows)) in
     let e : k + suc (length xs) ≡ k + 1 + length xs = omega arith in
@@ -115,7 +115,7 @@ index_back false bytes rest off k offset a z fa fz h = refl
 
 no_indexes : (at : ℕ) (xs : List OwnSegment) → filter is_index (headers_of at xs) ≡ []
 no_indexes at [] = refl
-no_indexes at (s ∷ xs) = no_indexes (aligned at + length s.bytes) xs
+no_indexes at (s ∷ xs) = no_indexes (align_to_word at + length s.bytes) xs
 
 all_indexes : (b : Bool) (offset a z : ℕ) → filter is_index (index_headers b offset a z) ≡ index_headers b offset a z
 all_indexes true offset a z = refl

@@ -4,8 +4,8 @@ use Rattle.std.specs.List.{range_with_len, find, slice_get}
 use Rattle.elf_image.specs.Format.{section_header}
 use Rattle.elf_image.specs.Symbols.{is_symbol_table, tables_of}
 use Rattle.elf_image.specs.declared.format.SectionHeader.{SectionHeader}
-use Rattle.eh_list.specs.Bytes.{zeros}
-use Rattle.elf_write.specs.Layout.{word, aligned, bit, contents, section_bytes, section_rows, segment_name}
+use Rattle.eh_word.specs.Bytes.{zeros}
+use Rattle.elf_write.specs.Layout.{word, align_to_word, bit, contents, section_bytes, section_rows, segment_name}
 use Rattle.elf_write.specs.Parts.{IsWord}
 use Rattle.elf_write.specs.declared.parts.OwnSegment.{OwnSegment}
 use Rattle.elf_write.proofs.Layouts.{length_zeros}
@@ -44,7 +44,7 @@ null_back bytes rest at h =
 
 abbrev pub heads_of : ℕ → List OwnSegment → List SectionHeader
 heads_of at [] = []
-heads_of at (s ∷ more) = head 1 (aligned at) (length s.bytes) 0 ∷ heads_of (aligned at + length s.bytes) more
+heads_of at (s ∷ more) = head 1 (align_to_word at) (length s.bytes) 0 ∷ heads_of (align_to_word at + length s.bytes) more
 
 pub length_section : (name kind flags address offset size link info entry : ℕ) → length (section_bytes (section name kind flags address offset size link info entry)) ≡ 40
 unfolding section_bytes word
@@ -53,10 +53,10 @@ length_section name kind flags address offset size link info entry = refl
 pub length_section_rows : (i name at : ℕ) (xs : List OwnSegment) → length (section_rows i name at xs) ≡ 40 * length xs
 length_section_rows i name at [] = refl
 length_section_rows i name at (s ∷ xs) =
-    let row = section_bytes (section name 1 (2 + bit s.write 1 + bit s.exec 4) s.start (aligned at) (length s.bytes) 0 0 0) in
-    let rest = length_section_rows (i + 1) (name + length (segment_name i)) (aligned at + length s.bytes) xs in
-    let all = length-append row (section_rows (i + 1) (name + length (segment_name i)) (aligned at + length s.bytes) xs) in
-    omega (arith, all, rest, length_section name 1 (2 + bit s.write 1 + bit s.exec 4) s.start (aligned at) (length s.bytes) 0 0 0)
+    let row = section_bytes (section name 1 (2 + bit s.write 1 + bit s.exec 4) s.start (align_to_word at) (length s.bytes) 0 0 0) in
+    let rest = length_section_rows (i + 1) (name + length (segment_name i)) (align_to_word at + length s.bytes) xs in
+    let all = length-append row (section_rows (i + 1) (name + length (segment_name i)) (align_to_word at + length s.bytes) xs) in
+    omega (arith, all, rest, length_section name 1 (2 + bit s.write 1 + bit s.exec 4) s.start (align_to_word at) (length s.bytes) 0 0 0)
 
 -- the rows of the segments, and then others
 pub heads_back : (bytes rest : List ℕ) (others : List SectionHeader) (off k i name at m : ℕ) (xs : List OwnSegment) → IsWord (at + length (contents at xs))
@@ -68,15 +68,15 @@ heads_back bytes rest others off k i name at m [] inside h last =
     let b : 0 + m ≡ m = omega arith in
     rw b (rw a at last)
 heads_back bytes rest others off k i name at m (s ∷ xs) inside h last =
-    let next = aligned at + length s.bytes in
-    let row = section_bytes (section name 1 (2 + bit s.write 1 + bit s.exec 4) s.start (aligned at) (length s.bytes) 0 0 0) in
+    let next = align_to_word at + length s.bytes in
+    let row = section_bytes (section name 1 (2 + bit s.write 1 + bit s.exec 4) s.start (align_to_word at) (length s.bytes) 0 0 0) in
     let tail = section_rows (i + 1) (name + length (segment_name i)) next xs in
     let place = first_place at s xs in
     let whole : drop (off + 40 * k) bytes ≡ row ++ (tail ++ rest) = h ∙ append_assoc row tail rest in
-    let one : section_header bytes (off + 40 * k) ≡ head 1 (aligned at) (length s.bytes) 0 =
-    head_back bytes (tail ++ rest) (off + 40 * k) name 1 (2 + bit s.write 1 + bit s.exec 4) s.start (aligned at) (length s.bytes) 0 0 0
+    let one : section_header bytes (off + 40 * k) ≡ head 1 (align_to_word at) (length s.bytes) 0 =
+    head_back bytes (tail ++ rest) (off + 40 * k) name 1 (2 + bit s.write 1 + bit s.exec 4) s.start (align_to_word at) (length s.bytes) 0 0 0
     (omega arith) (omega (arith, place, inside)) (omega (arith, place, inside)) (omega arith) whole in
-    let rows = length_section name 1 (2 + bit s.write 1 + bit s.exec 4) s.start (aligned at) (length s.bytes) 0 0 0 in
+    let rows = length_section name 1 (2 + bit s.write 1 + bit s.exec 4) s.start (align_to_word at) (length s.bytes) 0 0 0 in
     let later : drop (off + 40 * (k + 1)) bytes ≡ tail ++ rest =
     after (off + 40 * k) (off + 40 * (k + 1)) bytes row (tail ++ rest) whole (omega (arith, rows)) in
     let e : k + suc (length xs) ≡ k + 1 + length xs = omega arith in
@@ -129,11 +129,11 @@ sections_back bytes off base ta tl sa sl na nl i j n locals xs inside a b c d e 
 
 find_table : (at : ℕ) (xs : List OwnSegment) (t : SectionHeader) (more : List SectionHeader) → t.kind ≡ 2 → find is_symbol_table (heads_of at xs ++ t ∷ more) ≡ Some t
 find_table at [] t more k = rw k refl
-find_table at (s ∷ xs) t more k = find_table (aligned at + length s.bytes) xs t more k
+find_table at (s ∷ xs) t more k = find_table (align_to_word at + length s.bytes) xs t more k
 
 get_past : (at : ℕ) (xs : List OwnSegment) (t u : SectionHeader) (more : List SectionHeader) → slice_get (heads_of at xs ++ t ∷ u ∷ more) (length xs + 1) ≡ Some u
 get_past at [] t u more = refl
-get_past at (s ∷ xs) t u more = let e : suc (length xs) + 1 ≡ suc (length xs + 1) = omega arith in rw e (get_past (aligned at + length s.bytes) xs t u more)
+get_past at (s ∷ xs) t u more = let e : suc (length xs) + 1 ≡ suc (length xs + 1) = omega arith in rw e (get_past (align_to_word at + length s.bytes) xs t u more)
 
 pub tables_back : (at a b c d : ℕ) (xs : List OwnSegment) (more : List SectionHeader)
     → tables_of (head 0 0 0 0 ∷ heads_of at xs ++ head 2 a b (length xs + 2) ∷ head 3 c d 0 ∷ more) ≡ Some (head 2 a b (length xs + 2), head 3 c d 0)

@@ -12,8 +12,8 @@ use Rattle.elf_image.specs.declared.fault.ImageFault.{ImageFault}
 use Rattle.elf_image.specs.declared.fault.ImageFault.TheVariants.{TooLarge}
 use Rattle.elf_image.specs.declared.format.ProgramHeader.{ProgramHeader}
 use Rattle.elf_image.specs.declared.format.SectionHeader.{SectionHeader}
-use Rattle.eh_list.specs.Bytes.{zeros}
-use Rattle.elf_write.specs.Layout.{word, half, aligned, padding, bit, contents, program_rows, file_place, index_row, has_index, base_of, section_bytes, strings_of, table_of, Plan, contents_end, table_at, strings_at, names_at, names_end, sections_at, file_end, identity, header_sizes, file_header, sections_of, joined, plan_of, layout_of, is_too_long, is_read, if_read, written_of}
+use Rattle.eh_word.specs.Bytes.{zeros}
+use Rattle.elf_write.specs.Layout.{word, half, align_to_word, padding, bit, contents, program_rows, file_place, index_row, has_index, base_of, section_bytes, strings_of, table_of, Plan, contents_end, table_at, strings_at, names_at, names_end, sections_at, file_end, identity, header_sizes, file_header, sections_of, join_pieces, plan_of, layout_of, is_too_long, is_read, bytes_if_image, write_result}
 use Rattle.elf_write.specs.Parts.{IsWord, AreParts, segments_of_parts, index_of_parts, symbols_of_parts, image_of_parts, FilesMeanTheirParts, ReadsBack}
 use Rattle.elf_write.specs.declared.parts.ImageParts.{ImageParts}
 use Rattle.elf_write.proofs.Layouts.{length_zeros}
@@ -38,8 +38,8 @@ abbrev after_header : Plan → List ℕ
 after_header p =
     p.programs ++ (p.contents ++ (padding (contents_end p) ++ (p.table ++ (p.strings ++ (p.names ++ (padding (names_end p) ++ sections_of p))))))
 
-shape : (p : Plan) → joined p ≡ file_header p ++ after_header p
-unfolding joined
+shape : (p : Plan) → join_pieces p ≡ file_header p ++ after_header p
+unfolding join_pieces
 shape p = regroup (file_header p) p.programs p.contents (padding (contents_end p)) p.table p.strings p.names (padding (names_end p)) (sections_of p)
 
 -- ---- the file header
@@ -96,11 +96,11 @@ reads p bytes entry short few programs e =
     let start : drop 52 bytes ≡ p.programs ++ one = rw e (header_ends p (after_header p)) in
     let at_contents = step 52 (52 + length p.programs) bytes p.programs one start refl in
     let at_gap = step (52 + length p.programs) (contents_end p) bytes p.contents two at_contents.1 refl in
-    let at_table = step (contents_end p) (table_at p) bytes (padding (contents_end p)) three at_gap.1 (omega (arith, length_zeros (aligned (contents_end p) - contents_end p))) in
+    let at_table = step (contents_end p) (table_at p) bytes (padding (contents_end p)) three at_gap.1 (omega (arith, length_zeros (align_to_word (contents_end p) - contents_end p))) in
     let at_strings = step (table_at p) (strings_at p) bytes p.table four at_table.1 refl in
     let at_names = step (strings_at p) (names_at p) bytes p.strings five at_strings.1 refl in
     let at_end = step (names_at p) (names_end p) bytes p.names six at_names.1 refl in
-    let at_sections = step (names_end p) (sections_at p) bytes (padding (names_end p)) (sections_of p) at_end.1 (omega (arith, length_zeros (aligned (names_end p) - names_end p))) in
+    let at_sections = step (names_end p) (sections_at p) bytes (padding (names_end p)) (sections_of p) at_end.1 (omega (arith, length_zeros (align_to_word (names_end p) - names_end p))) in
     record {
       entry = rw e (entry_is p (after_header p) (omega arith));
       program_offset = rw e (program_offset_is p (after_header p));
@@ -143,7 +143,7 @@ program_number parts = omega (arith, length_programs (base_of parts) parts)
 file_reads : (parts : ImageParts) → AreParts parts → length parts.segments ≤ SEGMENT_LIMIT → IsWord (file_end (plan_of parts)) → Reads (plan_of parts) (layout_of parts)
 unfolding layout_of plan_of
 file_reads parts are few short =
-    reads (plan_of parts) (joined (plan_of parts)) are.entry short few (omega (arith, program_number parts, bit_one (has_index parts))) (shape (plan_of parts))
+    reads (plan_of parts) (join_pieces (plan_of parts)) are.entry short few (omega (arith, program_number parts, bit_one (has_index parts))) (shape (plan_of parts))
 
 contents_fit : (parts : ImageParts) → IsWord (file_end (plan_of parts)) → IsWord (base_of parts + length (contents (base_of parts) parts.segments))
 unfolding plan_of
@@ -270,18 +270,18 @@ same_bytes xs bytes h = cc
 ok_both : (x y : Image) → x ≡ y → ◌≡◌ {A = Result Image ImageFault} (Ok x) (Ok y)
 ok_both x y h = rw h refl
 
-read_step : (parts : ImageParts) (bytes xs : List ℕ) (r : Result Image ImageFault) → ((image : Image) → r ≡ Ok image → image ≡ image_of_parts parts) → if_read xs (is_read r) ≡ Ok bytes
+read_step : (parts : ImageParts) (bytes xs : List ℕ) (r : Result Image ImageFault) → ((image : Image) → r ≡ Ok image → image ≡ image_of_parts parts) → bytes_if_image xs (is_read r) ≡ Ok bytes
     → (r ≡ Ok (image_of_parts parts)) × (xs ≡ bytes)
 read_step parts bytes xs (Ok image) law h = (ok_both image (image_of_parts parts) (law image refl), same_bytes xs bytes h)
 read_step parts bytes xs (Err fault) law h = absurd (no_error fault bytes h)
 
 long_step : (parts : ImageParts) (bytes xs : List ℕ) (long : Bool) (r : Result Image ImageFault) → (long ≡ false → (image : Image) → r ≡ Ok image → image ≡ image_of_parts parts)
-    → cond long (Err TooLarge) (if_read xs (is_read r)) ≡ Ok bytes → (r ≡ Ok (image_of_parts parts)) × (xs ≡ bytes)
+    → cond long (Err TooLarge) (bytes_if_image xs (is_read r)) ≡ Ok bytes → (r ≡ Ok (image_of_parts parts)) × (xs ≡ bytes)
 long_step parts bytes xs true r law h = absurd (no_error TooLarge bytes h)
 long_step parts bytes xs false r law h = read_step parts bytes xs r (law refl) h
 
 pub reads_back : ReadsBack
-unfolding written_of
+unfolding write_result
 reads_back parts bytes are h =
     let found = long_step parts bytes (layout_of parts) (is_too_long parts) (image_of (layout_of parts)) (λ fits image e. stands parts image are fits e) h in
     ap (λ (xs : List ℕ). image_of xs) (sym found.1) ∙ found.0

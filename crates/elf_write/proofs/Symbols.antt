@@ -5,7 +5,7 @@ use Rattle.std.proofs.lemmas.List.{get_or-drop}
 use Rattle.std.specs.List.{All, prefix_len, range_with_len, flat_map}
 use Rattle.byteorder.specs.Endian.{little_number}
 use Rattle.elf_image.specs.Symbols.{Symbol, symbol_at, name_at}
-use Rattle.elf_write.specs.Layout.{word, half, closed, name_offset, symbol_bytes, symbol_rows}
+use Rattle.elf_write.specs.Layout.{word, half, zero_terminated, name_offset, symbol_bytes, symbol_rows}
 use Rattle.elf_write.specs.Parts.{IsWord, HasNoZero}
 use Rattle.elf_write.proofs.Layouts.{length_row}
 use Rattle.elf_write.proofs.Pieces.{word_back, half_back, field_is, after}
@@ -31,10 +31,10 @@ some n = grind (arith, nat_tests)
 offset_some : (b n : ℕ) (name : List ℕ) → name_offset (b ∷ name) n ≡ n
 offset_some b n name = rw (some (length name)) refl
 
-closed_some : (b : ℕ) (name : List ℕ) → closed (b ∷ name) ≡ (b ∷ name) ++ 0 ∷ []
+closed_some : (b : ℕ) (name : List ℕ) → zero_terminated (b ∷ name) ≡ (b ∷ name) ++ 0 ∷ []
 closed_some b name = rw (some (length name)) refl
 
-pub name_back : (strings name rest : List ℕ) (at : ℕ) → HasNoZero name → drop 0 strings ≡ 0 ∷ drop 1 strings → drop at strings ≡ closed name ++ rest → name_at strings (name_offset name at) ≡ name
+pub name_back : (strings name rest : List ℕ) (at : ℕ) → HasNoZero name → drop 0 strings ≡ 0 ∷ drop 1 strings → drop at strings ≡ zero_terminated name ++ rest → name_at strings (name_offset name at) ≡ name
 name_back strings [] rest at h first there = rw first refl
 name_back strings (b ∷ name) rest at h first there =
     ap (λ (o : ℕ). name_at strings o) (offset_some b at name)
@@ -57,7 +57,7 @@ offset_small : (name : List ℕ) (n : ℕ) → IsWord n → IsWord (name_offset 
 offset_small [] n h = omega arith
 offset_small (b ∷ name) n h = rw (offset_some b n name) h
 
-pub symbol_back : (table strings rest names : List ℕ) (at n : ℕ) (s : Symbol) → Fits s → IsWord n → drop 0 strings ≡ 0 ∷ drop 1 strings → drop n strings ≡ closed s.name ++ names
+pub symbol_back : (table strings rest names : List ℕ) (at n : ℕ) (s : Symbol) → Fits s → IsWord n → drop 0 strings ≡ 0 ∷ drop 1 strings → drop n strings ≡ zero_terminated s.name ++ names
     → drop at table ≡ symbol_bytes n s ++ rest → symbol_at table strings at ≡ s
 unfolding symbol_at symbol_bytes word half
 symbol_back table strings rest names at n s fit small first there h =
@@ -73,19 +73,19 @@ symbol_back table strings rest names at n s fit small first there h =
     (sym (get_or-drop at table 12 0) ∙ ap (λ (xs : List ℕ). get_or xs 12 0) h)
     (field_is 2 14 at s.section table row h (half_back s.section rest fit.section))
 
-pub symbols_back : (table strings names : List ℕ) (k n : ℕ) (xs : List Symbol) → All Fits xs → IsWord (n + length (flat_map (λ (s : Symbol). closed s.name) xs))
-    → drop 0 strings ≡ 0 ∷ drop 1 strings → drop n strings ≡ flat_map (λ (s : Symbol). closed s.name) xs ++ names → drop (16 * k) table ≡ symbol_rows n xs
+pub symbols_back : (table strings names : List ℕ) (k n : ℕ) (xs : List Symbol) → All Fits xs → IsWord (n + length (flat_map (λ (s : Symbol). zero_terminated s.name) xs))
+    → drop 0 strings ≡ 0 ∷ drop 1 strings → drop n strings ≡ flat_map (λ (s : Symbol). zero_terminated s.name) xs ++ names → drop (16 * k) table ≡ symbol_rows n xs
     → map (λ i. symbol_at table strings (16 * i)) (range_with_len k (length xs)) ≡ xs
 symbols_back table strings names k n [] fit small first there h = refl
 symbols_back table strings names k n (s ∷ xs) fit small first there h =
-    let more = flat_map (λ (x : Symbol). closed x.name) xs in
-    let next = n + length (closed s.name) in
-    let long = length-append (closed s.name) more in
-    let named : drop n strings ≡ closed s.name ++ (more ++ names) = there ∙ append_assoc (closed s.name) more names in
+    let more = flat_map (λ (x : Symbol). zero_terminated x.name) xs in
+    let next = n + length (zero_terminated s.name) in
+    let long = length-append (zero_terminated s.name) more in
+    let named : drop n strings ≡ zero_terminated s.name ++ (more ++ names) = there ∙ append_assoc (zero_terminated s.name) more names in
     let one : symbol_at table strings (16 * k) ≡ s =
     symbol_back table strings (symbol_rows next xs) (more ++ names) (16 * k) n s (fit 0 s (omega arith)) (omega (arith, long, small)) first named h in
     let later : drop (16 * (k + 1)) table ≡ symbol_rows next xs =
     after (16 * k) (16 * (k + 1)) table (symbol_bytes n s) (symbol_rows next xs) h (omega (arith, length_row n s)) in
     let others = symbols_back table strings names (k + 1) next xs (λ i d l. fit (suc i) d (omega arith)) (omega (arith, long, small)) first
-    (after n next strings (closed s.name) (more ++ names) named refl) later in
+    (after n next strings (zero_terminated s.name) (more ++ names) named refl) later in
     rw (one, others) refl

@@ -3,8 +3,8 @@ use Rattle.std.proofs.Common.{◌≡◌, ℕ, zero, suc, ◌+◌, ◌*◌, ◌^�
 use Rattle.std.proofs.lemmas.List.Elements.{All-append}
 use Rattle.std.specs.List.{All, range_with_len, flat_map, position_from}
 use Rattle.elf_image.specs.Symbols.{Symbol, symbol_at, symbols_of, symbol_count}
-use Rattle.eh_list.specs.Bytes.{zeros}
-use Rattle.elf_write.specs.Layout.{closed, symbol_rows, strings_of, symbol_row_of, rows_of, section_of, is_wanted, wanted_rows, table_of}
+use Rattle.eh_word.specs.Bytes.{zeros}
+use Rattle.elf_write.specs.Layout.{zero_terminated, symbol_rows, strings_of, symbol_row_of, rows_of, section_of, is_wanted, wanted_rows, table_of}
 use Rattle.elf_write.specs.Parts.{IsWord, HasNoZero, SymbolsFit, AreParts, null_symbol, symbols_of_parts}
 use Rattle.elf_write.specs.declared.parts.OwnSegment.{OwnSegment}
 use Rattle.elf_write.specs.declared.parts.OwnSymbol.{OwnSymbol}
@@ -67,7 +67,7 @@ pub table_back : (parts : ImageParts) → AreParts parts → length parts.segmen
 unfolding symbols_of
 table_back parts are few small =
     let xs : List Symbol = table_of parts in
-    let strings : List ℕ = flat_map (λ (s : Symbol). closed s.name) xs in
+    let strings : List ℕ = flat_map (λ (s : Symbol). zero_terminated s.name) xs in
     let table : List ℕ = zeros 16 ++ symbol_rows 1 xs in
     let nothing : strings ≡ strings ++ [] = sym (append-nil strings) in
     let others : map (λ i. symbol_at table (0 ∷ strings) (16 * i)) (range_with_len 1 (length xs)) ≡ xs =

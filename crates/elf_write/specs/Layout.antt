@@ -2,7 +2,7 @@
 use Rattle.std.specs.Prelude.{ℕ, ◌≡◌, ◌+◌, ◌-◌, ◌*◌, ◌/◌, ◌%◌, ◌^◌, ◌==◌, not, ◌&&◌, ◌||◌, nat_le, nat_lt, Bool, true, false, if◌then◌else◌, List, [], ◌∷◌, ◌++◌, length, map, filter, Option, Some, None, unwrap_or, Result, Ok, Err, codes}
 use Rattle.std.specs.List.{position_from, flat_map}
 use Rattle.byteorder.specs.Endian.{little_bytes}
-use Rattle.eh_list.specs.Bytes.{zeros, next_multiple}
+use Rattle.eh_word.specs.Bytes.{zeros, next_multiple}
 use Rattle.elf_image.specs.Symbols.{Symbol}
 use Rattle.elf_image.specs.declared.format.ProgramHeader.{ProgramHeader}
 use Rattle.elf_image.specs.declared.format.TheConstants.{FILE_HEADER_SIZE, PROGRAM_HEADER_SIZE, SECTION_HEADER_SIZE, ET_EXEC, EM_ARM, PT_LOAD, PT_ARM_EXIDX, SHT_SYMTAB, SHT_STRTAB}
@@ -27,12 +27,12 @@ unfoldable pub half : ℕ → List ℕ
 half x = little_bytes 2 x
 
 -- the next multiple of 4
-abbrev pub aligned : ℕ → ℕ
-aligned n = next_multiple n 4
+abbrev pub align_to_word : ℕ → ℕ
+align_to_word n = next_multiple n 4
 
 -- zeros up to the next multiple of 4
 abbrev pub padding : ℕ → List ℕ
-padding at = zeros (aligned at - at)
+padding at = zeros (align_to_word at - at)
 
 abbrev pub bit : Bool → ℕ → ℕ
 bit b n = if b then n else 0
@@ -45,7 +45,7 @@ is_mapping kind.Object = false
 is_mapping kind.Code = true
 is_mapping kind.Words = true
 
--- the number of the first segment that the value lies in, or at the end of; SHN_ABS where there is none
+-- the number of the first segment that contains the value or ends at it; SHN_ABS if there is none
 abbrev pub section_of : List OwnSegment → ℕ → ℕ
 section_of segments value = unwrap_or (position_from (λ s. nat_le s.start value && nat_le value (s.start + s.size)) 1 segments) SHN_ABS
 
@@ -71,12 +71,12 @@ wanted_rows mapping segments symbols = rows_of segments (filter (λ s. is_wanted
 abbrev pub table_of : ImageParts → List Symbol
 table_of parts = wanted_rows true parts.segments parts.symbols ++ wanted_rows false parts.segments parts.symbols
 
--- a name closed by a zero byte; an empty one takes none
-abbrev pub closed : List ℕ → List ℕ
-closed name = if length name == 0 then [] else name ++ 0 ∷ []
+-- a name and a zero byte; nothing for an empty name
+abbrev pub zero_terminated : List ℕ → List ℕ
+zero_terminated name = if length name == 0 then [] else name ++ 0 ∷ []
 
 abbrev pub strings_of : List Symbol → List ℕ
-strings_of symbols = 0 ∷ flat_map (λ s. closed s.name) symbols
+strings_of symbols = 0 ∷ flat_map (λ s. zero_terminated s.name) symbols
 
 -- an empty name is at offset 0
 abbrev pub name_offset : List ℕ → ℕ → ℕ
@@ -88,20 +88,21 @@ symbol_bytes at s = word (name_offset s.name at) ++ word s.value ++ word s.size 
 -- the rows of the table, the first name at an offset
 abbrev pub symbol_rows : ℕ → List Symbol → List ℕ
 symbol_rows at [] = []
-symbol_rows at (s ∷ more) = symbol_bytes at s ++ symbol_rows (at + length (closed s.name)) more
+symbol_rows at (s ∷ more) = symbol_bytes at s ++ symbol_rows (at + length (zero_terminated s.name)) more
 
 -- ---- the segments
 
 -- the bytes of each at the next multiple of 4
 abbrev pub contents : ℕ → List OwnSegment → List ℕ
 contents at [] = []
-contents at (s ∷ more) = padding at ++ s.bytes ++ contents (aligned at + length s.bytes) more
+contents at (s ∷ more) = padding at ++ s.bytes ++ contents (align_to_word at + length s.bytes) more
 
 -- a program header: the load address is the address, the alignment is 4
 unfoldable pub program_bytes : ProgramHeader → List ℕ
 program_bytes h = word h.kind ++ word h.offset ++ word h.address ++ word h.address ++ word h.file_size ++ word h.memory_size ++ word h.flags ++ word 4
 
--- the header of a segment whose bytes stand at an offset; it may be read, and as it says written and executed
+-- the program header of a segment whose bytes are at an offset; it is readable, and writable and executable as the
+-- segment says
 abbrev pub load_header : ℕ → OwnSegment → ProgramHeader
 load_header at s = record {
   kind = PT_LOAD;
@@ -119,15 +120,15 @@ index_header at index = record { kind = PT_ARM_EXIDX; offset = at; address = ind
 abbrev pub program_rows : ℕ → List OwnSegment → List ℕ
 program_rows at [] = []
 program_rows at (s ∷ more) =
-    program_bytes (load_header (aligned at) s)
-    ++ program_rows (aligned at + length s.bytes) more
+    program_bytes (load_header (align_to_word at) s)
+    ++ program_rows (align_to_word at + length s.bytes) more
 
--- where the bytes at an address stand in the file: in the first segment whose bytes hold them all; 0 where none does
+-- the file offset of a range of addresses, in the first segment whose bytes contain it all; 0 if there is none
 abbrev pub file_place : ℕ → ℕ → ℕ → List OwnSegment → ℕ
 file_place address size at [] = 0
 file_place address size at (s ∷ more) =
-    if nat_le s.start address && nat_le (address + size) (s.start + length s.bytes) then aligned at + (address - s.start)
-    else file_place address size (aligned at + length s.bytes) more
+    if nat_le s.start address && nat_le (address + size) (s.start + length s.bytes) then align_to_word at + (address - s.start)
+    else file_place address size (align_to_word at + length s.bytes) more
 
 abbrev pub has_index : ImageParts → Bool
 has_index parts = not (parts.index.1 == 0)
@@ -174,7 +175,8 @@ unfoldable pub section_bytes : SectionRow → List ℕ
 section_bytes s =
     word s.name ++ word s.kind ++ word s.flags ++ word s.address ++ word s.offset ++ word s.size ++ word s.link ++ word s.info ++ word 4 ++ word s.entry_size
 
--- the section of a segment whose bytes stand at an offset: it takes memory (flag 2), and as it says is written (1) and executed (4)
+-- the section header of a segment whose bytes are at an offset: it takes memory (flag 2), and is writable (1) and
+-- executable (4) as the segment says
 abbrev pub segment_row : ℕ → ℕ → OwnSegment → SectionRow
 segment_row name at s = record {
   name = name;
@@ -206,12 +208,13 @@ symbols_row name at size link locals = record {
   entry_size = SYMBOL_SIZE;
 }
 
--- the sections of the segments: the number of the first, the offset of its name, and where its bytes may begin
+-- the section headers of the segments, given the number of the first, the offset of its name, and where its bytes may
+-- begin
 abbrev pub section_rows : ℕ → ℕ → ℕ → List OwnSegment → List ℕ
 section_rows i name at [] = []
 section_rows i name at (s ∷ more) =
-    section_bytes (segment_row name (aligned at) s)
-    ++ section_rows (i + 1) (name + length (segment_name i)) (aligned at + length s.bytes) more
+    section_bytes (segment_row name (align_to_word at) s)
+    ++ section_rows (i + 1) (name + length (segment_name i)) (align_to_word at + length s.bytes) more
 
 -- ---- the file
 
@@ -232,7 +235,7 @@ abbrev pub contents_end : Plan → ℕ
 contents_end p = FILE_HEADER_SIZE + length p.programs + length p.contents
 
 abbrev pub table_at : Plan → ℕ
-table_at p = aligned (contents_end p)
+table_at p = align_to_word (contents_end p)
 
 abbrev pub strings_at : Plan → ℕ
 strings_at p = table_at p + length p.table
@@ -244,7 +247,7 @@ abbrev pub names_end : Plan → ℕ
 names_end p = names_at p + length p.names
 
 abbrev pub sections_at : Plan → ℕ
-sections_at p = aligned (names_end p)
+sections_at p = align_to_word (names_end p)
 
 -- the numbers say where the pieces stand
 pub record ArePlaces (p : Plan) (at : Places) : Type 0 where
@@ -275,8 +278,8 @@ sections_of p =
     ++ section_bytes (strings_row (length p.names - 18) (strings_at p) (length p.strings))
     ++ section_bytes (strings_row (length p.names - 10) (names_at p) (length p.names))
 
-unfoldable pub joined : Plan → List ℕ
-joined p =
+unfoldable pub join_pieces : Plan → List ℕ
+join_pieces p =
     file_header p ++ p.programs ++ p.contents ++ padding (contents_end p) ++ p.table ++ p.strings ++ p.names ++ padding (names_end p) ++ sections_of p
 
 unfoldable pub plan_of : ImageParts → Plan
@@ -294,7 +297,7 @@ plan_of parts = record {
 
 -- the file of the parts
 unfoldable pub layout_of : ImageParts → List ℕ
-layout_of parts = joined (plan_of parts)
+layout_of parts = join_pieces (plan_of parts)
 
 -- more than 1,024 segments, or a file of 2 ^ 32 bytes or more
 unfoldable pub is_too_long : ImageParts → Bool
@@ -305,10 +308,10 @@ abbrev pub is_read : Result Image ImageFault → Option ImageFault
 is_read (Ok image) = None
 is_read (Err fault) = Some fault
 
-abbrev pub if_read : List ℕ → Option ImageFault → Result (List ℕ) ImageFault
-if_read bytes None = Ok bytes
-if_read bytes (Some fault) = Err fault
+abbrev pub bytes_if_image : List ℕ → Option ImageFault → Result (List ℕ) ImageFault
+bytes_if_image bytes None = Ok bytes
+bytes_if_image bytes (Some fault) = Err fault
 
--- what is written: the layout, where it stands for an image
-unfoldable pub written_of : ImageParts → Result (List ℕ) ImageFault
-written_of parts = if is_too_long parts then Err TooLarge else if_read (layout_of parts) (is_read (image_of (layout_of parts)))
+-- what is written: the joined file, if it reads as an image
+unfoldable pub write_result : ImageParts → Result (List ℕ) ImageFault
+write_result parts = if is_too_long parts then Err TooLarge else bytes_if_image (layout_of parts) (is_read (image_of (layout_of parts)))

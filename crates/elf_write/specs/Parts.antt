@@ -1,4 +1,4 @@
--- The image that parts stand for, in the parts' own words, and the law that what is written for them stands for it.
+-- The image of parts, in terms of the parts, and the law that the file written for them gives that image.
 use Rattle.std.specs.Prelude.{ℕ, ◌≡◌, ◌≢◌, ◌+◌, ◌-◌, ◌%◌, ◌^◌, ◌==◌, ◌<◌, not, ◌&&◌, nat_le, Bool, false, if◌then◌else◌, List, [], ◌∷◌, length, filter, fold, find, take, drop, Option, Some, None, Ok}
 use Rattle.std.specs.Ordering.{nat_cmp}
 use Rattle.std.specs.BTreeMap.{insert_entry}
@@ -7,8 +7,8 @@ use Rattle.elf_image.specs.Segments.{Segment}
 use Rattle.elf_image.specs.Symbols.{Symbol}
 use Rattle.elf_image.specs.Functions.{functions_of}
 use Rattle.elf_image.specs.Marks.{marks_of}
-use Rattle.elf_image.specs.Image.{Image, image_of, named_of}
-use Rattle.elf_write.specs.Layout.{has_index, table_of, layout_of, is_too_long, written_of}
+use Rattle.elf_image.specs.Image.{Image, image_of, named_addresses}
+use Rattle.elf_write.specs.Layout.{has_index, table_of, layout_of, is_too_long, write_result}
 use Rattle.elf_write.specs.declared.parts.OwnSegment.{OwnSegment}
 use Rattle.elf_write.specs.declared.parts.OwnSymbol.{OwnSymbol}
 use Rattle.elf_write.specs.declared.parts.ImageParts.{ImageParts}
@@ -30,7 +30,7 @@ segments_of_parts segments = values_of (fold with_segment [] (filter has_memory 
 
 -- ---- the exception index
 
--- a read-only segment whose bytes hold the range, at a multiple of 4
+-- a read-only segment whose bytes contain the range, at a multiple of 4
 abbrev pub holds_range : ℕ → ℕ → Segment → Bool
 holds_range start size s = not s.write && nat_le s.start start && nat_le (start + size) (s.start + length s.bytes) && start % 4 == 0
 
@@ -38,7 +38,7 @@ abbrev pub range_in : ℕ → ℕ → Option Segment → List ℕ
 range_in start size None = []
 range_in start size (Some s) = take size (drop (start - s.start) s.bytes)
 
--- its address and its bytes; 0 and none where there is none
+-- the address and the bytes of the index; 0 and none without one
 unfoldable pub index_of_parts : ImageParts → List Segment → ℕ × List ℕ
 index_of_parts parts segments =
     if has_index parts then (parts.index.0, range_in parts.index.0 parts.index.1 (find (holds_range parts.index.0 parts.index.1) segments)) else (0, [])
@@ -53,14 +53,14 @@ symbols_of_parts parts = null_symbol ∷ table_of parts
 
 -- ---- the image
 
--- the entry without bit 0; functions, marks and names by what the symbols of the parts say of its segments
+-- the entry without bit 0; functions, marks and names come from the symbols of the parts and the segments
 unfoldable pub image_of_parts : ImageParts → Image
 image_of_parts parts = record {
   entry = parts.entry - parts.entry % 2;
   segments = segments_of_parts parts.segments;
   functions = functions_of (segments_of_parts parts.segments) (symbols_of_parts parts);
   marks = marks_of (symbols_of_parts parts);
-  symbols = named_of (segments_of_parts parts.segments) (symbols_of_parts parts);
+  symbols = named_addresses (segments_of_parts parts.segments) (symbols_of_parts parts);
   index_start = (index_of_parts parts (segments_of_parts parts.segments)).0;
   index_bytes = (index_of_parts parts (segments_of_parts parts.segments)).1;
 }
@@ -83,7 +83,7 @@ abbrev pub SymbolsFit : List OwnSymbol → Type 0
 SymbolsFit [] = Unit {0}
 SymbolsFit (s ∷ more) = HasNoZero s.name × IsWord s.value × IsWord s.size × SymbolsFit more
 
--- the numbers of the parts are of 32 bits, as in Rust they are, and no name of theirs has a zero byte
+-- the numbers fit 32 bits, as in Rust they do, and no name contains a zero byte
 pub record AreParts (parts : ImageParts) : Type 0 where
   pub entry : IsWord parts.entry
   pub segments : SegmentsFit parts.segments
@@ -91,10 +91,10 @@ pub record AreParts (parts : ImageParts) : Type 0 where
   pub index_start : IsWord parts.index.0
   pub index_size : IsWord parts.index.1
 
--- where a file is written for the parts, it stands for their image
+-- if a file is written for the parts, it gives their image
 abbrev pub FilesMeanTheirParts : Type 0
 FilesMeanTheirParts = (parts : ImageParts) (image : Image) → AreParts parts → is_too_long parts ≡ false → image_of (layout_of parts) ≡ Ok image → image ≡ image_of_parts parts
 
 -- reading what is written for the parts gives their image
 abbrev pub ReadsBack : Type 0
-ReadsBack = (parts : ImageParts) (bytes : List ℕ) → AreParts parts → written_of parts ≡ Ok bytes → image_of bytes ≡ Ok (image_of_parts parts)
+ReadsBack = (parts : ImageParts) (bytes : List ℕ) → AreParts parts → write_result parts ≡ Ok bytes → image_of bytes ≡ Ok (image_of_parts parts)

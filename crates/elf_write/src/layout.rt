@@ -1,39 +1,44 @@
-//! The segments of a file with their headers, and the sections that name them (docs/elf.md).
+//! The bytes of segments, and their program and section headers (docs/rules/elf.md).
 ghost use Rattle.std.specs.Prelude.{◌≡◌, ◌+◌, ◌-◌, ◌*◌, ◌^◌, ◌<◌, ◌≤◌, [], ◌∷◌, ◌++◌, length, nat_le, ◌&&◌, OnOk, IfOk};
-ghost use Rattle.elf_write.specs.Layout.{load_header, segment_row, word, half, aligned, padding, bit, contents, program_bytes, program_rows, file_place, decimal, segment_name, segment_names, last_names, section_names, section_bytes, section_rows};
+ghost use Rattle.elf_write.specs.Layout.{load_header, segment_row, word, half, align_to_word, padding, bit, contents, program_bytes, program_rows, file_place, decimal, segment_name, segment_names, last_names, section_names, section_bytes, section_rows};
 ghost use Rattle.elf_image.specs.declared.limits.TheConstants.{SEGMENT_LIMIT};
 
 use crate::parts::OwnSegment;
-use crate::rows::{aligned, put_padding, put_word};
+use crate::rows::{align_to_word, put_padding, put_word};
 use elf_image::format::{PT_LOAD, ProgramHeader};
 use std::alloc::{AllocError, Global};
 
-/// The type of a section with contents of the program.
+/// The type of a section with contents of the program (`sh_type`).
 pub const SHT_PROGBITS: u32 = 1;
-/// The section of a value that lies in none.
+/// The section number of a value in no section.
 pub const SHN_ABS: u16 = 0xfff1;
-/// The flags of the file header: version 5 of the ABI.
+/// The flags of the file header: EABI version 5.
 pub const ABI_FLAGS: u32 = 0x0500_0000;
 
-/// A section header, as it is written.
+/// A section header to write.
 #[derive(Clone, Copy)]
 pub struct SectionRow {
-    /// The offset of its name in the names of the sections.
+    /// The offset in bytes of its name in the section names.
     pub name: u32,
+    /// The type (`sh_type`).
     pub kind: u32,
+    /// The flags (`sh_flags`).
     pub flags: u32,
+    /// The address in memory (`sh_addr`).
     pub address: u32,
-    /// The offset of its bytes in the file.
+    /// The offset in bytes of its contents in the file.
     pub offset: u32,
+    /// The size of its contents in bytes.
     pub size: u32,
-    /// The number of another section.
+    /// The number of a linked section (`sh_link`).
     pub link: u32,
+    /// Further information by type (`sh_info`).
     pub info: u32,
-    /// The size of each of its entries in bytes; 0 where it has none.
+    /// The size of one entry in bytes; 0 if it has no entries.
     pub entry_size: u32,
 }
 
-/// The bytes of the segments, each at the next multiple of 4, from the offset `base` on.
+/// The bytes of the segments, each at the next multiple of 4, from the file offset `base` on.
 #[tactic(auto, using(crate::proofs::Layouts::next_at, crate::proofs::Layouts::contents_more, std::proofs::lemmas::List::append_assoc))]
 pub(crate) fn contents(
     alloc: Global,
@@ -52,13 +57,14 @@ pub(crate) fn contents(
     Ok(out)
 }
 
+/// The bit `n` if `holds`, else 0.
 fn bit(holds: bool, n: u32) -> u32
     ensures { result ≡ bit holds n }
 {
     if holds { n } else { 0 }
 }
 
-/// Puts a program header at the end. The load address is the address, the alignment 4.
+/// Appends a program header. The physical address is the address, the alignment is 4.
 #[tactic(auto, using(std::proofs::lemmas::List::append_assoc), unfolding(crate::specs::Layout::program_bytes))]
 pub(crate) fn put_program(out: &mut Vec<u8>, h: &ProgramHeader) -> Result<(), AllocError>
     ensures { OnOk result (out.new.items ≡ out.old.items ++ program_bytes h.now) }
@@ -73,7 +79,7 @@ pub(crate) fn put_program(out: &mut Vec<u8>, h: &ProgramHeader) -> Result<(), Al
     put_word(out, 4)
 }
 
-/// The header of a segment whose bytes stand at an offset.
+/// The program header of a segment whose bytes are at a file offset.
 fn load_header(at: usize, s: &OwnSegment) -> ProgramHeader
     requires at { at < 2 ^ 32 }
     requires fits { length s.now.bytes < 2 ^ 32 }
@@ -89,7 +95,7 @@ fn load_header(at: usize, s: &OwnSegment) -> ProgramHeader
     }
 }
 
-/// The program headers of the segments, whose bytes stand from `base` on.
+/// The program headers of the segments, whose bytes begin at the file offset `base`.
 #[tactic(auto, using(crate::proofs::Layouts::contents_length))]
 pub(crate) fn program_rows(
     alloc: Global,
@@ -102,7 +108,7 @@ pub(crate) fn program_rows(
     let mut out = Vec::new(alloc);
     let mut end = base;
     for s in segments {
-        let at = aligned(end);
+        let at = align_to_word(end);
         let size = s.bytes.as_slice().len();
         put_program(&mut out, &load_header(at, s))?;
         end = at + size;
@@ -110,7 +116,7 @@ pub(crate) fn program_rows(
     Ok(out)
 }
 
-/// Whether the bytes of a segment hold a whole range of addresses.
+/// Whether the bytes of a segment contain a whole range of addresses.
 fn holds_range(s: &OwnSegment, address: u32, size: u32) -> bool
     ensures { result ≡ (nat_le s.now.start address && nat_le (address + size) (s.now.start + length s.now.bytes)) }
 {
@@ -119,7 +125,7 @@ fn holds_range(s: &OwnSegment, address: u32, size: u32) -> bool
             <= u64::from(s.start) + s.bytes.as_slice().len() as u64
 }
 
-/// Where the bytes of a range of addresses stand in the file: in the first segment whose bytes hold them all.
+/// The file offset of a range of addresses, in the first segment whose bytes contain it all.
 #[tactic(auto, using(crate::proofs::Layouts::contents_length, crate::proofs::Layouts::place_more))]
 pub(crate) fn file_place(address: u32, size: u32, base: usize, segments: &[OwnSegment]) -> u32
     requires { base + length (contents base segments.now) < 2 ^ 32 }
@@ -127,7 +133,7 @@ pub(crate) fn file_place(address: u32, size: u32, base: usize, segments: &[OwnSe
 {
     let mut end = base;
     for s in segments {
-        let at = aligned(end);
+        let at = align_to_word(end);
         let len = s.bytes.as_slice().len();
         if holds_range(s, address, size) {
             return at as u32 + (address - s.start);
@@ -137,7 +143,7 @@ pub(crate) fn file_place(address: u32, size: u32, base: usize, segments: &[OwnSe
     0
 }
 
-/// The decimal digits of a number below 10,000.
+/// Appends the decimal digits of a number below 10,000.
 #[tactic(auto, using(std::proofs::lemmas::List::append_assoc), unfolding(crate::specs::Layout::decimal))]
 fn put_decimal(out: &mut Vec<u8>, n: u32) -> Result<(), AllocError>
     requires { n < 10000 }
@@ -156,6 +162,7 @@ fn put_decimal(out: &mut Vec<u8>, n: u32) -> Result<(), AllocError>
     Ok(())
 }
 
+/// Appends the name of the section of segment `i`.
 #[tactic(auto, using(std::proofs::lemmas::List::append_assoc), unfolding(crate::specs::Layout::segment_name))]
 fn put_segment_name(out: &mut Vec<u8>, i: u32) -> Result<(), AllocError>
     requires { i < 10000 }
@@ -167,6 +174,7 @@ fn put_segment_name(out: &mut Vec<u8>, i: u32) -> Result<(), AllocError>
     Ok(())
 }
 
+/// Appends the names of the sections after those of the segments.
 #[tactic(auto, unfolding(crate::specs::Layout::last_names))]
 fn put_last_names(out: &mut Vec<u8>) -> Result<(), AllocError>
     ensures { OnOk result (out.new.items ≡ out.old.items ++ last_names) }
@@ -174,7 +182,7 @@ fn put_last_names(out: &mut Vec<u8>) -> Result<(), AllocError>
     out.extend_from_slice(b".symtab\0.strtab\0.shstrtab\0")
 }
 
-/// The names of the sections, each closed by a zero byte, after a zero byte.
+/// The section names: a zero byte, then each name with a closing zero byte.
 pub(crate) fn section_names(alloc: Global, segments: &[OwnSegment]) -> Result<Vec<u8>, AllocError>
     requires { length segments.now ≤ SEGMENT_LIMIT }
     ensures { IfOk result (λ v. v.items ≡ section_names segments.now) }
@@ -190,7 +198,7 @@ pub(crate) fn section_names(alloc: Global, segments: &[OwnSegment]) -> Result<Ve
     Ok(out)
 }
 
-/// Puts a section header at the end. The alignment is 4.
+/// Appends a section header. The alignment is 4.
 #[tactic(auto, using(std::proofs::lemmas::List::append_assoc), unfolding(crate::specs::Layout::section_bytes))]
 pub(crate) fn put_section(out: &mut Vec<u8>, s: &SectionRow) -> Result<(), AllocError>
     ensures { OnOk result (out.new.items ≡ out.old.items ++ section_bytes s.now) }
@@ -207,7 +215,7 @@ pub(crate) fn put_section(out: &mut Vec<u8>, s: &SectionRow) -> Result<(), Alloc
     put_word(out, s.entry_size)
 }
 
-/// The section header of a segment whose bytes stand at an offset.
+/// The section header of a segment whose bytes are at a file offset.
 fn segment_row(name: u32, at: usize, s: &OwnSegment) -> SectionRow
     requires at { at < 2 ^ 32 }
     requires fits { length s.now.bytes < 2 ^ 32 }
@@ -226,7 +234,7 @@ fn segment_row(name: u32, at: usize, s: &OwnSegment) -> SectionRow
     }
 }
 
-/// How many bytes the name of a segment's section takes, with its closing zero byte.
+/// The length in bytes of the name of a segment's section, with its closing zero byte.
 #[tactic(auto, unfolding(crate::specs::Layout::segment_name, crate::specs::Layout::decimal))]
 fn segment_name_len(i: u32) -> u32
     requires { i < 10000 }
@@ -244,7 +252,7 @@ fn segment_name_len(i: u32) -> u32
     }
 }
 
-/// The section headers of the segments, whose bytes stand from `base` on.
+/// The section headers of the segments, whose bytes begin at the file offset `base`.
 #[tactic(auto, using(crate::proofs::Layouts::contents_length))]
 pub(crate) fn section_rows(
     alloc: Global,
@@ -260,7 +268,7 @@ pub(crate) fn section_rows(
     let mut name = 1;
     let mut i = 0;
     for s in segments {
-        let at = aligned(end);
+        let at = align_to_word(end);
         let size = s.bytes.as_slice().len();
         put_section(&mut out, &segment_row(name, at, s))?;
         name += segment_name_len(i);

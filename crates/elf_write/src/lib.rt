@@ -1,4 +1,4 @@
-//! Writing Arm ELF images (docs/elf.md).
+//! Writes Arm ELF images (docs/rules/elf.md).
 #![tactic(auto)]
 
 ghost use Rattle.elf_write.specs.Parts.{ReadsBack, FilesMeanTheirParts};
@@ -12,7 +12,8 @@ pub mod write;
 pub use parts::{ImageParts, OwnBytes, OwnSegment, OwnSegments, OwnSymbol, OwnSymbols, SymbolKind};
 pub use write::write_image;
 
-/// The file of parts that have no zero byte in a name stands for the image of these parts, wherever it is accepted.
+/// If no name of the parts contains a zero byte, the file written for them gives their image, wherever the file is
+/// accepted.
 pub fn what_is_written_stands_for_its_parts()
     ensures { FilesMeanTheirParts }
 {}

@@ -1,11 +1,11 @@
-//! The pieces of a file: where they stand, and the file that joins them (docs/elf.md).
+//! The pieces of a file: their offsets, and how they are joined (docs/rules/elf.md).
 ghost use Rattle.std.specs.Prelude.{◌≡◌, ◌+◌, ◌-◌, ◌*◌, ◌/◌, ◌%◌, ◌^◌, ◌<◌, ◌≤◌, [], ◌∷◌, ◌++◌, length, OnOk, IfOk, IfSome, IfNone};
-ghost use Rattle.elf_write.specs.Layout.{strings_row, Plan as Pieces, ArePlaces, word, half, padding, identity, header_sizes, file_header, sections_of, joined, contents_end, table_at, strings_at, names_at, names_end, sections_at, file_end};
+ghost use Rattle.elf_write.specs.Layout.{strings_row, Plan as Pieces, ArePlaces, word, half, padding, identity, header_sizes, file_header, sections_of, join_pieces, contents_end, table_at, strings_at, names_at, names_end, sections_at, file_end};
 ghost use Rattle.elf_image.specs.declared.limits.TheConstants.{SEGMENT_LIMIT};
 
 use crate::layout::{ABI_FLAGS, SectionRow, put_section};
 use crate::rows::{put_half, put_padding, put_word};
-use eh_list::bytes::push_zeros;
+use eh_word::bytes::push_zeros;
 use elf_image::format::{
     EM_ARM, ET_EXEC, FILE_HEADER_SIZE, PROGRAM_HEADER_SIZE, SECTION_HEADER_SIZE, SHT_STRTAB,
     SHT_SYMTAB,
@@ -14,17 +14,26 @@ use elf_image::symbol::SYMBOL_SIZE;
 use std::alloc::{AllocError, Global};
 use std::marker::Model;
 
-/// The pieces that a file joins.
+/// The pieces of a file, before they are joined.
 #[derive(Drop)]
 pub struct Plan {
+    /// The address of the first instruction.
     pub(crate) entry: u32,
+    /// The bytes of the program headers.
     pub(crate) programs: Vec<u8>,
+    /// The bytes of the segments.
     pub(crate) contents: Vec<u8>,
+    /// The bytes of the symbol table.
     pub(crate) table: Vec<u8>,
+    /// The number of local symbols, the null symbol included.
     pub(crate) locals: u32,
+    /// The bytes of the symbol strings.
     pub(crate) strings: Vec<u8>,
+    /// The bytes of the section names.
     pub(crate) names: Vec<u8>,
+    /// The bytes of the section headers of segments.
     pub(crate) segment_rows: Vec<u8>,
+    /// The number of segments.
     pub(crate) segment_total: u16,
 }
 
@@ -46,32 +55,37 @@ impl Model for Plan {
     } };
 }
 
-/// Where the pieces of a file stand.
+/// The offsets in the file of the pieces after the segments, in bytes.
 #[derive(Clone, Copy)]
 pub struct Places {
+    /// The offset of the symbol table.
     pub table: u32,
+    /// The offset of the symbol strings.
     pub strings: u32,
+    /// The offset of the section names.
     pub names: u32,
+    /// The offset of the section headers.
     pub sections: u32,
 }
 
-fn aligned(n: u128) -> u128
+/// The next multiple of 4.
+fn align_to_word(n: u128) -> u128
     requires { n < 2 ^ 100 }
     ensures { result ≡ (n + 3) / 4 * 4 }
 {
     (n + 3) / 4 * 4
 }
 
-/// Where the pieces stand, or None where the file has 2^32 bytes or more.
-pub(crate) fn placed(p: &Plan) -> Option<Places>
+/// The offsets of the pieces, or None if the file would have 2^32 bytes or more.
+pub(crate) fn piece_places(p: &Plan) -> Option<Places>
     ensures long { IfNone result (2 ^ 32 ≤ file_end p.now) }
     ensures fits { IfSome result (λ at. file_end p.now < 2 ^ 32) }
     ensures places { IfSome result (ArePlaces p.now) }
 {
-    let table = aligned(52 + p.programs.len() as u128 + p.contents.len() as u128);
+    let table = align_to_word(52 + p.programs.len() as u128 + p.contents.len() as u128);
     let strings = table + p.table.len() as u128;
     let names = strings + p.strings.len() as u128;
-    let sections = aligned(names + p.names.len() as u128);
+    let sections = align_to_word(names + p.names.len() as u128);
     if sections + 40 * (u128::from(p.segment_total) + 4) >= 0x1_0000_0000 {
         return None;
     }
@@ -83,6 +97,7 @@ pub(crate) fn placed(p: &Plan) -> Option<Places>
     })
 }
 
+/// Appends the identification of the file.
 #[tactic(auto, using(std::proofs::lemmas::List::append_assoc), unfolding(crate::specs::Layout::identity))]
 fn put_identity(out: &mut Vec<u8>) -> Result<(), AllocError>
     ensures { OnOk result (out.new.items ≡ out.old.items ++ identity) }
@@ -94,6 +109,7 @@ fn put_identity(out: &mut Vec<u8>) -> Result<(), AllocError>
     put_word(out, 1)
 }
 
+/// Appends the sizes and counts of the headers.
 #[tactic(auto, using(std::proofs::lemmas::List::append_assoc), unfolding(crate::specs::Layout::header_sizes))]
 fn put_header_sizes(out: &mut Vec<u8>, p: &Plan) -> Result<(), AllocError>
     requires programs { length p.now.programs < 2 ^ 20 }
@@ -111,6 +127,7 @@ fn put_header_sizes(out: &mut Vec<u8>, p: &Plan) -> Result<(), AllocError>
     put_half(out, p.segment_total + 3)
 }
 
+/// Appends the file header.
 #[tactic(auto, using(std::proofs::lemmas::List::append_assoc), unfolding(crate::specs::Layout::file_header))]
 fn put_file_header(out: &mut Vec<u8>, p: &Plan, at: Places) -> Result<(), AllocError>
     requires programs { length p.now.programs < 2 ^ 20 }
@@ -126,7 +143,7 @@ fn put_file_header(out: &mut Vec<u8>, p: &Plan, at: Places) -> Result<(), AllocE
     put_header_sizes(out, p)
 }
 
-/// The section header of strings.
+/// The section header of a string table.
 fn strings_row(name: u32, offset: u32, size: u32) -> SectionRow
     ensures { result ≡ strings_row name offset size }
 {
@@ -143,6 +160,7 @@ fn strings_row(name: u32, offset: u32, size: u32) -> SectionRow
     }
 }
 
+/// Appends the section headers.
 #[tactic(auto, using(std::proofs::lemmas::List::append_assoc), unfolding(crate::specs::Layout::sections_of))]
 fn put_sections(out: &mut Vec<u8>, p: &Plan, at: Places) -> Result<(), AllocError>
     requires fits { file_end p.now < 2 ^ 32 }
@@ -174,15 +192,15 @@ fn put_sections(out: &mut Vec<u8>, p: &Plan, at: Places) -> Result<(), AllocErro
     put_section(out, &strings_row(names - 10, at.names, names))
 }
 
-/// The pieces, joined to the file.
-#[tactic(auto, using(std::proofs::lemmas::List::append_assoc), unfolding(crate::specs::Layout::joined))]
+/// Joins the pieces to the file.
+#[tactic(auto, using(std::proofs::lemmas::List::append_assoc), unfolding(crate::specs::Layout::join_pieces))]
 pub(crate) fn join(alloc: Global, p: &Plan, at: Places) -> Result<Vec<u8>, AllocError>
     requires fits { file_end p.now < 2 ^ 32 }
     requires programs { length p.now.programs < 2 ^ 20 }
     requires named { 26 ≤ length p.now.names }
     requires segments { p.now.segment_total ≤ SEGMENT_LIMIT }
     requires places { ArePlaces p.now at }
-    ensures { IfOk result (λ v. v.items ≡ joined p.now) }
+    ensures { IfOk result (λ v. v.items ≡ join_pieces p.now) }
 {
     let mut out = Vec::new(alloc);
     put_file_header(&mut out, p, at)?;

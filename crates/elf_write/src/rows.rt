@@ -1,16 +1,17 @@
-//! The rows of the symbol table, and the strings that name them (docs/elf.md).
+//! The rows of the symbol table, and its strings (docs/rules/elf.md).
 ghost use Rattle.std.specs.Prelude.{◌≡◌, ◌≢◌, ◌+◌, ◌-◌, ◌*◌, ◌^◌, ◌<◌, ◌≤◌, [], ◌∷◌, ◌++◌, length, OnOk, IfOk, map, filter};
-ghost use Rattle.eh_list.specs.Bytes.{zeros};
+ghost use Rattle.eh_word.specs.Bytes.{zeros};
 ghost use Rattle.elf_image.specs.declared.symbol.TheConstants.{SYMBOL_SIZE};
-ghost use Rattle.elf_write.specs.Layout.{word, half, aligned, padding, is_mapping, section_of, symbol_row_of, rows_of, is_wanted, wanted_rows, closed, name_offset, symbol_bytes, symbol_rows, strings_of, contents, program_bytes, program_rows, file_place};
+ghost use Rattle.elf_write.specs.Layout.{word, half, align_to_word, padding, is_mapping, section_of, symbol_row_of, rows_of, is_wanted, wanted_rows, zero_terminated, name_offset, symbol_bytes, symbol_rows, strings_of, contents, program_bytes, program_rows, file_place};
 ghost use Rattle.elf_image.specs.declared.limits.TheConstants.{SEGMENT_LIMIT};
 
 use crate::layout::SHN_ABS;
 use crate::parts::{OwnSegment, OwnSymbol, SymbolKind};
-use eh_list::bytes::{next_multiple, push_half, push_word, push_zeros};
+use eh_word::bytes::{next_multiple, push_half, push_word, push_zeros};
 use elf_image::symbol::{SYMBOL_SIZE, Symbol};
 use std::alloc::{AllocError, Global};
 
+/// Appends a word, lowest byte first.
 #[tactic(auto, unfolding(crate::specs::Layout::word))]
 pub(crate) fn put_word(out: &mut Vec<u8>, x: u32) -> Result<(), AllocError>
     ensures { OnOk result (out.new.items ≡ out.old.items ++ word x) }
@@ -18,6 +19,7 @@ pub(crate) fn put_word(out: &mut Vec<u8>, x: u32) -> Result<(), AllocError>
     push_word(out, x)
 }
 
+/// Appends a halfword, lowest byte first.
 #[tactic(auto, unfolding(crate::specs::Layout::half))]
 pub(crate) fn put_half(out: &mut Vec<u8>, x: u16) -> Result<(), AllocError>
     ensures { OnOk result (out.new.items ≡ out.old.items ++ half x) }
@@ -26,22 +28,22 @@ pub(crate) fn put_half(out: &mut Vec<u8>, x: u16) -> Result<(), AllocError>
 }
 
 /// The next multiple of 4.
-pub(crate) fn aligned(n: usize) -> usize
+pub(crate) fn align_to_word(n: usize) -> usize
     requires { n + 4 ≤ 2 ^ 64 }
-    ensures { result ≡ aligned n }
+    ensures { result ≡ align_to_word n }
 {
     next_multiple(n as u64, 4) as usize
 }
 
-/// Zeros up to the next multiple of 4 after the offset `at`.
+/// Appends zeros from the offset `at` to the next multiple of 4.
 pub(crate) fn put_padding(out: &mut Vec<u8>, at: usize) -> Result<(), AllocError>
     requires { at + 4 ≤ 2 ^ 64 }
     ensures { OnOk result (out.new.items ≡ out.old.items ++ padding at) }
 {
-    push_zeros(out, aligned(at) - at)
+    push_zeros(out, align_to_word(at) - at)
 }
 
-/// The number of the section of the first segment that a value lies in or at the end of.
+/// The section number of the first segment that contains a value or ends at it.
 fn section_of(segments: &[OwnSegment], value: u32) -> u16
     requires { length segments.now ≤ SEGMENT_LIMIT }
     ensures { result ≡ section_of segments.now value }
@@ -56,6 +58,7 @@ fn section_of(segments: &[OwnSegment], value: u32) -> u16
     SHN_ABS
 }
 
+/// The row of a symbol to write.
 fn symbol_row<'a>(segments: &[OwnSegment], s: &'a OwnSymbol) -> Symbol<'a>
     requires { length segments.now ≤ SEGMENT_LIMIT }
     ensures { result ≡ symbol_row_of segments.now s.now s.now.kind }
@@ -76,7 +79,7 @@ fn symbol_row<'a>(segments: &[OwnSegment], s: &'a OwnSymbol) -> Symbol<'a>
     }
 }
 
-/// Whether a symbol is a mapping symbol, or none, as wanted.
+/// Whether a symbol is a mapping symbol (if `mapping`) or isn't (if not).
 fn is_wanted(mapping: bool, kind: SymbolKind) -> bool
     ensures { result ≡ is_wanted mapping kind }
 {
@@ -87,7 +90,7 @@ fn is_wanted(mapping: bool, kind: SymbolKind) -> bool
     is_mapping == mapping
 }
 
-/// Puts the rows of the mapping symbols, or of the others, at the end.
+/// Appends the rows of the mapping symbols (if `mapping`) or of the others (if not).
 pub(crate) fn push_rows<'a>(
     rows: &mut Vec<Symbol<'a>>,
     segments: &[OwnSegment],
@@ -105,9 +108,9 @@ pub(crate) fn push_rows<'a>(
     Ok(())
 }
 
-/// Puts a name closed by a zero byte at the end; an empty one takes none.
-fn put_closed(out: &mut Vec<u8>, name: &[u8]) -> Result<(), AllocError>
-    ensures { OnOk result (out.new.items ≡ out.old.items ++ closed name.now) }
+/// Appends a name and a zero byte; nothing for an empty name.
+fn put_zero_terminated(out: &mut Vec<u8>, name: &[u8]) -> Result<(), AllocError>
+    ensures { OnOk result (out.new.items ≡ out.old.items ++ zero_terminated name.now) }
 {
     if name.is_empty() {
         return Ok(());
@@ -117,33 +120,34 @@ fn put_closed(out: &mut Vec<u8>, name: &[u8]) -> Result<(), AllocError>
     Ok(())
 }
 
-/// The names of the rows, each closed by a zero byte, after a zero byte.
+/// The strings of the rows: a zero byte, then each name with a closing zero byte.
 pub(crate) fn strings_of(alloc: Global, rows: &[Symbol]) -> Result<Vec<u8>, AllocError>
     ensures { IfOk result (λ v. v.items ≡ strings_of rows.now) }
 {
     let mut out = Vec::new(alloc);
     out.push(0)?;
     for s in rows {
-        put_closed(&mut out, s.name)?;
+        put_zero_terminated(&mut out, s.name)?;
     }
     Ok(out)
 }
 
-/// The offset of a name in the strings: 0 for an empty one.
+/// The offset of a name in the strings; 0 for an empty name.
 fn name_offset(name: &[u8], at: u32) -> u32
     ensures { result ≡ name_offset name.now at }
 {
     if name.is_empty() { 0 } else { at }
 }
 
-/// How many bytes a name takes among the strings.
+/// The length in bytes of a name in the strings.
 fn closed_len(name: &[u8]) -> usize
     requires { length name.now < 2 ^ 63 }
-    ensures { result ≡ length (closed name.now) }
+    ensures { result ≡ length (zero_terminated name.now) }
 {
     if name.is_empty() { 0 } else { name.len() + 1 }
 }
 
+/// Appends a row of the symbol table.
 #[tactic(auto, using(std::proofs::lemmas::List::append_assoc), unfolding(crate::specs::Layout::symbol_bytes))]
 fn put_symbol(out: &mut Vec<u8>, s: &Symbol, at: u32) -> Result<(), AllocError>
     ensures { OnOk result (out.new.items ≡ out.old.items ++ symbol_bytes at s.now) }
@@ -156,7 +160,7 @@ fn put_symbol(out: &mut Vec<u8>, s: &Symbol, at: u32) -> Result<(), AllocError>
     put_half(out, s.section)
 }
 
-/// The rows of the table after the null symbol.
+/// The symbol table: the null symbol, then the rows.
 pub(crate) fn table_of(alloc: Global, rows: &[Symbol]) -> Result<Vec<u8>, AllocError>
     requires { length (strings_of rows.now) < 2 ^ 32 }
     ensures { IfOk result (λ v. v.items ≡ zeros SYMBOL_SIZE ++ symbol_rows 1 rows.now) }

@@ -1,13 +1,13 @@
-//! Writing an image: the pieces of its file, joined, where they stand for an image (docs/elf.md).
+//! Writes an image and checks that the file reads back (docs/rules/elf.md).
 ghost use Rattle.elf_image.specs.declared.limits.TheConstants.{SEGMENT_LIMIT};
 ghost use Rattle.std.specs.Prelude.{◌≡◌, ◌≢◌, ◌+◌, ◌*◌, ◌^◌, ◌<◌, ◌≤◌, ◌++◌, length, true, Option, Some, None, Ok, Err, IfOk, IfErr, IfSome, IfNone, IsOk, OnOk};
 ghost use Rattle.elf_image.specs.Image.{image_of};
 ghost use Rattle.elf_image.specs.declared.fault.ImageFault.TheVariants.{OutOfMemory};
-ghost use Rattle.elf_write.specs.Layout.{wanted_rows, table_of, contents, program_rows, index_row, base_of, section_names, section_rows, plan_of, layout_of, file_end, written_of, is_read};
+ghost use Rattle.elf_write.specs.Layout.{wanted_rows, table_of, contents, program_rows, index_row, base_of, section_names, section_rows, plan_of, layout_of, file_end, write_result, is_read};
 
 use crate::layout::{contents, file_place, program_rows, put_program, section_names, section_rows};
 use crate::parts::ImageParts;
-use crate::plan::{Plan, join, placed};
+use crate::plan::{Plan, join, piece_places};
 use crate::rows::{push_rows, strings_of, table_of};
 use elf_image::format::{FILE_HEADER_SIZE, PROGRAM_HEADER_SIZE, PT_ARM_EXIDX, ProgramHeader};
 use elf_image::limits::SEGMENT_LIMIT;
@@ -15,7 +15,7 @@ use elf_image::symbol::Symbol;
 use elf_image::{ImageFault, read_image};
 use std::alloc::{AllocError, Global};
 
-/// The end of the program headers.
+/// The end of the program headers, as a file offset in bytes.
 fn base_of(parts: &ImageParts) -> usize
     requires { length parts.now.segments ≤ SEGMENT_LIMIT }
     ensures { result ≡ base_of parts.now }
@@ -28,7 +28,7 @@ fn base_of(parts: &ImageParts) -> usize
     }
 }
 
-/// The program headers, that of the index last.
+/// The program headers; that of the index comes last.
 fn programs(alloc: Global, base: usize, parts: &ImageParts) -> Result<Vec<u8>, AllocError>
     requires { base + length (contents base parts.now.segments) < 2 ^ 32 }
     ensures { IfOk result (λ v. v.items ≡ program_rows base parts.now.segments ++ index_row base parts.now) }
@@ -51,7 +51,7 @@ fn programs(alloc: Global, base: usize, parts: &ImageParts) -> Result<Vec<u8>, A
     Ok(out)
 }
 
-/// Whether the bytes stand for an image.
+/// Reads the bytes back. Err if they are refused.
 fn read_back(alloc: Global, bytes: &[u8]) -> Result<(), ImageFault>
     ensures accepted { IfOk result (λ _. is_read (image_of bytes.now) ≡ None) }
     ensures refused { IfErr result (λ fault. fault ≢ OutOfMemory → is_read (image_of bytes.now) ≡ Some fault) }
@@ -60,7 +60,7 @@ fn read_back(alloc: Global, bytes: &[u8]) -> Result<(), ImageFault>
     Ok(())
 }
 
-/// The rows of the symbols, and how many of them are mapping symbols, which come first.
+/// The rows of all symbols, mapping symbols first.
 #[derive(Drop)]
 struct SymbolRows<'a> {
     rows: Vec<Symbol<'a>>,
@@ -82,7 +82,7 @@ fn symbol_rows_of<'a>(alloc: Global, parts: &'a ImageParts) -> Result<SymbolRows
     Ok(SymbolRows { rows, mapping })
 }
 
-/// The pieces of a file that say its symbols.
+/// The pieces of a file that describe the symbols.
 #[derive(Drop)]
 struct SymbolPieces {
     table: Vec<u8>,
@@ -90,7 +90,7 @@ struct SymbolPieces {
     strings: Vec<u8>,
 }
 
-/// The pieces that say the symbols of these parts, or None where the file has 2^32 bytes or more.
+/// The pieces that describe the symbols; None if the file would have 2^32 bytes or more.
 #[tactic(auto, unfolding(crate::specs::Layout::plan_of))]
 fn symbol_pieces(alloc: Global, parts: &ImageParts) -> Result<Option<SymbolPieces>, AllocError>
     requires { length parts.now.segments ≤ SEGMENT_LIMIT }
@@ -114,7 +114,7 @@ fn symbol_pieces(alloc: Global, parts: &ImageParts) -> Result<Option<SymbolPiece
     }))
 }
 
-/// The pieces of a file that say its segments.
+/// The pieces of a file that describe the segments.
 #[derive(Drop)]
 struct SegmentPieces {
     programs: Vec<u8>,
@@ -122,7 +122,7 @@ struct SegmentPieces {
     rows: Vec<u8>,
 }
 
-/// The pieces that say the segments of these parts, whose bytes stand from `base` on.
+/// The pieces that describe the segments, whose bytes begin at the file offset `base`.
 fn segment_pieces(
     alloc: Global,
     base: usize,
@@ -142,7 +142,7 @@ fn segment_pieces(
     })
 }
 
-/// The pieces of the file of these parts, or None where the file has 2^32 bytes or more.
+/// The pieces of the file of these parts; None if it would have 2^32 bytes or more.
 #[tactic(auto, unfolding(crate::specs::Layout::plan_of))]
 fn plan_of(alloc: Global, parts: &ImageParts) -> Result<Option<Plan>, AllocError>
     requires { length parts.now.segments ≤ SEGMENT_LIMIT }
@@ -175,13 +175,13 @@ fn plan_of(alloc: Global, parts: &ImageParts) -> Result<Option<Plan>, AllocError
     }))
 }
 
-/// The ELF file of these parts (docs/elf.md has its layout). TooLarge for more than 1,024 segments or a file of 2^32 bytes
-/// or more; else what reading the file would refuse; else the file.
+/// Writes the ELF file of these parts (docs/rules/elf.md has its layout). TooLarge for more than 1,024 segments or a file of
+/// 2^32 bytes or more. Err also if reading the file would refuse it, or if memory runs out.
 #[tactic(auto, using(crate::proofs::Planning::writing))]
 pub fn write_image(alloc: Global, parts: &ImageParts) -> Result<Vec<u8>, ImageFault>
-    ensures written { IfOk result (λ bytes. written_of parts.now ≡ Ok bytes.items) }
-    // Want of memory alone is free.
-    ensures refused { IfErr result (λ fault. fault ≢ OutOfMemory → written_of parts.now ≡ Err fault) }
+    ensures written { IfOk result (λ bytes. write_result parts.now ≡ Ok bytes.items) }
+    // Only OutOfMemory may come at any time.
+    ensures refused { IfErr result (λ fault. fault ≢ OutOfMemory → write_result parts.now ≡ Err fault) }
 {
     if parts.segments.as_slice().len() > SEGMENT_LIMIT {
         return Err(ImageFault::TooLarge);
@@ -189,7 +189,7 @@ pub fn write_image(alloc: Global, parts: &ImageParts) -> Result<Vec<u8>, ImageFa
     let Some(plan) = plan_of(alloc, parts)? else {
         return Err(ImageFault::TooLarge);
     };
-    let Some(at) = placed(&plan) else {
+    let Some(at) = piece_places(&plan) else {
         return Err(ImageFault::TooLarge);
     };
     let bytes = join(alloc, &plan, at)?;

@@ -13,22 +13,22 @@ use Rattle.eh_types.specs.declared.fault.TypeFault.{TypeFault}
 use Rattle.frame_check.specs.Roots.{flow_graph_of, roots_of}
 use Rattle.frame_check.specs.Accepts.{IsWell, AreWell, IsAccepted}
 use Rattle.frame_audit.specs.Audits.{Audit, AreTypes, IsAudit, is_clear}
-use Rattle.frame_audit.specs.Listing.{Audited, AreAudited}
+use Rattle.frame_audit.specs.Listing.{FunctionAudit, AreAudited}
 use Rattle.frame_audit.proofs.Listed.{unlisted_is_well}
 
 none_is : {X : Type 0} (o : Option X) → is_none o ≡ true → o ≡ None
 none_is None e = refl
 none_is (Some x) e = absurd (cc)
 
-all_well : (image : Image) (fs : List Function) (xs : List Audited) → AreAudited image fs xs → list_all (λ (a : Audited). is_none a.unwell) xs ≡ true → AreWell image fs
+all_well : (image : Image) (fs : List Function) (xs : List FunctionAudit) → AreAudited image fs xs → list_all (λ (a : FunctionAudit). is_none a.unwell) xs ≡ true → AreWell image fs
 all_well image [] [] h e = All-nil (λ f. IsWell (flow_graph_of image f))
 all_well image [] (x ∷ xs) h e = absurd h
 all_well image (f ∷ fs) [] h e = absurd h
 all_well image (f ∷ fs) (x ∷ xs) h e =
-    let two = and_parts (is_none x.unwell) (list_all (λ (a : Audited). is_none a.unwell) xs) e in
+    let two = and_parts (is_none x.unwell) (list_all (λ (a : FunctionAudit). is_none a.unwell) xs) e in
     All-cons (λ g. IsWell (flow_graph_of image g)) f fs ((unlisted_is_well image f x h.0).0 (none_is x.unwell two.0)) (all_well image fs xs h.1 two.1)
 
-none_listed : (image : Image) (fs : List Function) (xs : List Audited) → AreAudited image fs xs → AreWell image fs → list_all (λ (a : Audited). is_none a.unwell) xs ≡ true
+none_listed : (image : Image) (fs : List Function) (xs : List FunctionAudit) → AreAudited image fs xs → AreWell image fs → list_all (λ (a : FunctionAudit). is_none a.unwell) xs ≡ true
 none_listed image [] [] h w = refl
 none_listed image [] (x ∷ xs) h w = absurd h
 none_listed image (f ∷ fs) [] h w = absurd h
@@ -51,7 +51,7 @@ clear_is_accepted image x read is = (forth, back)
   where
     forth : is_clear x ≡ true → IsAccepted image
     forth e =
-        let two = and_parts (list_all (λ (a : Audited). is_none a.unwell) x.functions) (is_none x.types) e in
+        let two = and_parts (list_all (λ (a : FunctionAudit). is_none a.unwell) x.functions) (is_none x.types) e in
         let graph = typed image x.types is.types two.1 in
         record { index = read; functions = all_well image image.functions x.functions is.functions two.0; types = graph.0; graph = graph.1 }
 

@@ -11,11 +11,11 @@ use Rattle.frame_facts.specs.declared.cause.FrameCause.{FrameCause}
 use Rattle.frame_facts.specs.declared.cause.FrameCause.TheVariants as cause
 use Rattle.frame_audit.specs.declared.counts.Question.TheVariants.{Unwinds, UnwindsWell, CantUnwind, CantUnwindWell, Well, Cause}
 use Rattle.frame_audit.specs.declared.counts.TheConstants.{CAUSES}
-use Rattle.frame_audit.specs.declared.functions.Unwell.{Unwell}
+use Rattle.frame_audit.specs.declared.functions.FrameFinding.{FrameFinding}
 use Rattle.frame_audit.specs.Code.{is_stray, is_held, halfwords_in}
-use Rattle.frame_audit.specs.Counts.{is_cause, answers}
-use Rattle.frame_audit.specs.Laws.{counted, CodeIsDivided, CountsAddUp}
-use Rattle.frame_audit.specs.Listing.{Audited}
+use Rattle.frame_audit.specs.Counts.{is_cause, is_counted}
+use Rattle.frame_audit.specs.Laws.{count_by_cause, CodeIsDivided, CountsAddUp}
+use Rattle.frame_audit.specs.Listing.{FunctionAudit}
 
 -- ---- counts in general
 
@@ -95,21 +95,21 @@ ends_low low (x ∷ xs) (suc i) d r l = ends_low (x.start + x.size) xs i d r.3 (
 
 -- ---- functions
 
-one_kind : (a : Audited) → tick (answers Unwinds a) + tick (answers CantUnwind a) ≡ 1
+one_kind : (a : FunctionAudit) → tick (is_counted Unwinds a) + tick (is_counted CantUnwind a) ≡ 1
 one_kind a = go a.unwinds
   where
     go : (b : Bool) → tick b + tick (not b) ≡ 1
     go true = refl
     go false = refl
 
-kinds : (xs : List Audited) → count_by (answers Unwinds) xs + count_by (answers CantUnwind) xs ≡ length xs
+kinds : (xs : List FunctionAudit) → count_by (is_counted Unwinds) xs + count_by (is_counted CantUnwind) xs ≡ length xs
 kinds [] = refl
 kinds (a ∷ xs) =
     let one = one_kind a in
     let rest = kinds xs in
-    omega (arith, one, rest, count_cons (answers Unwinds) a xs, count_cons (answers CantUnwind) a xs)
+    omega (arith, one, rest, count_cons (is_counted Unwinds) a xs, count_cons (is_counted CantUnwind) a xs)
 
-one_well : (a : Audited) → tick (answers UnwindsWell a) + tick (answers CantUnwindWell a) ≡ tick (answers Well a)
+one_well : (a : FunctionAudit) → tick (is_counted UnwindsWell a) + tick (is_counted CantUnwindWell a) ≡ tick (is_counted Well a)
 one_well a = go a.unwinds (is_none a.unwell)
   where
     go : (b c : Bool) → tick (b && c) + tick (not b && c) ≡ tick c
@@ -119,7 +119,7 @@ one_well a = go a.unwinds (is_none a.unwell)
     go false false = refl
 
 -- by how many of the listed causes a function isn't well
-causes_of : Option Unwell → ℕ
+causes_of : Option FrameFinding → ℕ
 causes_of u = sum_by (λ c. tick (is_cause c u)) CAUSES
 
 no_cause_of : causes_of None ≡ 0
@@ -145,24 +145,24 @@ one_cause_of at cause.SplitEntry = refl
 one_cause_of at cause.GenericModel = refl
 one_cause_of at cause.TooLong = refl
 
-well_or_cause : (u : Option Unwell) → tick (is_none u) + causes_of u ≡ 1
+well_or_cause : (u : Option FrameFinding) → tick (is_none u) + causes_of u ≡ 1
 well_or_cause None = omega (arith, no_cause_of)
 well_or_cause (Some u) = let one : causes_of (Some u) ≡ 1 = one_cause_of u.at u.cause in omega (arith, one)
 
-causes_split : (a : Audited) (xs : List Audited) → causes_of a.unwell + sum_by (counted xs) CAUSES ≡ sum_by (counted (a ∷ xs)) CAUSES
+causes_split : (a : FunctionAudit) (xs : List FunctionAudit) → causes_of a.unwell + sum_by (count_by_cause xs) CAUSES ≡ sum_by (count_by_cause (a ∷ xs)) CAUSES
 unfolding causes_of
-causes_split a xs = sum_split (λ c. tick (is_cause c a.unwell)) (counted xs) (counted (a ∷ xs)) (λ c. sym (count_cons (answers (Cause c)) a xs)) CAUSES
+causes_split a xs = sum_split (λ c. tick (is_cause c a.unwell)) (count_by_cause xs) (count_by_cause (a ∷ xs)) (λ c. sym (count_cons (is_counted (Cause c)) a xs)) CAUSES
 
-no_causes : sum_by (counted []) CAUSES ≡ 0
+no_causes : sum_by (count_by_cause []) CAUSES ≡ 0
 no_causes = refl
 
-causes : (xs : List Audited) → count_by (answers Well) xs + sum_by (counted xs) CAUSES ≡ length xs
+causes : (xs : List FunctionAudit) → count_by (is_counted Well) xs + sum_by (count_by_cause xs) CAUSES ≡ length xs
 causes [] = omega (arith, no_causes)
 causes (a ∷ xs) =
     let one = well_or_cause a.unwell in
     let rest = causes xs in
     let split = causes_split a xs in
-    omega (arith, one, rest, split, count_cons (answers Well) a xs)
+    omega (arith, one, rest, split, count_cons (is_counted Well) a xs)
 
 pub counts_sum : CountsAddUp
-counts_sum = record { kinds = kinds; well = split_count (answers UnwindsWell) (answers CantUnwindWell) (answers Well) one_well; causes = causes }
+counts_sum = record { kinds = kinds; well = split_count (is_counted UnwindsWell) (is_counted CantUnwindWell) (is_counted Well) one_well; causes = causes }

@@ -9,19 +9,19 @@ use Rattle.frame_flow.proofs.Instance.{facts_decide}
 use Rattle.frame_check.specs.Roots.{flow_graph_of}
 use Rattle.frame_check.specs.Accepts.{IsWell}
 use Rattle.frame_check.proofs.Wells.{none_stands, same_item}
-use Rattle.frame_audit.specs.declared.functions.Unwell.{Unwell}
-use Rattle.frame_audit.specs.Laws.{Said, said, ListsAreWhole, ListsAreOne}
-use Rattle.frame_audit.specs.Listing.{Audited, IsUnwell, IsFinding, IsAudited, AreAudited}
+use Rattle.frame_audit.specs.declared.functions.FrameFinding.{FrameFinding}
+use Rattle.frame_audit.specs.Laws.{AuditRow, audit_view, ListsAreWhole, ListsAreOne}
+use Rattle.frame_audit.specs.Listing.{FunctionAudit, IsUnwell, IsFinding, IsAudited, AreAudited}
 
 -- ---- a list that grows
 
-audited_more : (image : Image) (fs : List Function) (xs : List Audited) (f : Function) (x : Audited) → AreAudited image fs xs → IsAudited image f x → AreAudited image (fs ++ f ∷ []) (xs ++ x ∷ [])
+audited_more : (image : Image) (fs : List Function) (xs : List FunctionAudit) (f : Function) (x : FunctionAudit) → AreAudited image fs xs → IsAudited image f x → AreAudited image (fs ++ f ∷ []) (xs ++ x ∷ [])
 audited_more image [] [] f x h is = (is, tt)
 audited_more image [] (y ∷ xs) f x h is = absurd h
 audited_more image (g ∷ fs) [] f x h is = absurd h
 audited_more image (g ∷ fs) (y ∷ xs) f x h is = (h.0, audited_more image fs xs f x h.1 is)
 
-pub audited_item : (image : Image) (fs : List Function) (i : ℕ) (f : Function) (xs : List Audited) (x : Audited) → fs ≡ image.functions → i < length fs → f ≡ get_or fs i f
+pub audited_item : (image : Image) (fs : List Function) (i : ℕ) (f : Function) (xs : List FunctionAudit) (x : FunctionAudit) → fs ≡ image.functions → i < length fs → f ≡ get_or fs i f
     → AreAudited image (take i image.functions) xs → IsAudited image f x → AreAudited image (take (i + 1) image.functions) (xs ++ x ∷ [])
 audited_item image fs i f xs x e l is h a =
     let at : f ≡ get_or image.functions i f = same_item fs image.functions i f e is in
@@ -31,32 +31,32 @@ audited_item image fs i f xs x e l is h a =
 
 -- ---- what is said of one function
 
-unwell_is_not_well : (image : Image) (f : Function) (u : Unwell) → IsUnwell (flow_graph_of image f) f u → IsWell (flow_graph_of image f) → ⊥
+unwell_is_not_well : (image : Image) (f : Function) (u : FrameFinding) → IsUnwell (flow_graph_of image f) f u → IsWell (flow_graph_of image f) → ⊥
 unwell_is_not_well image f u x w = none_stands marks_agree facts_decide (flow_graph_of image f) (omega (arith, x.address, x.inside)) w x.place u.cause x.stands
 
-decided : (image : Image) (f : Function) (u : Option Unwell) → IsFinding (flow_graph_of image f) f u → (u ≡ None) ↔ IsWell (flow_graph_of image f)
+decided : (image : Image) (f : Function) (u : Option FrameFinding) → IsFinding (flow_graph_of image f) f u → (u ≡ None) ↔ IsWell (flow_graph_of image f)
 decided image f None w = (λ e. w, λ v. refl)
 decided image f (Some u) x = (λ e. absurd (cc), λ w. absurd (unwell_is_not_well image f u x w))
 
-pub unlisted_is_well : (image : Image) (f : Function) (x : Audited) → IsAudited image f x → (x.unwell ≡ None) ↔ IsWell (flow_graph_of image f)
+pub unlisted_is_well : (image : Image) (f : Function) (x : FunctionAudit) → IsAudited image f x → (x.unwell ≡ None) ↔ IsWell (flow_graph_of image f)
 unlisted_is_well image f x is = decided image f x.unwell is.finding
 
 -- ---- the lists are whole
 
-same_starts : (image : Image) (fs : List Function) (xs : List Audited) → AreAudited image fs xs → map (λ (a : Audited). a.start) xs ≡ map (λ (f : Function). f.start) fs
+same_starts : (image : Image) (fs : List Function) (xs : List FunctionAudit) → AreAudited image fs xs → map (λ (a : FunctionAudit). a.start) xs ≡ map (λ (f : Function). f.start) fs
 same_starts image [] [] h = refl
 same_starts image [] (x ∷ xs) h = absurd h
 same_starts image (f ∷ fs) [] h = absurd h
 same_starts image (f ∷ fs) (x ∷ xs) h = let one = h.0.start in let rest = same_starts image fs xs h.1 in cc
 
-each_is_said : (image : Image) (fs : List Function) (xs : List Audited) (i : ℕ) (f : Function) (x : Audited) → AreAudited image fs xs → slice_get fs i ≡ Some f → slice_get xs i ≡ Some x
+each_is_said : (image : Image) (fs : List Function) (xs : List FunctionAudit) (i : ℕ) (f : Function) (x : FunctionAudit) → AreAudited image fs xs → slice_get fs i ≡ Some f → slice_get xs i ≡ Some x
     → (x.unwell ≡ None) ↔ IsWell (flow_graph_of image f)
 each_is_said image [] xs i f x h e g = absurd (cc)
 each_is_said image (k ∷ fs) [] i f x h e g = absurd h
 each_is_said image (k ∷ fs) (y ∷ xs) zero f x h e g =
     let one : k ≡ f = cc in
     let two : y ≡ x = cc in
-    unlisted_is_well image f x (subst (λ (z : Audited). IsAudited image f z) two (subst (λ (g : Function). IsAudited image g y) one h.0))
+    unlisted_is_well image f x (subst (λ (z : FunctionAudit). IsAudited image f z) two (subst (λ (g : Function). IsAudited image g y) one h.0))
 each_is_said image (k ∷ fs) (y ∷ xs) (suc i) f x h e g = each_is_said image fs xs i f x h.1 e g
 
 pub lists_whole : ListsAreWhole
@@ -64,16 +64,16 @@ lists_whole = record { order = same_starts; each = each_is_said }
 
 -- ---- and one
 
-listed_alike : (image : Image) (f : Function) (u v : Option Unwell) → IsFinding (flow_graph_of image f) f u → IsFinding (flow_graph_of image f) f v → is_some u ≡ is_some v
+listed_alike : (image : Image) (f : Function) (u v : Option FrameFinding) → IsFinding (flow_graph_of image f) f u → IsFinding (flow_graph_of image f) f v → is_some u ≡ is_some v
 listed_alike image f None None x y = refl
 listed_alike image f None (Some v) x y = absurd (unwell_is_not_well image f v y x)
 listed_alike image f (Some u) None x y = absurd (unwell_is_not_well image f u x y)
 listed_alike image f (Some u) (Some v) x y = refl
 
-abbrev said_of : List ℕ → ℕ → Bool → Bool → Said
+abbrev said_of : List ℕ → ℕ → Bool → Bool → AuditRow
 said_of name start unwinds listed = record { name = name; start = start; unwinds = unwinds; listed = listed }
 
-said_alike : (image : Image) (f : Function) (x y : Audited) → IsAudited image f x → IsAudited image f y → said x ≡ said y
+said_alike : (image : Image) (f : Function) (x y : FunctionAudit) → IsAudited image f x → IsAudited image f y → audit_view x ≡ audit_view y
 said_alike image f x y a b =
     let name : x.name ≡ y.name = a.name ∙ sym b.name in
     let start : x.start ≡ y.start = a.start ∙ sym b.start in

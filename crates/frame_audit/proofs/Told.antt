@@ -3,14 +3,14 @@ use Rattle.std.proofs.Common.{◌≡◌, ℕ, ◌+◌, ◌<◌, zero, suc, List,
 use Rattle.std.specs.Prelude.{◌&&◌, if◌then◌else◌}
 use Rattle.std.specs.Option.{is_none}
 use Rattle.std.specs.List.{position_from}
-use Rattle.unwind_codes.specs.declared.row.Entry.{Entry}
-use Rattle.unwind_codes.specs.declared.row.EntryBody.TheVariants.{CantUnwind as NoUnwinding}
+use Rattle.eh_codes.specs.declared.row.Entry.{Entry}
+use Rattle.eh_codes.specs.declared.row.EntryBody.TheVariants.{CantUnwind as NoUnwinding}
 use Rattle.eh_bytecode.specs.declared.recipe.Recipe.{Recipe}
 use Rattle.eh_index.specs.Covering.{covering}
 use Rattle.eh_index.specs.Rows.{entries_of}
 use Rattle.elf_image.specs.Functions.{Function, is_inside}
 use Rattle.elf_image.specs.Image.{Image, is_code_in, function_at}
-use Rattle.frame_graph.specs.declared.unwinding.Unwinding.TheVariants.{Finds}
+use Rattle.frame_entries.specs.declared.unwinding.EntrySummary.TheVariants.{Finds}
 use Rattle.frame_graph.specs.Sites.{unwinding_at}
 use Rattle.frame_check.specs.Roots.{flow_graph_of}
 use Rattle.frame_audit.specs.Laws.{UnwindingIsTold, StrayIsOutside}

@@ -1,4 +1,4 @@
--- What an audit finds of an image (docs/audit.md).
+-- What an audit finds of an image (docs/guide/audit.md).
 use Rattle.std.specs.Prelude.{ℕ, ◌≡◌, ◌&&◌, Bool, List, Option, Some, None}
 use Rattle.std.specs.Option.{is_none}
 use Rattle.std.specs.List.{list_all}
@@ -11,17 +11,17 @@ use Rattle.frame_check.specs.Roots.{roots_of}
 use Rattle.frame_audit.specs.declared.image_audit.AuditFault.{AuditFault}
 use Rattle.frame_audit.specs.declared.image_audit.AuditFault.TheVariants.{Index, OutOfMemory}
 use Rattle.frame_audit.specs.Code.{stray_bytes}
-use Rattle.frame_audit.specs.Listing.{Audited, AreAudited}
+use Rattle.frame_audit.specs.Listing.{FunctionAudit, AreAudited}
 
 pub record Audit : Type 0 where
   -- of each function, in rising order
-  pub functions : List Audited
+  pub functions : List FunctionAudit
   -- why its types mean no graph
   pub types : Option TypeFault
   -- how many bytes of code stand in no function
   pub stray : ℕ
 
--- its roots mean a graph of types, or a type that shows that they mean none
+-- its roots have a graph of types, or this fault shows that they have none
 abbrev pub AreTypes : Image → Option TypeFault → Type 0
 AreTypes image None = (types : List Row) × IsGraph image (roots_of image) types
 AreTypes image (Some fault) = Shows image (roots_of image) fault
@@ -32,14 +32,14 @@ pub record IsAudit (image : Image) (x : Audit) : Type 0 where
   pub stray : x.stray ≡ stray_bytes image
 
 -- nothing is said of any function
-abbrev pub are_well : List Audited → Bool
-are_well audited = list_all (λ (a : Audited). is_none a.unwell) audited
+abbrev pub are_well : List FunctionAudit → Bool
+are_well audited = list_all (λ (a : FunctionAudit). is_none a.unwell) audited
 
--- nothing is said against the image: of no function, and not of its types
+-- the audit found nothing to refuse, neither of a function nor of the types
 unfoldable pub is_clear : Audit → Bool
 is_clear x = are_well x.functions && is_none x.types
 
--- why an image isn't audited; that memory runs out says nothing
+-- why an image isn't audited; running out of memory tells nothing
 abbrev pub IsUnread : Image → AuditFault → Type 0
 IsUnread image (Index fault) = index_refusal image ≡ Some fault
 IsUnread image OutOfMemory = Unit {0}

@@ -1,4 +1,4 @@
--- Code, and code that stands in no function (docs/audit.md, "Code in no function").
+-- Code, and code that is in no function (docs/guide/audit.md, "Code in no function").
 use Rattle.std.specs.Prelude.{ℕ, ◌*◌, ◌&&◌, Bool, is_some, sum_by}
 use Rattle.std.specs.Option.{is_none}
 use Rattle.std.specs.List.{count_by, range_with_len}
@@ -6,7 +6,7 @@ use Rattle.elf_image.specs.Segments.{Segment}
 use Rattle.elf_image.specs.Image.{Image, is_code_in, function_at}
 use Rattle.frame_audit.specs.declared.code.TheConstants.{HALFWORD}
 
--- a halfword of code begins at the address, and no function holds it
+-- a halfword of code begins at the address, and the address is in no function
 abbrev pub is_stray : Image → ℕ → Bool
 is_stray image a = is_code_in image a && is_none (function_at image a)
 

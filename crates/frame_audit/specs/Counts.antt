@@ -1,12 +1,12 @@
--- Which functions an audit counts (docs/audit.md, "Counts").
+-- Which functions an audit counts (docs/guide/audit.md, "Counts").
 use Rattle.std.specs.Prelude.{ℕ, ◌==◌, ◌&&◌, not, Bool, false, Option, Some, None}
 use Rattle.std.specs.Option.{is_none}
 use Rattle.frame_facts.specs.declared.cause.FrameCause.{FrameCause}
 use Rattle.frame_facts.specs.declared.cause.FrameCause.TheVariants as cause
 use Rattle.frame_audit.specs.declared.counts.Question.{Question}
 use Rattle.frame_audit.specs.declared.counts.Question.TheVariants as question
-use Rattle.frame_audit.specs.declared.functions.Unwell.{Unwell}
-use Rattle.frame_audit.specs.Listing.{Audited}
+use Rattle.frame_audit.specs.declared.functions.FrameFinding.{FrameFinding}
+use Rattle.frame_audit.specs.Listing.{FunctionAudit}
 
 -- the number of a cause, whatever register it names
 abbrev pub number_of : FrameCause → ℕ
@@ -27,15 +27,15 @@ number_of cause.SplitEntry = 14
 number_of cause.GenericModel = 15
 number_of cause.TooLong = 16
 
--- the function isn't well by this cause, whatever register it names
-abbrev pub is_cause : FrameCause → Option Unwell → Bool
+-- the function is rejected for this cause, whatever register it names
+abbrev pub is_cause : FrameCause → Option FrameFinding → Bool
 is_cause c None = false
 is_cause c (Some u) = number_of u.cause == number_of c
 
-abbrev pub answers : Question → Audited → Bool
-answers question.Unwinds a = a.unwinds
-answers question.UnwindsWell a = a.unwinds && is_none a.unwell
-answers question.CantUnwind a = not a.unwinds
-answers question.CantUnwindWell a = not a.unwinds && is_none a.unwell
-answers question.Well a = is_none a.unwell
-answers (question.Cause c) a = is_cause c a.unwell
+abbrev pub is_counted : Question → FunctionAudit → Bool
+is_counted question.Unwinds a = a.unwinds
+is_counted question.UnwindsWell a = a.unwinds && is_none a.unwell
+is_counted question.CantUnwind a = not a.unwinds
+is_counted question.CantUnwindWell a = not a.unwinds && is_none a.unwell
+is_counted question.Well a = is_none a.unwell
+is_counted (question.Cause c) a = is_cause c a.unwell

@@ -3,12 +3,12 @@ use Rattle.std.specs.Prelude.{ℕ, ◌≡◌, ◌+◌, ◌↔◌, Bool, true, fa
 use Rattle.std.specs.List.{count_by}
 use Rattle.elf_image.specs.Functions.{Function, is_inside}
 use Rattle.elf_image.specs.Image.{Image}
-use Rattle.unwind_codes.specs.declared.row.Entry.{Entry}
-use Rattle.unwind_codes.specs.declared.row.EntryBody.TheVariants.{CantUnwind as NoUnwinding}
+use Rattle.eh_codes.specs.declared.row.Entry.{Entry}
+use Rattle.eh_codes.specs.declared.row.EntryBody.TheVariants.{CantUnwind as NoUnwinding}
 use Rattle.eh_bytecode.specs.declared.recipe.Recipe.{Recipe}
 use Rattle.eh_index.specs.Covering.{covering}
 use Rattle.eh_index.specs.Rows.{entries_of}
-use Rattle.frame_graph.specs.declared.unwinding.Unwinding.TheVariants.{Finds}
+use Rattle.frame_entries.specs.declared.unwinding.EntrySummary.TheVariants.{Finds}
 use Rattle.frame_graph.specs.Sites.{unwinding_at}
 use Rattle.frame_facts.specs.declared.cause.FrameCause.{FrameCause}
 use Rattle.frame_check.specs.Roots.{flow_graph_of}
@@ -16,30 +16,30 @@ use Rattle.frame_check.specs.Accepts.{IsWell}
 use Rattle.frame_audit.specs.declared.counts.Question.TheVariants.{Unwinds, UnwindsWell, CantUnwind, CantUnwindWell, Well, Cause}
 use Rattle.frame_audit.specs.declared.counts.TheConstants.{CAUSES}
 use Rattle.frame_audit.specs.Code.{is_stray, code_bytes, held_bytes, stray_bytes}
-use Rattle.frame_audit.specs.Counts.{answers}
-use Rattle.frame_audit.specs.Listing.{Audited, can_unwind, AreAudited}
+use Rattle.frame_audit.specs.Counts.{is_counted}
+use Rattle.frame_audit.specs.Listing.{FunctionAudit, can_unwind, AreAudited}
 
--- The starts are those of the functions, in their order; and of function i nothing is said exactly where it is well.
+-- The starts are those of the functions, in their order. Function i has no finding if and only if it is accepted.
 pub record ListsAreWhole : Type 0 where
-  pub order : (image : Image) (functions : List Function) (audited : List Audited) → AreAudited image functions audited
-      → map (λ (a : Audited). a.start) audited ≡ map (λ (f : Function). f.start) functions
-  pub each : (image : Image) (functions : List Function) (audited : List Audited) (i : ℕ) (f : Function) (a : Audited) → AreAudited image functions audited
+  pub order : (image : Image) (functions : List Function) (audited : List FunctionAudit) → AreAudited image functions audited
+      → map (λ (a : FunctionAudit). a.start) audited ≡ map (λ (f : Function). f.start) functions
+  pub each : (image : Image) (functions : List Function) (audited : List FunctionAudit) (i : ℕ) (f : Function) (a : FunctionAudit) → AreAudited image functions audited
       → slice_get functions i ≡ Some f → slice_get audited i ≡ Some a → (a.unwell ≡ None) ↔ IsWell (flow_graph_of image f)
 
--- what two audits say alike of a function: all but the address and the cause
-pub record Said : Type 0 where
+-- what two audits agree on of a function: everything but the address and the cause
+pub record AuditRow : Type 0 where
   pub name : List ℕ
   pub start : ℕ
   pub unwinds : Bool
   pub listed : Bool
 
-abbrev pub said : Audited → Said
-said a = record { name = a.name; start = a.start; unwinds = a.unwinds; listed = is_some a.unwell }
+abbrev pub audit_view : FunctionAudit → AuditRow
+audit_view a = record { name = a.name; start = a.start; unwinds = a.unwinds; listed = is_some a.unwell }
 
 abbrev pub ListsAreOne : Type 0
-ListsAreOne = (image : Image) (functions : List Function) (xs ys : List Audited) → AreAudited image functions xs → AreAudited image functions ys → map said xs ≡ map said ys
+ListsAreOne = (image : Image) (functions : List Function) (xs ys : List FunctionAudit) → AreAudited image functions xs → AreAudited image functions ys → map audit_view xs ≡ map audit_view ys
 
--- nothing unwinds from a function that no entry covers, or whose entry is CANTUNWIND; from one whose codes give a recipe something does
+-- A function can't be unwound if no entry covers it, or its entry is CANTUNWIND. It can if its unwind instructions have a recipe.
 pub record UnwindingIsTold : Type 0 where
   pub uncovered : (image : Image) (f : Function) → covering (entries_of image) f.start ≡ None → can_unwind image f ≡ false
   pub barred : (image : Image) (f : Function) (e : Entry) → covering (entries_of image) f.start ≡ Some e → e.body ≡ NoUnwinding → can_unwind image f ≡ false
@@ -53,11 +53,11 @@ abbrev pub CodeIsDivided : Type 0
 CodeIsDivided = (image : Image) → held_bytes image + stray_bytes image ≡ code_bytes image
 
 -- how many are counted
-abbrev pub counted : List Audited → FrameCause → ℕ
-counted audited c = count_by (answers (Cause c)) audited
+abbrev pub count_by_cause : List FunctionAudit → FrameCause → ℕ
+count_by_cause audited c = count_by (is_counted (Cause c)) audited
 
--- a function can be unwound or it can't; one of either kind is well or not; and one that isn't has one cause of the list
+-- a function either can be unwound or can't; one of either kind is accepted or not; and one that isn't has one cause of the list
 pub record CountsAddUp : Type 0 where
-  pub kinds : (audited : List Audited) → count_by (answers Unwinds) audited + count_by (answers CantUnwind) audited ≡ length audited
-  pub well : (audited : List Audited) → count_by (answers UnwindsWell) audited + count_by (answers CantUnwindWell) audited ≡ count_by (answers Well) audited
-  pub causes : (audited : List Audited) → count_by (answers Well) audited + sum_by (counted audited) CAUSES ≡ length audited
+  pub kinds : (audited : List FunctionAudit) → count_by (is_counted Unwinds) audited + count_by (is_counted CantUnwind) audited ≡ length audited
+  pub well : (audited : List FunctionAudit) → count_by (is_counted UnwindsWell) audited + count_by (is_counted CantUnwindWell) audited ≡ count_by (is_counted Well) audited
+  pub causes : (audited : List FunctionAudit) → count_by (is_counted Well) audited + sum_by (count_by_cause audited) CAUSES ≡ length audited

@@ -1,12 +1,12 @@
-//! How many functions an audit counts of each kind (docs/audit.md, "Counts").
+//! The counts of an audit: how many functions there are of each kind (docs/guide/audit.md, "Counts").
 ghost use Rattle.std.specs.Prelude.{◌≡◌, ◌<◌};
 ghost use Rattle.std.specs.List.{count_by};
-ghost use Rattle.frame_audit.specs.Counts.{number_of, is_cause, answers};
+ghost use Rattle.frame_audit.specs.Counts.{number_of, is_cause, is_counted};
 
-use crate::functions::{Audited, Unwell};
+use crate::functions::{FrameFinding, FunctionAudit};
 use frame_facts::FrameCause;
 
-/// The causes in the order of their numbers, each of those that name a register with one of them.
+/// The causes in the order of their numbers; the register of those that name one is arbitrary.
 pub static CAUSES: [FrameCause; 16] = [
     FrameCause::Undecodable,
     FrameCause::BranchOut,
@@ -26,20 +26,20 @@ pub static CAUSES: [FrameCause; 16] = [
     FrameCause::TooLong,
 ];
 
-/// Which functions are counted.
+/// A kind of functions to count.
 #[derive(Clone, Copy)]
 pub enum Question {
-    /// Those with a table to unwind by, or one that can't be read.
+    /// Those whose start is covered by an entry that unwinds, or by one that can't be read.
     Unwinds,
-    /// Those of them that are well.
+    /// Those of `Unwinds` that are accepted.
     UnwindsWell,
     /// Those that can't be unwound.
     CantUnwind,
-    /// Those of them that are well.
+    /// Those of `CantUnwind` that are accepted.
     CantUnwindWell,
-    /// All that are well.
+    /// All that are accepted.
     Well,
-    /// Those that aren't well by this cause, whatever register it names.
+    /// Those that are rejected for this cause, whatever register it names.
     Cause(FrameCause),
 }
 
@@ -67,8 +67,8 @@ pub fn number_of(cause: FrameCause) -> u8
     }
 }
 
-/// Whether a function isn't well by a cause.
-fn is_cause(cause: FrameCause, unwell: Option<Unwell>) -> bool
+/// Whether a function is rejected for a cause, whatever register it names.
+fn is_cause(cause: FrameCause, unwell: Option<FrameFinding>) -> bool
     ensures { result ≡ is_cause cause unwell }
 {
     match unwell {
@@ -78,9 +78,9 @@ fn is_cause(cause: FrameCause, unwell: Option<Unwell>) -> bool
 }
 
 impl Question {
-    /// Whether a function is counted.
-    pub fn answers(self, a: &Audited) -> bool
-        ensures { result ≡ answers self a.now }
+    /// Whether a function is of this kind.
+    pub fn answers(self, a: &FunctionAudit) -> bool
+        ensures { result ≡ is_counted self a.now }
     {
         match self {
             Question::Unwinds => a.unwinds,
@@ -93,9 +93,9 @@ impl Question {
     }
 }
 
-/// How many of these functions are counted.
-pub fn count(question: Question, audited: &[Audited]) -> usize
-    ensures { result ≡ count_by (answers question) audited.now }
+/// How many of the functions are of a kind.
+pub fn count(question: Question, audited: &[FunctionAudit]) -> usize
+    ensures { result ≡ count_by (is_counted question) audited.now }
 {
     let mut count = 0;
     for a in audited {

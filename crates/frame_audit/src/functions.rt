@@ -1,6 +1,6 @@
-//! Each function of an image, judged by itself (docs/audit.md, "Functions").
+//! Checks each function of an image by itself (docs/guide/audit.md, "Functions").
 ghost use Rattle.std.specs.Prelude.{◌≡◌, [], IfOk, OnOk, Some};
-ghost use Rattle.image_memory.specs.Profiles.{profile_of};
+ghost use Rattle.run_images.specs.Profiles.{profile_of};
 ghost use Rattle.frame_check.specs.Roots.{flow_graph_of};
 ghost use Rattle.frame_check.specs.Judged.{IsPlaced};
 ghost use Rattle.frame_audit.specs.Listing.{can_unwind, IsFinding, IsAudited, AreAudited};
@@ -8,45 +8,48 @@ ghost use Rattle.frame_audit.specs.declared.functions.AuditMemory.TheVariants.{O
 
 use eh_index::Index;
 use elf_image::Function;
-use frame_check::{CheckFault, Room, judge_function};
+use frame_check::{CheckFault, Room, check_unmarked};
+use frame_entries::EntrySummary;
 use frame_facts::FrameCause;
-use frame_graph::{Cover, FlowGraph, Unwinding};
+use frame_graph::{EntryCache, FlowGraph};
 use std::alloc::{AllocError, AllocFailed, Global};
 use std::marker::Model;
 use thumb_isa::profile::Profile;
 
-/// Where a function isn't well, and why.
+/// An address and a cause for which a function is rejected.
 #[derive(Clone, Copy)]
-pub struct Unwell {
-    /// An address of the function, in bytes, where the cause stands.
+pub struct FrameFinding {
+    /// The address at which the cause stands.
     pub at: u32,
+    /// Why the function is rejected.
     pub cause: FrameCause,
 }
 
-/// What is found of a function.
+/// What an audit finds of a function.
 #[derive(Drop)]
-pub struct Audited<'a> {
-    /// Its name.
+pub struct FunctionAudit<'a> {
+    /// The function's name.
     pub name: &'a [u8],
-    /// Its first address, in bytes.
+    /// The function's first address.
     pub start: u32,
-    /// Whether the entry that covers its start is a table to unwind by, or one that can't be read.
+    /// Whether its start is covered by an entry that unwinds, or by one that can't be read.
     pub unwinds: bool,
-    /// Where it isn't well, and why. None where it is.
-    pub unwell: Option<Unwell>,
+    /// Why the function is rejected; None if it is accepted.
+    pub unwell: Option<FrameFinding>,
 }
 
-impl<'a> Model for Audited<'a> {
-    ghost use Rattle.frame_audit.specs.Listing.{Audited as Parts};
+impl<'a> Model for FunctionAudit<'a> {
+    ghost use Rattle.frame_audit.specs.Listing.{FunctionAudit as Parts};
 
     ghost Value = { Parts };
 
     ghost view = { λ a. record { name = a.name.now; start = a.start; unwinds = a.unwinds; unwell = a.unwell } };
 }
 
-/// There was no memory to judge a function.
+/// There was not enough memory to check a function.
 #[derive(Clone, Copy)]
 pub enum AuditMemory {
+    /// An allocation failed.
     OutOfMemory,
 }
 
@@ -66,33 +69,33 @@ impl<T: Drop> From<AllocFailed<T>> for AuditMemory {
     }
 }
 
-/// Whether something unwinds from a function's start, or an entry that is at fault covers it. The cover keeps that entry.
-fn can_unwind(cover: &Cover, f: &Function) -> bool
+/// Whether a function's start is covered by an entry that unwinds, or by one that can't be read. The cache must have that entry.
+fn can_unwind(cover: &EntryCache, f: &Function) -> bool
     ensures { result ≡ can_unwind cover.now f.now }
 {
-    let flow_graph = FlowGraph::under(cover, f.start, f.end);
+    let flow_graph = FlowGraph::with_cache(cover, f.start, f.end);
     match flow_graph.unwinding_at(flow_graph.start()) {
-        Unwinding::Refused => false,
-        Unwinding::Finds(_) | Unwinding::BadBytecode | Unwinding::GenericModel => true,
+        EntrySummary::Refused => false,
+        EntrySummary::Finds(_) | EntrySummary::BadBytecode | EntrySummary::GenericModel => true,
     }
 }
 
-/// Nothing of a function that is well, else an address and a cause that stands there.
+/// None for a function that is accepted, else an address and a cause that stands there.
 fn finding(
     alloc: Global,
     room: &mut Room,
-    cover: &Cover,
+    cover: &EntryCache,
     f: &Function,
-) -> Result<Option<Unwell>, AuditMemory>
+) -> Result<Option<FrameFinding>, AuditMemory>
     requires { IsPlaced f.now }
     ensures { IfOk result (IsFinding (flow_graph_of cover.now f.now) f.now) }
 {
-    match judge_function(alloc, room, cover, f) {
+    match check_unmarked(alloc, room, cover, f) {
         Ok(reached) => {
             room.keep(reached);
             Ok(None)
         }
-        Err(CheckFault::Function(r)) => Ok(Some(Unwell {
+        Err(CheckFault::Function(r)) => Ok(Some(FrameFinding {
             at: r.at,
             cause: r.cause,
         })),
@@ -101,18 +104,18 @@ fn finding(
     }
 }
 
-/// What is found of a function. The cover keeps the entry of its start.
+/// Checks a function. The cache must have the entry of its start.
 fn audit_function<'a>(
     alloc: Global,
     room: &mut Room,
-    cover: &Cover,
+    cover: &EntryCache,
     f: &Function<'a>,
-) -> Result<Audited<'a>, AuditMemory>
+) -> Result<FunctionAudit<'a>, AuditMemory>
     requires { IsPlaced f.now }
     ensures { IfOk result (IsAudited cover.now f.now) }
 {
     let unwell = finding(alloc, room, cover, f)?;
-    Ok(Audited {
+    Ok(FunctionAudit {
         name: f.name,
         start: f.start,
         unwinds: can_unwind(cover, f),
@@ -120,12 +123,12 @@ fn audit_function<'a>(
     })
 }
 
-/// Adds what is found of each function, in rising order. An entry that covers several is read once.
+/// Checks each function in ascending order, and adds the results. An entry that covers several functions is read once.
 fn audit_each<'a>(
     alloc: Global,
     room: &mut Room,
-    cover: &mut Cover,
-    audited: &mut Vec<Audited<'a>>,
+    cover: &mut EntryCache,
+    audited: &mut Vec<FunctionAudit<'a>>,
     index: &Index<'_, 'a>,
 ) -> Result<(), AuditMemory>
     requires none { audited.old.items ≡ [] }
@@ -140,17 +143,18 @@ fn audit_each<'a>(
     Ok(())
 }
 
-/// What is found of each function, in rising order, by the profile of their image. The facts of one function are kept at a time.
+/// Checks each function in ascending order; `profile` must be that of the image. Holds the facts of one function at a time. Err if
+/// memory runs out.
 pub fn audit_functions<'a>(
     alloc: Global,
     index: &Index<'_, 'a>,
     profile: Profile,
-) -> Result<Vec<Audited<'a>>, AuditMemory>
+) -> Result<Vec<FunctionAudit<'a>>, AuditMemory>
     requires { profile ≡ profile_of index.now }
     ensures { IfOk result (λ audited. AreAudited index.now index.now.functions audited.items) }
 {
     let mut audited = Vec::new(alloc);
-    let mut cover = Cover::new(alloc, index, profile);
+    let mut cover = EntryCache::new(alloc, index, profile);
     let mut room = Room::new(alloc);
     audit_each(alloc, &mut room, &mut cover, &mut audited, index)?;
     Ok(audited)

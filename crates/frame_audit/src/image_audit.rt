@@ -1,28 +1,28 @@
-//! The audit of an image (docs/audit.md).
+//! The audit of an image (docs/guide/audit.md).
 ghost use Rattle.std.specs.Prelude.{◌≡◌, ◌↔◌, IfOk, IfErr, IfSome, None, Some, true};
 ghost use Rattle.std.specs.List.{count_by};
 ghost use Rattle.eh_index.specs.Refusal.{index_refusal};
 ghost use Rattle.frame_check.specs.Accepts.{IsAccepted};
 ghost use Rattle.frame_audit.specs.Audits.{AreTypes, IsAudit, IsUnread, are_well, is_clear};
-ghost use Rattle.frame_audit.specs.Counts.{answers};
+ghost use Rattle.frame_audit.specs.Counts.{is_counted};
 ghost use Rattle.frame_audit.specs.declared.image_audit.AuditFault.TheVariants.{OutOfMemory};
 
 use crate::code::stray_bytes;
 use crate::counts::{Question, count};
-use crate::functions::{AuditMemory, Audited, audit_functions};
+use crate::functions::{AuditMemory, FunctionAudit, audit_functions};
 use eh_index::{Index, IndexFault};
 use eh_types::TypeFault;
 use elf_image::Image;
 use frame_check::{CheckFault, types_of};
-use image_memory::profile::profile_of;
+use run_images::profile::profile_of;
 use std::alloc::Global;
 use std::marker::Model;
 use thiserror::Error;
 
-/// What is found of an image whose exception index is read.
+/// The audit of an image whose index table was read.
 #[derive(Drop)]
 pub struct Audit<'a> {
-    functions: Vec<Audited<'a>>,
+    functions: Vec<FunctionAudit<'a>>,
     types: Option<TypeFault>,
     stray: u64,
 }
@@ -38,10 +38,10 @@ impl<'a> Model for Audit<'a> {
 /// Why an image isn't audited.
 #[derive(Clone, Copy, Debug, Error)]
 pub enum AuditFault {
-    /// Its exception index isn't read.
+    /// Its index table can't be read.
     #[error("its exception index isn't read")]
     Index(IndexFault),
-    /// No memory was left. Nothing is said of the image.
+    /// An allocation failed; this tells nothing of the image.
     #[error("out of memory")]
     OutOfMemory,
 }
@@ -54,8 +54,8 @@ impl From<AuditMemory> for AuditFault {
     }
 }
 
-/// Whether all of these functions are well.
-fn are_well(functions: &[Audited]) -> bool
+/// Whether all of these functions are accepted.
+fn are_well(functions: &[FunctionAudit]) -> bool
     ensures { result ≡ are_well functions.now }
 {
     for a in functions {
@@ -66,7 +66,7 @@ fn are_well(functions: &[Audited]) -> bool
     true
 }
 
-/// Why the types of an image mean no graph, if they mean none.
+/// Why the types of an image have no graph; None if they have one.
 fn types_fault(alloc: Global, index: &Index) -> Result<Option<TypeFault>, AuditMemory>
     ensures { IfOk result (AreTypes index.now) }
 {
@@ -78,8 +78,8 @@ fn types_fault(alloc: Global, index: &Index) -> Result<Option<TypeFault>, AuditM
     }
 }
 
-/// Judges each function of an image, and its types whatever the functions are. Its index is read first, since all else rests on it.
-/// Nothing is said against it exactly where the checker accepts the image.
+/// Checks each function of an image, and its types even if functions are rejected. The index is read first, since everything depends on
+/// it. The audit is clear if and only if the checker accepts the image.
 #[tactic(auto, using(crate::proofs::Clear::clear_is_accepted))]
 pub fn audit_image<'a>(alloc: Global, image: &Image<'a>) -> Result<Audit<'a>, AuditFault>
     ensures read { IfOk result (λ _. index_refusal image.now ≡ None) }
@@ -102,35 +102,35 @@ pub fn audit_image<'a>(alloc: Global, image: &Image<'a>) -> Result<Audit<'a>, Au
 }
 
 impl<'a> Audit<'a> {
-    /// What is found of each function, in rising order.
-    pub fn functions(&self) -> &[Audited<'a>]
+    /// The results for each function, in ascending order.
+    pub fn functions(&self) -> &[FunctionAudit<'a>]
         ensures { result.now ≡ self.now.functions }
     {
         self.functions.as_slice()
     }
 
-    /// Why its types mean no graph. None where they mean one.
+    /// Why the image's types have no graph; None if they have one.
     pub fn types(&self) -> Option<TypeFault>
         ensures { result ≡ self.now.types }
     {
         self.types
     }
 
-    /// How many bytes of code stand in no function.
+    /// The number of bytes of code that are in no function.
     pub fn stray(&self) -> u64
         ensures { result ≡ self.now.stray }
     {
         self.stray
     }
 
-    /// How many functions are counted.
+    /// How many functions are of a kind.
     pub fn count(&self, question: Question) -> usize
-        ensures { result ≡ count_by (answers question) self.now.functions }
+        ensures { result ≡ count_by (is_counted question) self.now.functions }
     {
         count(question, &self.functions)
     }
 
-    /// Whether nothing is said against the image.
+    /// Whether the audit found nothing to refuse.
     #[tactic(auto, unfolding(crate::specs::Audits::is_clear))]
     pub fn is_clear(&self) -> bool
         ensures { result ≡ is_clear self.now }

@@ -1,5 +1,5 @@
-//! Every function of an image that isn't well, and what an audit counts (docs/audit.md). It stands beside the checker, which stops at
-//! the first.
+//! Every function of an image that is rejected, and the counts of an audit (docs/guide/audit.md). The checker itself stops at the first
+//! rejected function.
 #![tactic(auto)]
 
 pub mod code;
@@ -9,5 +9,5 @@ pub mod image_audit;
 pub mod laws;
 
 pub use counts::{CAUSES, Question};
-pub use functions::{AuditMemory, Audited, Unwell};
+pub use functions::{AuditMemory, FrameFinding, FunctionAudit};
 pub use image_audit::{Audit, AuditFault, audit_image};

@@ -3,14 +3,15 @@ use Rattle.std.proofs.Common.{◌≡◌, ℕ, zero, suc, ◌≤◌, ◌||◌, �
 use Rattle.std.specs.Prelude.{Contains, nat_eq}
 use Rattle.std.specs.List.{list_any, IsDistinct}
 use Rattle.std.proofs.lemmas.Bool.{ltb-true, ltb-false}
-use Rattle.unwind_codes.specs.declared.row.Entry.{Entry}
-use Rattle.eh_bytecode.specs.declared.recipe.Recipe.{Recipe}
+use Rattle.eh_codes.specs.declared.row.Entry.{Entry}
+use Rattle.eh_desc.specs.eh_bytecode.declared.recipe.Recipe.{Recipe}
 use Rattle.eh_desc.specs.declared.descriptor.DescFault.{DescFault}
 use Rattle.frame_facts.specs.declared.cause.FrameCause.TheVariants as cause
-use Rattle.frame_graph.specs.declared.unwinding.Unwinding.{Unwinding}
-use Rattle.frame_graph.specs.declared.unwinding.Unwinding.TheVariants.{Finds, Refused, BadBytecode, GenericModel}
+use Rattle.frame_entries.specs.declared.unwinding.EntrySummary.{EntrySummary}
+use Rattle.frame_entries.specs.declared.unwinding.EntrySummary.TheVariants.{Finds, Refused, BadBytecode, GenericModel}
 use Rattle.frame_graph.specs.FlowGraph.{FlowGraph}
-use Rattle.frame_graph.specs.Sites.{Item, is_fault, items_at, unwinding_at, site_at, entry_at, begins_above}
+use Rattle.frame_entries.specs.Scopes.{Item, is_fault}
+use Rattle.frame_graph.specs.Sites.{items_at, unwinding_at, site_at, entry_at, begins_above}
 use Rattle.frame_graph.specs.Reach.{IsReached}
 use Rattle.frame_reach.specs.declared.marks.TheConstants.{MOST_REACHED}
 use Rattle.frame_check.specs.Accepts.{IsWell}
@@ -19,7 +20,7 @@ use Rattle.frame_check.specs.Laws.{WellFunctions}
 codes : (s : FlowGraph) → IsWell s → ((r : Recipe) × (unwinding_at s s.start ≡ Finds r)) ⊎ (unwinding_at s s.start ≡ Refused)
 codes s w = go (unwinding_at s s.start) refl
   where
-    go : (u : Unwinding) → unwinding_at s s.start ≡ u → ((r : Recipe) × (unwinding_at s s.start ≡ Finds r)) ⊎ (unwinding_at s s.start ≡ Refused)
+    go : (u : EntrySummary) → unwinding_at s s.start ≡ u → ((r : Recipe) × (unwinding_at s s.start ≡ Finds r)) ⊎ (unwinding_at s s.start ≡ Refused)
     go (Finds r) e = inl (r, e)
     go Refused e = inr e
     go BadBytecode e = absurd (w.start cause.BadBytecode e)

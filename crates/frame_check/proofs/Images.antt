@@ -6,7 +6,7 @@ use Rattle.std.proofs.lemmas.List.Folds.{list_any-append}
 use Rattle.std.proofs.lemmas.List.Elements.{Contains-push, Contains-push_cases, Contains-append_left, All-contains, All-cons, All-head, All-tail}
 use Rattle.elf_image.specs.Functions.{Function, FunctionsFrom, is_inside}
 use Rattle.elf_image.specs.Image.{Image}
-use Rattle.image_memory.specs.Start.{begins_function}
+use Rattle.run_images.specs.Start.{begins_function}
 use Rattle.frame_graph.specs.FlowGraph.{FlowGraph}
 use Rattle.frame_graph.specs.Places.{address_of}
 use Rattle.frame_graph.specs.Lowering.{is_lowering}
@@ -14,7 +14,7 @@ use Rattle.frame_graph.specs.Reach.{IsReached}
 use Rattle.frame_reach.specs.Marks.{Marks, AreMarks}
 use Rattle.frame_reach.specs.Prologue.{prologue, lines, places}
 use Rattle.frame_reach.specs.Laws.{MarksAgree}
-use Rattle.frame_check.specs.declared.pushes.Pushed.{Pushed}
+use Rattle.frame_check.specs.declared.pushes.ProloguePush.{ProloguePush}
 use Rattle.frame_check.specs.declared.roles.Role.{Role}
 use Rattle.frame_check.specs.declared.roles.TheConstants.{NO_ROLE}
 use Rattle.frame_check.specs.Roles.{Table, no_table, look}
@@ -26,12 +26,12 @@ use Rattle.frame_check.proofs.Lines.{IsFrom, pushes_inside}
 
 -- ---- PUSHes elsewhere
 
-pub over_other : (before : ℕ) (xs : List Pushed) (a : ℕ) → All (λ (x : Pushed). x.at ≢ a) xs → saves_over before xs a ≡ before
+pub over_other : (before : ℕ) (xs : List ProloguePush) (a : ℕ) → All (λ (x : ProloguePush). x.at ≢ a) xs → saves_over before xs a ≡ before
 over_other before [] a h = refl
-over_other before (x ∷ xs) a h = go (x.at == a) refl (over_other before xs a (All-tail (λ (y : Pushed). y.at ≢ a) x xs h))
+over_other before (x ∷ xs) a h = go (x.at == a) refl (over_other before xs a (All-tail (λ (y : ProloguePush). y.at ≢ a) x xs h))
   where
     go : (t : Bool) → (x.at == a) ≡ t → saves_over before xs a ≡ before → saves_over (if t then x.saves else before) xs a ≡ before
-    go true t r = absurd (All-head (λ (y : Pushed). y.at ≢ a) x xs h (eqb-true x.at a t))
+    go true t r = absurd (All-head (λ (y : ProloguePush). y.at ≢ a) x xs h (eqb-true x.at a t))
     go false t r = r
 
 is_within : (a : ℕ) (f : Function) → f.start ≤ a → a < f.end → is_inside a f ≡ true
@@ -81,10 +81,10 @@ roles_more image done f m old new even low before agree are x y = record { instr
     s : FlowGraph
     s = flow_graph_of image f
 
-    pushes : List Pushed
+    pushes : List ProloguePush
     pushes = pushes_of (prologue (flow_graph_of image f) m) f.start (lines (flow_graph_of image f) m.target (places (flow_graph_of image f)) 0)
 
-    inside : All (λ (p : Pushed). IsFrom (flow_graph_of image f) 0 p.at) (pushes_of (prologue (flow_graph_of image f) m) f.start (lines (flow_graph_of image f) m.target (places (flow_graph_of image f)) 0))
+    inside : All (λ (p : ProloguePush). IsFrom (flow_graph_of image f) 0 p.at) (pushes_of (prologue (flow_graph_of image f) m) f.start (lines (flow_graph_of image f) m.target (places (flow_graph_of image f)) 0))
     inside = pushes_inside (flow_graph_of image f) m (prologue (flow_graph_of image f) m) even low
 
     there : (a : ℕ) → (look new a).is_instr ≡ true → IsInstr image (done ++ f ∷ []) a

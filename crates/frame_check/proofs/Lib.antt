@@ -1,8 +1,3 @@
-pub mod flow
-pub mod frame_facts
-pub mod frame_graph
-pub mod frame_reach
-pub mod frame_flow
 pub mod Tables
 pub mod Counting
 pub mod Marked
@@ -17,3 +12,6 @@ pub mod Saving
 pub mod Entries
 pub mod Lowerings
 mod Bytes
+pub mod frame_flow
+pub mod frame_graph
+pub mod frame_reach

@@ -11,16 +11,16 @@ use Rattle.frame_facts.specs.declared.facts.TheConstants.{DEEPEST}
 use Rattle.frame_facts.specs.declared.saves.Prologue.{Prologue}
 use Rattle.frame_facts.specs.declared.straight.Straight.{Straight}
 use Rattle.frame_facts.specs.After.{effect}
-use Rattle.frame_facts.specs.Prologues.{taken, ended, pushed_by, may_stand, begun}
-use Rattle.frame_graph.specs.declared.places.Standing.{Standing}
-use Rattle.frame_graph.specs.declared.places.Standing.TheVariants.{Instruction, Udf, Nothing}
+use Rattle.frame_facts.specs.Prologues.{with_instruction, run_with_end, prologue_after, may_stand, empty_run}
+use Rattle.frame_graph.specs.frame_code.declared.standing.Standing.{Standing}
+use Rattle.frame_graph.specs.frame_code.declared.standing.Standing.TheVariants.{Instruction, Udf, Nothing}
 use Rattle.frame_graph.specs.FlowGraph.{FlowGraph}
 use Rattle.frame_graph.specs.Places.{is_code_of, address_of, standing_at}
 use Rattle.frame_reach.specs.Marks.{Marks}
 use Rattle.frame_reach.specs.Prologue.{places, is_led_to, line_by, line_at, lines}
 use Rattle.frame_reach.proofs.Stands.{stands, stands_size}
-use Rattle.frame_check.specs.declared.pushes.Pushed.{Pushed}
-use Rattle.frame_check.specs.Pushes.{Pushing, pushing, pushings, marked, pushes_of}
+use Rattle.frame_check.specs.declared.pushes.ProloguePush.{ProloguePush}
+use Rattle.frame_check.specs.Pushes.{Pushing, pushing, pushings, mark_push, pushes_of}
 
 -- ---- what stands at a place that is a line
 
@@ -51,15 +51,15 @@ line_is s target place line e = go (standing_at s place) refl e
 pub unsome : {X : Type 0} (x y : X) → Some x ≡ Some y → x ≡ y
 unsome x y e = cc
 
-taken_end : (s t : Straight) (i : Instr) (size : ℕ) → taken s i size ≡ Some t → t.prologue.end ≡ (s.prologue.end + size) % 2 ^ 32
-taken_end s t i size e = go (pushed_by s i) (nat_le s.fact.depth DEEPEST && may_stand i) e
+taken_end : (s t : Straight) (i : Instr) (size : ℕ) → with_instruction s i size ≡ Some t → t.prologue.end ≡ (s.prologue.end + size) % 2 ^ 32
+taken_end s t i size e = go (prologue_after s i) (nat_le s.fact.depth DEEPEST && may_stand i) e
   where
     by : (p : Prologue) (o : Option Fact) → option_map (λ (f : Fact). record { fact = f; prologue = record p { end = (s.prologue.end + size) % 2 ^ 32 } }) o ≡ Some t
         → t.prologue.end ≡ (s.prologue.end + size) % 2 ^ 32
     by p None e = absurd (cc)
     by p (Some f) e = sym (ap (λ (x : Straight). x.prologue.end) (unsome _ _ e))
 
-    go : (o : Option Prologue) (b : Bool) → (if b then option_and_then (ended s i size) o else None) ≡ Some t → t.prologue.end ≡ (s.prologue.end + size) % 2 ^ 32
+    go : (o : Option Prologue) (b : Bool) → (if b then option_and_then (run_with_end s i size) o else None) ≡ Some t → t.prologue.end ≡ (s.prologue.end + size) % 2 ^ 32
     go o false e = absurd (cc)
     go None true e = absurd (cc)
     go (Some p) true e = by p (effect (record p { end = (s.prologue.end + size) % 2 ^ 32 }) false s.prologue.end i s.fact) e
@@ -74,7 +74,7 @@ pushing_at : (s : FlowGraph) (place : ℕ) (run : Straight) (i : Instr) → IsFr
 pushing_at s place run (Push list) x = All-cons (λ (y : Pushing). IsFrom s place y.at) _ [] x (All-nil (λ (y : Pushing). IsFrom s place y.at))
 pushing_at s place run i x = All-nil (λ (y : Pushing). IsFrom s place y.at)
 
-pub next_address : (s : FlowGraph) (place size : ℕ) (run t : Straight) (i : Instr) → s.end + 4 ≤ 2 ^ 32 → run.prologue.end ≡ address_of s place → IsLine s place size → taken run i size ≡ Some t
+pub next_address : (s : FlowGraph) (place size : ℕ) (run t : Straight) (i : Instr) → s.end + 4 ≤ 2 ^ 32 → run.prologue.end ≡ address_of s place → IsLine s place size → with_instruction run i size ≡ Some t
     → t.prologue.end ≡ address_of s (place + size / 2)
 next_address s place size run t i low e l f = taken_end run t i size f ∙ next l.size
   where
@@ -88,7 +88,7 @@ unfolding pushings
 pushings_from s target zero place run even low e = All-nil (λ (x : Pushing). IsFrom s place x.at)
 pushings_from s target (suc fuel) place run even low e = go (line_at s target place) refl (λ q r h. pushings_from s target fuel q r even low h)
   where
-    rest : (line : Instr × ℕ) → IsLine s place line.1 → (o : Option Straight) → taken run line.0 line.1 ≡ o
+    rest : (line : Instr × ℕ) → IsLine s place line.1 → (o : Option Straight) → with_instruction run line.0 line.1 ≡ o
         → ((q : ℕ) (r : Straight) → r.prologue.end ≡ address_of s q → All (λ (x : Pushing). IsFrom s q x.at) (pushings r (lines s target fuel q)))
         → All (λ (x : Pushing). IsFrom s place x.at) (option_map_or (λ t. pushing run line.0 ++ pushings t (lines s target fuel (place + line.1 / 2))) o [])
     rest line l None f rec = All-nil (λ (x : Pushing). IsFrom s place x.at)
@@ -103,11 +103,11 @@ pushings_from s target (suc fuel) place run even low e = go (line_at s target pl
         → ((q : ℕ) (r : Straight) → r.prologue.end ≡ address_of s q → All (λ (x : Pushing). IsFrom s q x.at) (pushings r (lines s target fuel q)))
         → All (λ (x : Pushing). IsFrom s place x.at) (pushings run (option_map_or (λ line. line ∷ lines s target fuel (place + line.1 / 2)) o []))
     go None f rec = All-nil (λ (x : Pushing). IsFrom s place x.at)
-    go (Some line) f rec = rest line (line_is s target place line f) (taken run line.0 line.1) refl rec
+    go (Some line) f rec = rest line (line_is s target place line f) (with_instruction run line.0 line.1) refl rec
 
 pub pushes_inside : (s : FlowGraph) (m : Marks) (p : Prologue) → s.start % 2 ≡ 0 → s.end + 4 ≤ 2 ^ 32
-    → All (λ (x : Pushed). IsFrom s 0 x.at) (pushes_of p s.start (lines s m.target (places s) 0))
+    → All (λ (x : ProloguePush). IsFrom s 0 x.at) (pushes_of p s.start (lines s m.target (places s) 0))
 unfolding pushes_of
 pushes_inside s m p even low =
-    All-map (λ (x : Pushed). IsFrom s 0 x.at) (marked p) (pushings (begun s.start) (lines s m.target (places s) 0))
-    (pushings_from s m.target (places s) 0 (begun s.start) even low (omega arith))
+    All-map (λ (x : ProloguePush). IsFrom s 0 x.at) (mark_push p) (pushings (empty_run s.start) (lines s m.target (places s) 0))
+    (pushings_from s m.target (places s) 0 (empty_run s.start) even low (omega arith))

@@ -11,13 +11,13 @@ use Rattle.frame_graph.proofs.NoLowering.{lowering_is_reached}
 use Rattle.frame_reach.specs.Marks.{Marks, AreMarks, AreThePlaces}
 use Rattle.frame_reach.specs.Prologue.{prologue, lines, places}
 use Rattle.frame_check.specs.declared.roles.Role.{Role}
-use Rattle.frame_check.specs.declared.pushes.Pushed.{Pushed}
+use Rattle.frame_check.specs.declared.pushes.ProloguePush.{ProloguePush}
 use Rattle.frame_check.specs.Roles.{Table, look}
 use Rattle.frame_check.specs.Pushes.{pushes_of}
-use Rattle.frame_check.specs.Marking.{with_instr, with_lowers, with_start, with_saves, Turned, AreInstrs, AreLowered, AreSaved, saves_over, IsMarked}
+use Rattle.frame_check.specs.Marking.{with_instr, with_lowers, with_start, with_saves, ChangesRole, AreInstrs, AreLowered, AreSaved, saves_over, IsMarked}
 
 -- what a look-up finds after a change of one role
-pub turned : (X : Type 0) (part : Role → X) (change : Role → Role) (a b : ℕ) (old new : Table) → Turned change a old new
+pub turned : (X : Type 0) (part : Role → X) (change : Role → Role) (a b : ℕ) (old new : Table) → ChangesRole change a old new
     → part (look new b) ≡ (if b == a then part (change (look old b)) else part (look old b))
 turned X part change a b old new t = go (b == a) refl
   where
@@ -28,7 +28,7 @@ turned X part change a b old new t = go (b == a) refl
     go false q = ap part (t.there b (eqb-false b a q))
 
 -- a part that the change leaves is as it was
-pub left : (X : Type 0) (part : Role → X) (change : Role → Role) (a b : ℕ) (old new : Table) → ((x : Role) → part (change x) ≡ part x) → Turned change a old new
+pub left : (X : Type 0) (part : Role → X) (change : Role → Role) (a b : ℕ) (old new : Table) → ((x : Role) → part (change x) ≡ part x) → ChangesRole change a old new
     → part (look new b) ≡ part (look old b)
 left X part change a b old new k t = turned X part change a b old new t ∙ go (b == a)
   where
@@ -50,7 +50,7 @@ instrs_none s x = record {
     back a (inl e) = e
     back a (inr (p, c, e)) = absurd (omega (arith, c.1))
 
-pub instrs_more : (s : FlowGraph) (ps : List ℕ) (p : ℕ) (old mid new : Table) → AreInstrs s ps old mid → Turned with_instr (address_of s p) mid new → AreInstrs s (ps ++ p ∷ []) old new
+pub instrs_more : (s : FlowGraph) (ps : List ℕ) (p : ℕ) (old mid new : Table) → AreInstrs s ps old mid → ChangesRole with_instr (address_of s p) mid new → AreInstrs s (ps ++ p ∷ []) old new
 instrs_more s ps p old mid new x t = record {
   instr = λ a. (there a, back a);
   lowers = λ a. left Bool (λ y. y.lowers) with_instr (address_of s p) a mid new (λ y. refl) t ∙ x.lowers a;
@@ -121,7 +121,7 @@ lowered_not s reached p x h = record {
         part (inl d) = absurd (omega (arith, d.1))
         part (inr same) = absurd (true≢false (sym l ∙ ap (is_lowering s reached) (sym same) ∙ h))
 
-pub lowered_one : (s : FlowGraph) (reached : ℕ → Bool) (p : ℕ) (old new : Table) → is_lowering s reached p ≡ true → Turned with_lowers (address_of s p) old new
+pub lowered_one : (s : FlowGraph) (reached : ℕ → Bool) (p : ℕ) (old new : Table) → is_lowering s reached p ≡ true → ChangesRole with_lowers (address_of s p) old new
     → AreLowered s reached (p ∷ []) old new
 lowered_one s reached p old new h t = record {
   instr = λ a. left Bool (λ y. y.is_instr) with_lowers (address_of s p) a old new (λ y. refl) t;
@@ -193,7 +193,7 @@ lowered_more s reached ps p old mid new x y = record {
 pub saved_none : (x : Table) → AreSaved [] x x
 saved_none x = record { instr = λ a. refl; lowers = λ a. refl; starts = λ a. refl; saves = λ a. refl }
 
-over_more : (before : ℕ) (xs : List Pushed) (x : Pushed) (a : ℕ) → saves_over before (xs ++ x ∷ []) a ≡ (if x.at == a then x.saves else saves_over before xs a)
+over_more : (before : ℕ) (xs : List ProloguePush) (x : ProloguePush) (a : ℕ) → saves_over before (xs ++ x ∷ []) a ≡ (if x.at == a then x.saves else saves_over before xs a)
 over_more before [] x a = refl
 over_more before (y ∷ ys) x a = over_more (if y.at == a then y.saves else before) ys x a
 
@@ -206,7 +206,7 @@ turn_eq a b = go (a == b) refl (b == a) refl
     go true p false q = absurd (eqb-false b a q (sym (eqb-true a b p)))
     go false p true q = absurd (eqb-false a b p (sym (eqb-true b a q)))
 
-pub saved_more : (xs : List Pushed) (x : Pushed) (old mid new : Table) → AreSaved xs old mid → Turned (with_saves x.saves) x.at mid new → AreSaved (xs ++ x ∷ []) old new
+pub saved_more : (xs : List ProloguePush) (x : ProloguePush) (old mid new : Table) → AreSaved xs old mid → ChangesRole (with_saves x.saves) x.at mid new → AreSaved (xs ++ x ∷ []) old new
 saved_more xs x old mid new y t = record {
   instr = λ a. left Bool (λ z. z.is_instr) (with_saves x.saves) x.at a mid new (λ z. refl) t ∙ y.instr a;
   lowers = λ a. left Bool (λ z. z.lowers) (with_saves x.saves) x.at a mid new (λ z. refl) t ∙ y.lowers a;
@@ -223,8 +223,8 @@ saved_more xs x old mid new y t = record {
 
 -- ---- a function
 
-pub marked_all : (s : FlowGraph) (m : Marks) (ps : List ℕ) (pushes : List Pushed) (old first low second new : Table) → AreMarks s m → AreThePlaces m ps
-    → AreInstrs s ps old first → AreLowered s m.reached ps first low → Turned with_start s.start low second → pushes ≡ pushes_of (prologue s m) s.start (lines s m.target (places s) 0) → AreSaved pushes second new
+pub marked_all : (s : FlowGraph) (m : Marks) (ps : List ℕ) (pushes : List ProloguePush) (old first low second new : Table) → AreMarks s m → AreThePlaces m ps
+    → AreInstrs s ps old first → AreLowered s m.reached ps first low → ChangesRole with_start s.start low second → pushes ≡ pushes_of (prologue s m) s.start (lines s m.target (places s) 0) → AreSaved pushes second new
     → IsMarked s m old new
 marked_all s m ps pushes old first low second new am the x w t e y = record { instr = λ a. (there a, back a); lowers = λ a. (low_there a, low_back a); starts = starts; saves = saves }
   where
@@ -274,4 +274,4 @@ marked_all s m ps pushes old first low second new am the x w t e y = record { in
     saves a =
         y.saves a
         ∙ ap (λ (n : ℕ). saves_over n pushes a) (left ℕ (λ z. z.saves) with_start s.start a low second (λ z. refl) t ∙ w.saves a ∙ x.saves a)
-        ∙ ap (λ (l : List Pushed). saves_over ((look old a).saves) l a) e
+        ∙ ap (λ (l : List ProloguePush). saves_over ((look old a).saves) l a) e

@@ -15,11 +15,12 @@ use Rattle.eh_desc.specs.declared.descriptor.Desc.{Desc}
 use Rattle.eh_desc.specs.declared.descriptor.DescKind.{DescKind}
 use Rattle.eh_desc.specs.declared.descriptor.DescKind.TheVariants.{Cleanup, Catch, Spec}
 use Rattle.eh_desc.specs.Grammar.{type_in}
-use Rattle.unwind_codes.specs.declared.row.Entry.{Entry}
-use Rattle.unwind_codes.specs.declared.row.EntryBody.{EntryBody}
-use Rattle.unwind_codes.specs.declared.row.EntryBody.TheVariants.{CantUnwind, Inline, Table}
-use Rattle.frame_graph.specs.Sites.{Item, items_by, items_at}
-use Rattle.frame_check.specs.Roots.{flow_graph_of, type_at, listed, catch_types, kind_types, item_types, entry_of, entry_types, same_body, same_entry, types_from, roots_of}
+use Rattle.eh_codes.specs.declared.row.Entry.{Entry}
+use Rattle.eh_codes.specs.declared.row.EntryBody.{EntryBody}
+use Rattle.eh_codes.specs.declared.row.EntryBody.TheVariants.{CantUnwind, Inline, Table}
+use Rattle.frame_entries.specs.Scopes.{Item}
+use Rattle.frame_graph.specs.Sites.{items_by, items_at}
+use Rattle.frame_check.specs.Roots.{flow_graph_of, type_at, spec_root, catch_types, kind_types, item_types, entry_of, entry_types, same_body, same_entry, types_from, roots_of}
 use Rattle.frame_check.specs.Laws.{Names, RootsAreNamed}
 
 -- ---- joined lists
@@ -64,7 +65,7 @@ catch_type All t c = absurd (omega (arith, c.1))
 catch_type AllFails t c = absurd (omega (arith, c.1))
 catch_type (One a) t c = let r = at_type a t c in (ap One r.0, r.1)
 
-listed_type : (o : Option ℕ) (t : ℕ) → Contains (listed o) t → (o ≡ Some t) × (t ≢ 0)
+listed_type : (o : Option ℕ) (t : ℕ) → Contains (spec_root o) t → (o ≡ Some t) × (t ≢ 0)
 listed_type None t c = absurd (omega (arith, c.1))
 listed_type (Some a) t c = let r = at_type a t c in (ap Some r.0, r.1)
 
@@ -73,7 +74,7 @@ named : (segments : List Segment) (kind : DescKind) (t : ℕ) → Contains (kind
 named segments (Cleanup pad) t c = absurd (omega (arith, c.1))
 named segments (Catch pad reference ty) t c = let r = catch_type ty t c in (inl (pad, reference, ap (Catch pad reference) r.0), r.1)
 named segments (Spec types count pad) t c =
-    let r = from_joined (λ i. listed (type_in segments (Spec types count pad) i)) (range_with_len 0 count) t c in
+    let r = from_joined (λ i. spec_root (type_in segments (Spec types count pad) i)) (range_with_len 0 count) t c in
     let s = listed_type (type_in segments (Spec types count pad) r.0) t r.2 in
     (inr (r.0, s.0), s.1)
 
@@ -86,8 +87,8 @@ naming segments kind t ne (inl (pad, reference, e)) = subst (λ k. Contains (kin
 naming segments (Cleanup pad) t ne (inr (i, e)) = absurd (cc)
 naming segments (Catch pad reference ty) t ne (inr (i, e)) = absurd (cc)
 naming segments (Spec types count pad) t ne (inr (i, e)) =
-    to_joined (λ k. listed (type_in segments (Spec types count pad) k)) (range_with_len 0 count) i t (in_range i count (below (nat_le count i) refl e))
-    (subst (λ o. Contains (listed o) t) (sym e) (is_type t ne))
+    to_joined (λ k. spec_root (type_in segments (Spec types count pad) k)) (range_with_len 0 count) i t (in_range i count (below (nat_le count i) refl e))
+    (subst (λ o. Contains (spec_root o) t) (sym e) (is_type t ne))
   where
     below : (b : Bool) → nat_le count i ≡ b → type_in segments (Spec types count pad) i ≡ Some t → i < count
     below true q f = absurd (let g : type_in segments (Spec types count pad) i ≡ None = rw q refl in cc)

@@ -7,7 +7,7 @@ use Rattle.std.proofs.lemmas.Bool.{eqb-false, ltb-true, ltb-false}
 use Rattle.std.proofs.lemmas.Nat.Bits.{bit_at_cat_low, bit_at_cat_high, bit_at_above}
 use Rattle.std.proofs.lemmas.List.{take_more_set, length-set, take_all, map-append}
 use Rattle.std.proofs.lemmas.List.Elements.{All-nil, All-cons, All-append, All-map, All-weaker, Contains-push_cases}
-use Rattle.thumb_core.specs.Words.{listed}
+use Rattle.run_images.specs.thumb_core.Words.{registers_of_list}
 use Rattle.thumb_isa.specs.declared.instr.Instr.{Instr}
 use Rattle.thumb_isa.specs.declared.instr.Instr.TheVariants.{Push}
 use Rattle.frame_facts.specs.declared.facts.Fact.{Fact}
@@ -21,17 +21,17 @@ use Rattle.frame_facts.specs.declared.facts.Source.TheVariants.{Entry, SpAt, Oth
 use Rattle.frame_facts.specs.declared.facts.TheConstants.{DEEPEST}
 use Rattle.frame_facts.specs.After.{effect}
 use Rattle.frame_facts.specs.Facts.{source}
-use Rattle.frame_facts.specs.Prologues.{is_callers, may_stand, saved, with_save, with_pushed, pushed_by, taken, ended, run_on, begun}
-use Rattle.frame_graph.specs.declared.places.Standing.{Standing}
-use Rattle.frame_graph.specs.declared.places.Standing.TheVariants.{Instruction, Udf, Nothing}
+use Rattle.frame_facts.specs.Prologues.{is_callers, may_stand, save_of_word, with_save, with_push_saves, prologue_after, with_instruction, run_with_end, run_on, empty_run}
+use Rattle.frame_graph.specs.frame_code.declared.standing.Standing.{Standing}
+use Rattle.frame_graph.specs.frame_code.declared.standing.Standing.TheVariants.{Instruction, Udf, Nothing}
 use Rattle.frame_graph.specs.FlowGraph.{FlowGraph}
 use Rattle.frame_graph.specs.Places.{address_of, standing_at}
 use Rattle.frame_reach.specs.Marks.{Marks}
 use Rattle.frame_reach.specs.Prologue.{prologue, places, is_led_to, line_by, line_at, lines}
 use Rattle.frame_reach.specs.Laws.{IsRun, begins, takes}
 use Rattle.frame_reach.proofs.Stands.{stands_below}
-use Rattle.frame_check.specs.declared.pushes.Pushed.{Pushed}
-use Rattle.frame_check.specs.Pushes.{Pushing, pushing, pushings, is_saved, word_bit, word_bits, marked, pushes_of}
+use Rattle.frame_check.specs.declared.pushes.ProloguePush.{ProloguePush}
+use Rattle.frame_check.specs.Pushes.{Pushing, pushing, pushings, is_saved, word_bit, word_bits, mark_push, pushes_of}
 use Rattle.frame_check.specs.Marking.{saves_over}
 use Rattle.frame_check.specs.Accepts.{saves_at}
 use Rattle.frame_check.specs.Laws.{IsPush, IsWord, SavesAreWords}
@@ -88,7 +88,7 @@ bit_is p lowest (suc n) k l = sum ∙ go (nat_lt k n) refl (λ h. bit_is p lowes
 
 -- ---- where a run stands among the PUSHes
 
-found_over : (before : ℕ) (xs : List Pushed) (x : Pushed) (ys : List Pushed) → All (λ (y : Pushed). y.at ≢ x.at) ys → saves_over before (xs ++ x ∷ ys) x.at ≡ x.saves
+found_over : (before : ℕ) (xs : List ProloguePush) (x : ProloguePush) (ys : List ProloguePush) → All (λ (y : ProloguePush). y.at ≢ x.at) ys → saves_over before (xs ++ x ∷ ys) x.at ≡ x.saves
 found_over before [] x ys h = go (x.at == x.at) refl
   where
     go : (t : Bool) → (x.at == x.at) ≡ t → saves_over (if t then x.saves else before) ys x.at ≡ x.saves
@@ -100,14 +100,14 @@ found_over before (z ∷ xs) x ys h = found_over (if z.at == x.at then z.saves e
 record IsCut (s : FlowGraph) (m : Marks) (p : ℕ) (run : Straight) : Type 0 where
   pub before : List Pushing
   pub fuel : ℕ
-  pub parts : pushings (begun s.start) (lines s m.target (places s) 0) ≡ before ++ pushings run (lines s m.target fuel p)
+  pub parts : pushings (empty_run s.start) (lines s m.target (places s) 0) ≡ before ++ pushings run (lines s m.target fuel p)
   pub enough : places s ≤ fuel + p
   pub here : run.prologue.end ≡ address_of s p
 
 line_there : (s : FlowGraph) (m : Marks) (p : ℕ) (i : Instr) (size : ℕ) → standing_at s p ≡ Instruction i size → is_led_to m.target p size ≡ false → line_at s m.target p ≡ Some (i, size)
 line_there s m p i size e f = ap (line_by m.target p) e ∙ ap (λ (b : Bool). if b then None else Some (i, size)) f
 
-one_more : (s : FlowGraph) (m : Marks) (p fuel : ℕ) (run next : Straight) (i : Instr) (size : ℕ) → standing_at s p ≡ Instruction i size → is_led_to m.target p size ≡ false → taken run i size ≡ Some next
+one_more : (s : FlowGraph) (m : Marks) (p fuel : ℕ) (run next : Straight) (i : Instr) (size : ℕ) → standing_at s p ≡ Instruction i size → is_led_to m.target p size ≡ false → with_instruction run i size ≡ Some next
     → pushings run (lines s m.target (suc fuel) p) ≡ pushing run i ++ pushings next (lines s m.target fuel (p + size / 2))
 unfolding pushings
 one_more s m p fuel run next i size e f t =
@@ -140,7 +140,7 @@ is_cut s m _ _ even low (takes {p} {run} {next} {i} {size} r e f t) = go (is_cut
 
 -- what is told at a PUSH
 told : (s : FlowGraph) (m : Marks) (p : ℕ) (run : Straight) (list : ℕ) → s.start % 2 ≡ 0 → s.end + 4 ≤ 2 ^ 32 → IsPush s m p run list
-    → saves_at s m (address_of s p) ≡ word_bits (prologue s m) (run.fact.depth + 4 * length (listed list)) (length (listed list))
+    → saves_at s m (address_of s p) ≡ word_bits (prologue s m) (run.fact.depth + 4 * length (registers_of_list list)) (length (registers_of_list list))
 unfolding saves_at pushes_of
 told s m p run list even low x = go (is_cut s m p run even low x.comes) (is_cut s m p run even low x.comes).fuel refl
   where
@@ -149,20 +149,20 @@ told s m p run list even low x = go (is_cut s m p run even low x.comes) (is_cut 
     half (inr n) = omega (arith, n)
 
     go : (d : IsCut s m p run) (fuel : ℕ) → d.fuel ≡ fuel
-        → saves_over 0 (map (marked (prologue s m)) (pushings (begun s.start) (lines s m.target (places s) 0))) (address_of s p) ≡ word_bits (prologue s m) (run.fact.depth + 4 * length (listed list)) (length (listed list))
+        → saves_over 0 (map (mark_push (prologue s m)) (pushings (empty_run s.start) (lines s m.target (places s) 0))) (address_of s p) ≡ word_bits (prologue s m) (run.fact.depth + 4 * length (registers_of_list list)) (length (registers_of_list list))
     go d zero q = absurd (omega (arith, d.enough, stands_below s p (Push list) x.size x.stands, q))
     go d (suc fuel) q =
         let l = line_is s m.target p (Push list, x.size) (line_there s m p (Push list) x.size x.stands x.free) in
         let whole = d.parts ∙ ap (λ (n : ℕ). d.before ++ pushings run (lines s m.target n p)) q ∙ ap (λ z. d.before ++ z) (one_more s m p fuel run x.next (Push list) x.size x.stands x.free x.takes) in
         let from = pushings_from s m.target fuel (p + x.size / 2) x.next even low (next_address s p x.size run x.next (Push list) low d.here l x.takes) in
         let h = half l.size in
-        let apart = All-map (λ (y : Pushed). y.at ≢ run.prologue.end) (marked (prologue s m)) (pushings x.next (lines s m.target fuel (p + x.size / 2)))
+        let apart = All-map (λ (y : ProloguePush). y.at ≢ run.prologue.end) (mark_push (prologue s m)) (pushings x.next (lines s m.target fuel (p + x.size / 2)))
         (All-weaker (λ (y : Pushing). IsFrom s (p + x.size / 2) y.at) (λ (y : Pushing). y.at ≢ run.prologue.end) (λ y z e. omega (arith, z.above, h, e, d.here)) (pushings x.next (lines s m.target fuel (p + x.size / 2))) from) in
-        ap (λ (a : ℕ). saves_over 0 (map (marked (prologue s m)) (pushings (begun s.start) (lines s m.target (places s) 0))) a) (sym d.here)
-        ∙ ap (λ l. saves_over 0 (map (marked (prologue s m)) l) run.prologue.end) whole
-        ∙ ap (λ l. saves_over 0 l run.prologue.end) (map-append (marked (prologue s m)) d.before (pushing run (Push list) ++ pushings x.next (lines s m.target fuel (p + x.size / 2))))
-        ∙ found_over 0 (map (marked (prologue s m)) d.before) (marked (prologue s m) (record { at = run.prologue.end; lowest = run.fact.depth + 4 * length (listed list); words = length (listed list) }))
-        (map (marked (prologue s m)) (pushings x.next (lines s m.target fuel (p + x.size / 2)))) apart
+        ap (λ (a : ℕ). saves_over 0 (map (mark_push (prologue s m)) (pushings (empty_run s.start) (lines s m.target (places s) 0))) a) (sym d.here)
+        ∙ ap (λ l. saves_over 0 (map (mark_push (prologue s m)) l) run.prologue.end) whole
+        ∙ ap (λ l. saves_over 0 l run.prologue.end) (map-append (mark_push (prologue s m)) d.before (pushing run (Push list) ++ pushings x.next (lines s m.target fuel (p + x.size / 2))))
+        ∙ found_over 0 (map (mark_push (prologue s m)) d.before) (mark_push (prologue s m) (record { at = run.prologue.end; lowest = run.fact.depth + 4 * length (registers_of_list list); words = length (registers_of_list list) }))
+        (map (mark_push (prologue s m)) (pushings x.next (lines s m.target fuel (p + x.size / 2)))) apart
 
 -- ---- elsewhere
 
@@ -197,7 +197,7 @@ unfolding pushings
 stands_by s m zero p run low r e = All-nil (λ (x : Pushing). StandsBy s m x.at)
 stands_by s m (suc fuel) p run low r e = go (line_at s m.target p) refl (λ q t h k. stands_by s m fuel q t low h k)
   where
-    here : (i : Instr) (size : ℕ) (t : Straight) → line_at s m.target p ≡ Some (i, size) → taken run i size ≡ Some t → All (λ (x : Pushing). StandsBy s m x.at) (pushing run i)
+    here : (i : Instr) (size : ℕ) (t : Straight) → line_at s m.target p ≡ Some (i, size) → with_instruction run i size ≡ Some t → All (λ (x : Pushing). StandsBy s m x.at) (pushing run i)
     here (Push list) size t f g =
         let b = line_back s m.target p (Push list) size f in
         All-cons (λ (x : Pushing). StandsBy s m x.at) _ []
@@ -205,7 +205,7 @@ stands_by s m (suc fuel) p run low r e = go (line_at s m.target p) refl (λ q t 
         (All-nil (λ (x : Pushing). StandsBy s m x.at))
     here i size t f g = All-nil (λ (x : Pushing). StandsBy s m x.at)
 
-    rest : (i : Instr) (size : ℕ) → line_at s m.target p ≡ Some (i, size) → (o : Option Straight) → taken run i size ≡ o
+    rest : (i : Instr) (size : ℕ) → line_at s m.target p ≡ Some (i, size) → (o : Option Straight) → with_instruction run i size ≡ o
         → ((q : ℕ) (t : Straight) → IsRun s m q t → t.prologue.end ≡ address_of s q → All (λ (x : Pushing). StandsBy s m x.at) (pushings t (lines s m.target fuel q)))
         → All (λ (x : Pushing). StandsBy s m x.at) (option_map_or (λ t. pushing run i ++ pushings t (lines s m.target fuel (p + size / 2))) o [])
     rest i size f None g rec = All-nil (λ (x : Pushing). StandsBy s m x.at)
@@ -218,15 +218,15 @@ stands_by s m (suc fuel) p run low r e = go (line_at s m.target p) refl (λ q t 
         → ((q : ℕ) (t : Straight) → IsRun s m q t → t.prologue.end ≡ address_of s q → All (λ (x : Pushing). StandsBy s m x.at) (pushings t (lines s m.target fuel q)))
         → All (λ (x : Pushing). StandsBy s m x.at) (pushings run (option_map_or (λ line. line ∷ lines s m.target fuel (p + line.1 / 2)) o []))
     go None f rec = All-nil (λ (x : Pushing). StandsBy s m x.at)
-    go (Some (i, size)) f rec = rest i size f (taken run i size) refl rec
+    go (Some (i, size)) f rec = rest i size f (with_instruction run i size) refl rec
 
 elsewhere : (s : FlowGraph) (m : Marks) (a : ℕ) → s.end + 4 ≤ 2 ^ 32 → ((p : ℕ) (run : Straight) (list : ℕ) → IsPush s m p run list → a ≡ address_of s p → ⊥) → saves_at s m a ≡ 0
 unfolding saves_at pushes_of
 elsewhere s m a low away =
-    over_other 0 (map (marked (prologue s m)) (pushings (begun s.start) (lines s m.target (places s) 0))) a
-    (All-map (λ (y : Pushed). y.at ≢ a) (marked (prologue s m)) (pushings (begun s.start) (lines s m.target (places s) 0))
-    (All-weaker (λ (y : Pushing). StandsBy s m y.at) (λ (y : Pushing). y.at ≢ a) (λ y z e. away z.place z.run z.list z.push (sym e ∙ z.address)) (pushings (begun s.start) (lines s m.target (places s) 0))
-    (stands_by s m (places s) 0 (begun s.start) low begins (omega arith))))
+    over_other 0 (map (mark_push (prologue s m)) (pushings (empty_run s.start) (lines s m.target (places s) 0))) a
+    (All-map (λ (y : ProloguePush). y.at ≢ a) (mark_push (prologue s m)) (pushings (empty_run s.start) (lines s m.target (places s) 0))
+    (All-weaker (λ (y : Pushing). StandsBy s m y.at) (λ (y : Pushing). y.at ≢ a) (λ y z e. away z.place z.run z.list z.push (sym e ∙ z.address)) (pushings (empty_run s.start) (lines s m.target (places s) 0))
+    (stands_by s m (places s) 0 (empty_run s.start) low begins (omega arith))))
 
 -- ---- every save
 
@@ -245,7 +245,7 @@ grown xs c new x h = go (nat_lt c (length xs)) refl
         set_past (z ∷ ys) zero y l = absurd (omega arith)
         set_past (z ∷ ys) (suc k) y l = ap (λ (w : List Save). z ∷ w) (set_past ys k y (omega arith))
 
-saved_offset : (offset : ℕ) (held : Source) (x : Save) → saved offset held ≡ Some x → x.offset ≡ offset
+saved_offset : (offset : ℕ) (held : Source) (x : Save) → save_of_word offset held ≡ Some x → x.offset ≡ offset
 saved_offset offset (Entry k) x e = go (is_callers k) e
   where
     go : (t : Bool) → (if t then Some (record { reg = k; offset = offset }) else None) ≡ Some x → x.offset ≡ offset
@@ -254,10 +254,10 @@ saved_offset offset (Entry k) x e = go (is_callers k) e
 saved_offset offset (SpAt k) x e = absurd (cc)
 saved_offset offset Other x e = absurd (cc)
 
-pushed_saves : (p q : Prologue) (f : Fact) (regs : List ℕ) (x : Save) → with_pushed p f regs ≡ Some q → Contains (saves_of q) x
+pushed_saves : (p q : Prologue) (f : Fact) (regs : List ℕ) (x : Save) → with_push_saves p f regs ≡ Some q → Contains (saves_of q) x
     → Contains (saves_of p) x ⊎ ((k : ℕ) × (k < length regs) × (x.offset + 4 * k ≡ f.depth + 4 * length regs))
 pushed_saves p q f [] x e h = inl (subst (λ (r : Prologue). Contains (saves_of r) x) (sym (unsome _ _ e)) h)
-pushed_saves p q f (reg ∷ more) x e h = go (with_pushed p f more) refl e
+pushed_saves p q f (reg ∷ more) x e h = go (with_push_saves p f more) refl e
     (λ mid m c. pushed_saves p mid f more x m c)
   where
     later : Contains (saves_of p) x ⊎ ((k : ℕ) × (k < length more) × (x.offset + 4 * k ≡ f.depth + 4 * length more))
@@ -265,28 +265,28 @@ pushed_saves p q f (reg ∷ more) x e h = go (with_pushed p f more) refl e
     later (inl d) = inl d
     later (inr (k, l, d)) = inr (k + 1, omega (arith, l), omega (arith, d))
 
-    last : (mid : Prologue) (new : Save) → (Contains (saves_of mid) x → Contains (saves_of p) x ⊎ ((k : ℕ) × (k < length (reg ∷ more)) × (x.offset + 4 * k ≡ f.depth + 4 * length (reg ∷ more)))) → saved (f.depth + 4 * length (reg ∷ more)) (source f reg) ≡ Some new
+    last : (mid : Prologue) (new : Save) → (Contains (saves_of mid) x → Contains (saves_of p) x ⊎ ((k : ℕ) × (k < length (reg ∷ more)) × (x.offset + 4 * k ≡ f.depth + 4 * length (reg ∷ more)))) → save_of_word (f.depth + 4 * length (reg ∷ more)) (source f reg) ≡ Some new
         → Contains (saves_of mid) x ⊎ (new ≡ x) → Contains (saves_of p) x ⊎ ((k : ℕ) × (k < length (reg ∷ more)) × (x.offset + 4 * k ≡ f.depth + 4 * length (reg ∷ more)))
     last mid new rec s (inl c) = rec c
     last mid new rec s (inr same) =
         let at = ap (λ (y : Save). y.offset) (sym same) ∙ saved_offset (f.depth + 4 * length (reg ∷ more)) (source f reg) new s in
         inr (0, omega arith, omega (arith, at))
 
-    room : (mid : Prologue) (new : Save) → (Contains (saves_of mid) x → Contains (saves_of p) x ⊎ ((k : ℕ) × (k < length (reg ∷ more)) × (x.offset + 4 * k ≡ f.depth + 4 * length (reg ∷ more)))) → saved (f.depth + 4 * length (reg ∷ more)) (source f reg) ≡ Some new
+    room : (mid : Prologue) (new : Save) → (Contains (saves_of mid) x → Contains (saves_of p) x ⊎ ((k : ℕ) × (k < length (reg ∷ more)) × (x.offset + 4 * k ≡ f.depth + 4 * length (reg ∷ more)))) → save_of_word (f.depth + 4 * length (reg ∷ more)) (source f reg) ≡ Some new
         → (t : Bool) → cond t (Some (record mid { count = mid.count + 1; saves = set mid.saves mid.count new })) (nothing Prologue) ≡ Some q → Contains (saves_of p) x ⊎ ((k : ℕ) × (k < length (reg ∷ more)) × (x.offset + 4 * k ≡ f.depth + 4 * length (reg ∷ more)))
     room mid new rec s false g = absurd (cc)
     room mid new rec s true g = last mid new rec s (grown mid.saves mid.count new x (subst (λ (r : Prologue). Contains (saves_of r) x) (sym (unsome _ _ g)) h))
 
-    saves : (mid : Prologue) → (Contains (saves_of mid) x → Contains (saves_of p) x ⊎ ((k : ℕ) × (k < length (reg ∷ more)) × (x.offset + 4 * k ≡ f.depth + 4 * length (reg ∷ more)))) → (o : Option Save) → saved (f.depth + 4 * length (reg ∷ more)) (source f reg) ≡ o → with_save o mid ≡ Some q
+    saves : (mid : Prologue) → (Contains (saves_of mid) x → Contains (saves_of p) x ⊎ ((k : ℕ) × (k < length (reg ∷ more)) × (x.offset + 4 * k ≡ f.depth + 4 * length (reg ∷ more)))) → (o : Option Save) → save_of_word (f.depth + 4 * length (reg ∷ more)) (source f reg) ≡ o → with_save o mid ≡ Some q
         → Contains (saves_of p) x ⊎ ((k : ℕ) × (k < length (reg ∷ more)) × (x.offset + 4 * k ≡ f.depth + 4 * length (reg ∷ more)))
     saves mid rec None s g = rec (subst (λ (r : Prologue). Contains (saves_of r) x) (sym (unsome _ _ g)) h)
     saves mid rec (Some new) s g = room mid new rec s (nat_lt mid.count MOST_SAVES) g
 
-    go : (o : Option Prologue) → with_pushed p f more ≡ o → option_and_then (with_save (saved (f.depth + 4 * length (reg ∷ more)) (source f reg))) o ≡ Some q
-        → ((mid : Prologue) → with_pushed p f more ≡ Some mid → Contains (saves_of mid) x → Contains (saves_of p) x ⊎ ((k : ℕ) × (k < length more) × (x.offset + 4 * k ≡ f.depth + 4 * length more)))
+    go : (o : Option Prologue) → with_push_saves p f more ≡ o → option_and_then (with_save (save_of_word (f.depth + 4 * length (reg ∷ more)) (source f reg))) o ≡ Some q
+        → ((mid : Prologue) → with_push_saves p f more ≡ Some mid → Contains (saves_of mid) x → Contains (saves_of p) x ⊎ ((k : ℕ) × (k < length more) × (x.offset + 4 * k ≡ f.depth + 4 * length more)))
         → Contains (saves_of p) x ⊎ ((k : ℕ) × (k < length (reg ∷ more)) × (x.offset + 4 * k ≡ f.depth + 4 * length (reg ∷ more)))
     go None m e rec = absurd (cc)
-    go (Some mid) m e rec = saves mid (λ c. later (rec mid m c)) (saved (f.depth + 4 * length (reg ∷ more)) (source f reg)) refl e
+    go (Some mid) m e rec = saves mid (λ c. later (rec mid m c)) (save_of_word (f.depth + 4 * length (reg ∷ more)) (source f reg)) refl e
 
 -- what an instruction of the run saves
 record IsOne (s : FlowGraph) (m : Marks) (x : Save) : Type 0 where
@@ -297,32 +297,32 @@ record IsOne (s : FlowGraph) (m : Marks) (x : Save) : Type 0 where
   pub push : IsPush s m place run list
   pub is : IsWord run list word x.offset
 
-taken_saves : (run t : Straight) (i : Instr) (size : ℕ) → taken run i size ≡ Some t → (q : Prologue) × (pushed_by run i ≡ Some q) × (saves_of t.prologue ≡ saves_of q)
-taken_saves run t i size e = go (nat_le run.fact.depth DEEPEST && may_stand i) (pushed_by run i) refl e
+taken_saves : (run t : Straight) (i : Instr) (size : ℕ) → with_instruction run i size ≡ Some t → (q : Prologue) × (prologue_after run i ≡ Some q) × (saves_of t.prologue ≡ saves_of q)
+taken_saves run t i size e = go (nat_le run.fact.depth DEEPEST && may_stand i) (prologue_after run i) refl e
   where
     by : (q : Prologue) (o : Option Fact) → option_map (λ (f : Fact). record { fact = f; prologue = record q { end = (run.prologue.end + size) % 2 ^ 32 } }) o ≡ Some t
         → saves_of t.prologue ≡ saves_of q
     by q None e = absurd (cc)
     by q (Some f) e = sym (ap (λ (z : Straight). saves_of z.prologue) (unsome _ _ e))
 
-    go : (b : Bool) (o : Option Prologue) → pushed_by run i ≡ o → (if b then option_and_then (ended run i size) o else None) ≡ Some t → (q : Prologue) × (pushed_by run i ≡ Some q) × (saves_of t.prologue ≡ saves_of q)
+    go : (b : Bool) (o : Option Prologue) → prologue_after run i ≡ o → (if b then option_and_then (run_with_end run i size) o else None) ≡ Some t → (q : Prologue) × (prologue_after run i ≡ Some q) × (saves_of t.prologue ≡ saves_of q)
     go false o p e = absurd (cc)
     go true None p e = absurd (cc)
     go true (Some q) p e = (q, p, by q (effect (record q { end = (run.prologue.end + size) % 2 ^ 32 }) false run.prologue.end i run.fact) e)
 
-one_saves : (s : FlowGraph) (m : Marks) (p size : ℕ) (i : Instr) (run t : Straight) (x : Save) → IsRun s m p run → standing_at s p ≡ Instruction i size → is_led_to m.target p size ≡ false → taken run i size ≡ Some t
+one_saves : (s : FlowGraph) (m : Marks) (p size : ℕ) (i : Instr) (run t : Straight) (x : Save) → IsRun s m p run → standing_at s p ≡ Instruction i size → is_led_to m.target p size ≡ false → with_instruction run i size ≡ Some t
     → Contains (saves_of t.prologue) x → Contains (saves_of run.prologue) x ⊎ IsOne s m x
 one_saves s m p size (Push list) run t x r e f g h = go (taken_saves run t (Push list) size g)
   where
-    by : Contains (saves_of run.prologue) x ⊎ ((k : ℕ) × (k < length (listed list)) × (x.offset + 4 * k ≡ run.fact.depth + 4 * length (listed list))) → Contains (saves_of run.prologue) x ⊎ IsOne s m x
+    by : Contains (saves_of run.prologue) x ⊎ ((k : ℕ) × (k < length (registers_of_list list)) × (x.offset + 4 * k ≡ run.fact.depth + 4 * length (registers_of_list list))) → Contains (saves_of run.prologue) x ⊎ IsOne s m x
     by (inl c) = inl c
     by (inr (k, l, w)) = inr (record { place = p; run = run; list = list; word = k; push = record { size = size; next = t; comes = r; stands = e; free = f; takes = g }; is = (l, w) })
 
-    go : (q : Prologue) × (pushed_by run (Push list) ≡ Some q) × (saves_of t.prologue ≡ saves_of q) → Contains (saves_of run.prologue) x ⊎ IsOne s m x
-    go (q, b, c) = by (pushed_saves run.prologue q run.fact (listed list) x b (subst (λ (l : List Save). Contains l x) c h))
+    go : (q : Prologue) × (prologue_after run (Push list) ≡ Some q) × (saves_of t.prologue ≡ saves_of q) → Contains (saves_of run.prologue) x ⊎ IsOne s m x
+    go (q, b, c) = by (pushed_saves run.prologue q run.fact (registers_of_list list) x b (subst (λ (l : List Save). Contains l x) c h))
 one_saves s m p size i run t x r e f g h = go (taken_saves run t i size g)
   where
-    go : (q : Prologue) × (pushed_by run i ≡ Some q) × (saves_of t.prologue ≡ saves_of q) → Contains (saves_of run.prologue) x ⊎ IsOne s m x
+    go : (q : Prologue) × (prologue_after run i ≡ Some q) × (saves_of t.prologue ≡ saves_of q) → Contains (saves_of run.prologue) x ⊎ IsOne s m x
     go (q, b, c) = inl (subst (λ (l : List Save). Contains l x) (c ∙ ap saves_of (sym (unsome run.prologue q b))) h)
 
 each_from : (s : FlowGraph) (m : Marks) (fuel p : ℕ) (run : Straight) (x : Save) → IsRun s m p run → Contains (saves_of (run_on run (lines s m.target fuel p)).prologue) x
@@ -330,12 +330,12 @@ each_from : (s : FlowGraph) (m : Marks) (fuel p : ℕ) (run : Straight) (x : Sav
 each_from s m zero p run x r h = inl h
 each_from s m (suc fuel) p run x r h = go (line_at s m.target p) refl h (λ q t k c. each_from s m fuel q t x k c)
   where
-    by : (i : Instr) (size : ℕ) (t : Straight) → taken run i size ≡ Some t → standing_at s p ≡ Instruction i size → is_led_to m.target p size ≡ false → Contains (saves_of t.prologue) x ⊎ IsOne s m x
+    by : (i : Instr) (size : ℕ) (t : Straight) → with_instruction run i size ≡ Some t → standing_at s p ≡ Instruction i size → is_led_to m.target p size ≡ false → Contains (saves_of t.prologue) x ⊎ IsOne s m x
         → Contains (saves_of run.prologue) x ⊎ IsOne s m x
     by i size t g e n (inl c) = one_saves s m p size i run t x r e n g c
     by i size t g e n (inr c) = inr c
 
-    rest : (i : Instr) (size : ℕ) → line_at s m.target p ≡ Some (i, size) → (o : Option Straight) → taken run i size ≡ o
+    rest : (i : Instr) (size : ℕ) → line_at s m.target p ≡ Some (i, size) → (o : Option Straight) → with_instruction run i size ≡ o
         → Contains (saves_of (option_map_or (λ t. run_on t (lines s m.target fuel (p + size / 2))) o run).prologue) x
         → ((q : ℕ) (t : Straight) → IsRun s m q t → Contains (saves_of (run_on t (lines s m.target fuel q)).prologue) x → Contains (saves_of t.prologue) x ⊎ IsOne s m x)
         → Contains (saves_of run.prologue) x ⊎ IsOne s m x
@@ -348,7 +348,7 @@ each_from s m (suc fuel) p run x r h = go (line_at s m.target p) refl h (λ q t 
         → ((q : ℕ) (t : Straight) → IsRun s m q t → Contains (saves_of (run_on t (lines s m.target fuel q)).prologue) x → Contains (saves_of t.prologue) x ⊎ IsOne s m x)
         → Contains (saves_of run.prologue) x ⊎ IsOne s m x
     go None f h rec = inl h
-    go (Some (i, size)) f h rec = rest i size f (taken run i size) refl h rec
+    go (Some (i, size)) f h rec = rest i size f (with_instruction run i size) refl h rec
 
 -- ---- the law
 
@@ -363,21 +363,21 @@ saves_are_words = record { bits = bits; past = past; elsewhere = λ s m a even l
     bits : (s : FlowGraph) (m : Marks) (p : ℕ) (run : Straight) (list k offset : ℕ) → s.start % 2 ≡ 0 → s.end + 4 ≤ 2 ^ 32 → IsPush s m p run list → IsWord run list k offset
         → (bit_at (saves_at s m (address_of s p)) k ≡ 1) ↔ (is_saved (prologue s m) offset ≡ true)
     bits s m p run list k offset even low x w =
-        let at : run.fact.depth + 4 * length (listed list) - 4 * k ≡ offset = omega (arith, w.1) in
-        let bit = ap (λ (n : ℕ). bit_at n k) (told s m p run list even low x) ∙ bit_is (prologue s m) (run.fact.depth + 4 * length (listed list)) (length (listed list)) k w.0
+        let at : run.fact.depth + 4 * length (registers_of_list list) - 4 * k ≡ offset = omega (arith, w.1) in
+        let bit = ap (λ (n : ℕ). bit_at n k) (told s m p run list even low x) ∙ bit_is (prologue s m) (run.fact.depth + 4 * length (registers_of_list list)) (length (registers_of_list list)) k w.0
         ∙ ap (λ (n : ℕ). one_bit (is_saved (prologue s m) n)) at in
         let both = lone (is_saved (prologue s m) offset) in
         ((λ e. both.0 (sym bit ∙ e)), (λ e. bit ∙ both.1 e))
 
-    past : (s : FlowGraph) (m : Marks) (p : ℕ) (run : Straight) (list k : ℕ) → s.start % 2 ≡ 0 → s.end + 4 ≤ 2 ^ 32 → IsPush s m p run list → length (listed list) ≤ k
+    past : (s : FlowGraph) (m : Marks) (p : ℕ) (run : Straight) (list k : ℕ) → s.start % 2 ≡ 0 → s.end + 4 ≤ 2 ^ 32 → IsPush s m p run list → length (registers_of_list list) ≤ k
         → bit_at (saves_at s m (address_of s p)) k ≡ 0
     past s m p run list k even low x l =
         ap (λ (n : ℕ). bit_at n k) (told s m p run list even low x)
-        ∙ bit_at_above (word_bits (prologue s m) (run.fact.depth + 4 * length (listed list)) (length (listed list))) (length (listed list)) k (bits_below (prologue s m) (run.fact.depth + 4 * length (listed list)) (length (listed list))) l
+        ∙ bit_at_above (word_bits (prologue s m) (run.fact.depth + 4 * length (registers_of_list list)) (length (registers_of_list list))) (length (registers_of_list list)) k (bits_below (prologue s m) (run.fact.depth + 4 * length (registers_of_list list)) (length (registers_of_list list))) l
 
     each : (s : FlowGraph) (m : Marks) (x : Save) → Contains (saves_of (prologue s m)) x → (p : ℕ) × (run : Straight) × (list : ℕ) × (k : ℕ) × IsPush s m p run list × IsWord run list k x.offset
-    each s m x h = go (each_from s m (places s) 0 (begun s.start) x begins h)
+    each s m x h = go (each_from s m (places s) 0 (empty_run s.start) x begins h)
       where
-        go : Contains (saves_of (begun s.start).prologue) x ⊎ IsOne s m x → (p : ℕ) × (run : Straight) × (list : ℕ) × (k : ℕ) × IsPush s m p run list × IsWord run list k x.offset
+        go : Contains (saves_of (empty_run s.start).prologue) x ⊎ IsOne s m x → (p : ℕ) × (run : Straight) × (list : ℕ) × (k : ℕ) × IsPush s m p run list × IsWord run list k x.offset
         go (inl c) = absurd (omega (arith, c.1))
         go (inr o) = (o.place, o.run, o.list, o.word, o.push, o.is)

@@ -18,7 +18,7 @@ use Rattle.frame_check.specs.declared.fault.CheckFault.{CheckFault}
 use Rattle.frame_check.specs.declared.fault.CheckFault.TheVariants.{Index, Function as OfFunction, Types, OutOfMemory}
 use Rattle.frame_check.specs.Roles.{Table}
 use Rattle.frame_check.specs.Roots.{flow_graph_of, roots_of}
-use Rattle.frame_check.specs.Accepts.{framed, CauseStands, by_facts, at_start, IsWell, AreWell, AreRoles}
+use Rattle.frame_check.specs.Accepts.{framed_function, CauseStands, by_facts, at_start, IsWell, AreWell, AreRoles}
 use Rattle.frame_check.specs.Judged.{RefusesOne, RefusesFunctions, IsTaken, IsPlaced}
 use Rattle.frame_check.specs.Laws.{WellIsUnrefused, RefusalsAreRight}
 use Rattle.frame_check.proofs.Images.{functions_before, roles_more}
@@ -26,7 +26,7 @@ use Rattle.frame_check.proofs.Images.{functions_before, roles_more}
 pub none_stands : MarksAgree → FactsDecide → (s : FlowGraph) → s.start < s.end → IsWell s → (p : ℕ) (c : FrameCause) → CauseStands s p c → ⊥
 none_stands agree decide s some w p c (by_facts m am st) =
     let e = agree s m w.marks am w.are in
-    (decide (framed s w.marks) some).0 w.facts p c (subst (λ (n : Marks). StandsIn (framed s n) p c) e st)
+    (decide (framed_function s w.marks) some).0 w.facts p c (subst (λ (n : Marks). StandsIn (framed_function s n) p c) e st)
 none_stands agree decide s some w _ c (at_start st) = w.start c st
 
 pub well_decides : MarksExist → MarksAgree → FactsDecide → WellIsUnrefused
@@ -35,7 +35,7 @@ well_decides exist agree decide s some = (none_stands agree decide s some, back)
     back : ((p : ℕ) (c : FrameCause) → CauseStands s p c → ⊥) → IsWell s
     back h =
         let m = exist s in
-        record { marks = m.0; are = m.1; facts = (decide (framed s m.0) some).1 (λ p c st. h p c (by_facts m.0 m.1 st)); start = λ c st. h 0 c (at_start st) }
+        record { marks = m.0; are = m.1; facts = (decide (framed_function s m.0) some).1 (λ p c st. h p c (by_facts m.0 m.1 st)); start = λ c st. h 0 c (at_start st) }
 
 pub refusals_right : MarksAgree → FactsDecide → RefusalsAreRight
 refusals_right agree decide image (Index fault) r a = cc (r, a.index)

@@ -1,6 +1,5 @@
--- What the crates above cite of frame_flow.
+-- What crates above this one use of `frame_flow` and don't list, so that the ways down from each crate stay few.
 pub use Rattle.frame_flow.proofs.Causing
 pub use Rattle.frame_flow.proofs.Conditions
-pub use Rattle.frame_flow.proofs.Instance
 pub use Rattle.frame_flow.proofs.Reaching
 pub use Rattle.frame_flow.proofs.Visiting

@@ -1,4 +1,2 @@
--- What the crates above cite of frame_graph.
+-- What crates above this one use of `frame_graph` and don't list, so that the ways down from each crate stay few.
 pub use Rattle.frame_graph.proofs.Inside
-pub use Rattle.frame_graph.proofs.Landings
-pub use Rattle.frame_graph.proofs.NoLowering

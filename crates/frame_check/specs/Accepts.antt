@@ -1,15 +1,15 @@
--- Which functions are well, and which images are accepted.
+-- Which functions and which images are accepted.
 use Rattle.std.specs.Prelude.{ℕ, ◌≡◌, ◌<◌, ◌↔◌, true, List, ◌∷◌, ◌++◌, All, Contains, Some, None}
 use Rattle.elf_image.specs.Functions.{Function, is_inside}
 use Rattle.elf_image.specs.Image.{Image}
 use Rattle.elf_image.specs.Segments.{Segment}
-use Rattle.image_memory.specs.Start.{begins_function}
+use Rattle.run_images.specs.Start.{begins_function}
 use Rattle.eh_index.specs.Refusal.{index_refusal}
 use Rattle.eh_types.specs.Graph.{Row}
 use Rattle.eh_types.specs.Meant.{IsGraph, Shows}
 use Rattle.frame_facts.specs.declared.cause.FrameCause.{FrameCause}
 use Rattle.frame_facts.specs.declared.cause.FrameCause.TheVariants.{Undecodable, BranchOut, IndirectBranch, CallNotFunction, SpWrite, JoinDepth, ReturnState, CallState, FramePointerLost, BadBytecode, BadDescriptor, PadDepth, ThrowInLeafScope, SplitEntry, GenericModel, TooLong}
-use Rattle.frame_graph.specs.declared.unwinding.Unwinding.TheVariants as unwinding
+use Rattle.frame_entries.specs.declared.unwinding.EntrySummary.TheVariants as unwinding
 use Rattle.frame_graph.specs.FlowGraph.{FlowGraph}
 use Rattle.frame_graph.specs.Places.{address_of}
 use Rattle.frame_graph.specs.Lowering.{is_lowering}
@@ -17,7 +17,7 @@ use Rattle.frame_graph.specs.Sites.{unwinding_at, has_fault}
 use Rattle.frame_graph.specs.Reach.{IsReached}
 use Rattle.frame_reach.specs.Marks.{Marks, AreMarks, IsTooLong, IsSplit}
 use Rattle.frame_reach.specs.Prologue.{prologue, lines, places}
-use Rattle.frame_flow.specs.Framed.{Framed}
+use Rattle.frame_flow.specs.Framed.{FramedFunction}
 use Rattle.frame_flow.specs.Flows.{StandsIn, HasFacts}
 use Rattle.frame_check.specs.declared.fault.Rejected.{Rejected}
 use Rattle.frame_check.specs.declared.fault.CheckFault.{CheckFault}
@@ -29,11 +29,11 @@ use Rattle.frame_check.specs.Pushes.{pushes_of, saves_in}
 -- ---- functions
 
 -- a function with its prologue, its landing pads and its lowering places
-abbrev pub framed : FlowGraph → Marks → Framed
-framed s m = record { flow_graph = s; prologue = prologue s m; pad = m.pad; lowers = is_lowering s m.reached }
+abbrev pub framed_function : FlowGraph → Marks → FramedFunction
+framed_function s m = record { flow_graph = s; prologue = prologue s m; pad = m.pad; lowers = is_lowering s m.reached }
 
--- What stands at the start of a function: what the entry that covers it shows, by its codes and by its descriptors, and what is refused of
--- the function as a whole. Every other cause stands where a fact meets it.
+-- What the start of a function gives: the causes of the entry that covers it, from its unwind instructions and its descriptors, and
+-- those of the function as a whole. Every other cause depends on a fact.
 abbrev pub StandsAtStart : FlowGraph → FrameCause → Type 0
 StandsAtStart s Undecodable = ⊥
 StandsAtStart s BranchOut = ⊥
@@ -52,16 +52,16 @@ StandsAtStart s SplitEntry = IsSplit s
 StandsAtStart s GenericModel = unwinding_at s s.start ≡ unwinding.GenericModel
 StandsAtStart s TooLong = IsTooLong s
 
--- a cause stands at a place: by the facts there, or at the start
+-- a cause stands at a place: because of the facts there, or at the start
 pub data CauseStands (s : FlowGraph) : ℕ → FrameCause → Type 0 where
-  by_facts : {p : ℕ} {c : FrameCause} (m : Marks) → AreMarks s m → StandsIn (framed s m) p c → CauseStands s p c
+  by_facts : {p : ℕ} {c : FrameCause} (m : Marks) → AreMarks s m → StandsIn (framed_function s m) p c → CauseStands s p c
   at_start : {c : FrameCause} → StandsAtStart s c → CauseStands s 0 c
 
--- a function is well: it has valid facts, and nothing stands at its start
+-- a function is accepted: it has valid facts, and no cause stands at its start
 pub record IsWell (s : FlowGraph) : Type 0 where
   pub marks : Marks
   pub are : AreMarks s marks
-  pub facts : HasFacts (framed s marks)
+  pub facts : HasFacts (framed_function s marks)
   pub start : (c : FrameCause) → StandsAtStart s c → ⊥
 
 -- ---- images
@@ -69,14 +69,14 @@ pub record IsWell (s : FlowGraph) : Type 0 where
 abbrev pub AreWell : Image → List Function → Type 0
 AreWell image functions = All (λ f. IsWell (flow_graph_of image f)) functions
 
--- its index is read, each of its functions is well, and its roots mean a graph of types
+-- its index can be read, each of its functions is accepted, and its roots have a graph of types
 pub record IsAccepted (image : Image) : Type 0 where
   pub index : index_refusal image ≡ None
   pub functions : AreWell image image.functions
   pub types : List Row
   pub graph : IsGraph image (roots_of image) types
 
--- the first function that isn't well, with a place and a cause that stands there
+-- the first function that isn't accepted, with a place and a cause that stands there
 pub record IsFirstRejected (image : Image) (r : Rejected) : Type 0 where
   pub before : List Function
   pub function : Function
@@ -90,7 +90,7 @@ pub record IsFirstRejected (image : Image) (r : Rejected) : Type 0 where
   pub inside : r.at < function.end
   pub stands : CauseStands (flow_graph_of image function) place r.cause
 
--- when each refusal may be named: the index first, then the functions in rising order, then the types
+-- when each refusal may be given: the index first, then the functions in ascending order, then the types
 abbrev pub Refuses : Image → CheckFault → Type 0
 Refuses image (Index fault) = index_refusal image ≡ Some fault
 Refuses image (OfFunction r) = (index_refusal image ≡ None) × IsFirstRejected image r
@@ -99,7 +99,7 @@ Refuses image OutOfMemory = ⊥
 
 -- ---- what an accepted image tells of an address
 
--- an instruction stands there that a path from the entry of one of these functions reaches
+-- the address has an instruction that a path from the entry of one of these functions reaches
 pub record IsInstr (image : Image) (functions : List Function) (a : ℕ) : Type 0 where
   pub function : Function
   pub among : Contains functions function
@@ -117,11 +117,12 @@ pub record IsLowering (image : Image) (functions : List Function) (a : ℕ) : Ty
   pub lowers : is_lowering (flow_graph_of image function) marks.reached place ≡ true
   pub address : a ≡ address_of (flow_graph_of image function) place
 
--- which words the PUSH at an address stores that are saves of the function's prologue
+-- which words that the PUSH at an address stores are saves of the function's prologue
 unfoldable pub saves_at : FlowGraph → Marks → ℕ → ℕ
 saves_at s m a = saves_in (pushes_of (prologue s m) s.start (lines s m.target (places s) 0)) a
 
--- the roles of these functions: instructions, lowering places, starts, and the saves of each function's prologue; elsewhere no words are saves
+-- the roles of these functions: instructions, lowering places, starts, and the saves of each function's prologue; no other address has
+-- saves
 pub record AreRoles (image : Image) (functions : List Function) (roles : Table) : Type 0 where
   pub instr : (a : ℕ) → ((look roles a).is_instr ≡ true) ↔ IsInstr image functions a
   pub lowers : (a : ℕ) → ((look roles a).lowers ≡ true) ↔ IsLowering image functions a

@@ -24,14 +24,14 @@ pub record IsClear (s : FlowGraph) : Type 0 where
   pub model : StandsAtStart s GenericModel → ⊥
   pub descriptors : StandsAtStart s BadDescriptor → ⊥
 
--- a fault names a place of the function and a cause that stands there; that memory runs out says nothing
+-- a fault names a place of the function and a cause that stands there; running out of memory tells nothing
 abbrev pub IsJudged : FlowGraph → FrameFault → Type 0
 IsJudged s (Stands place cause) = CauseStands s place cause × (s.start + 2 * place < s.end)
 IsJudged s OutOfMemory = Unit {0}
 
 -- ---- the checks of an image
 
--- a function is refused by its name, its start, and an address of its own with a cause that stands there
+-- a function is refused with its name, its start, and an address in it with a cause that stands there
 pub record IsRejection (s : FlowGraph) (f : Function) (r : Rejected) : Type 0 where
   pub name : r.function ≡ f.name
   pub start : r.start ≡ f.start
@@ -40,7 +40,7 @@ pub record IsRejection (s : FlowGraph) (f : Function) (r : Rejected) : Type 0 wh
   pub inside : r.at < f.end
   pub stands : CauseStands s place r.cause
 
--- what a check of one function answers; that memory runs out says nothing
+-- the possible results of checking one function; running out of memory tells nothing
 abbrev pub RefusesOne : Image → Function → CheckFault → Type 0
 RefusesOne image f (Index fault) = ⊥
 RefusesOne image f (OfFunction r) = IsRejection (flow_graph_of image f) f r

@@ -1,14 +1,14 @@
--- What holds of every function and every image: laws above the definitions.
+-- Laws of every function and every image, above the definitions.
 use Rattle.std.specs.Prelude.{ℕ, ◌≡◌, ◌≢◌, ◌<◌, ◌≤◌, ◌↔◌, ◌⊎◌, ◌+◌, ◌*◌, ◌%◌, ◌^◌, Bool, true, false, List, length, Some, Ok, Err, Contains, nat_eq}
 use Rattle.std.specs.List.{IsDistinct}
-use Rattle.unwind_codes.specs.declared.row.Entry.{Entry}
-use Rattle.eh_bytecode.specs.declared.recipe.Recipe.{Recipe}
+use Rattle.eh_codes.specs.declared.row.Entry.{Entry}
+use Rattle.eh_desc.specs.eh_bytecode.declared.recipe.Recipe.{Recipe}
 use Rattle.eh_desc.specs.declared.descriptor.DescFault.{DescFault}
-use Rattle.frame_graph.specs.declared.unwinding.Unwinding.TheVariants.{Finds, Refused}
+use Rattle.frame_entries.specs.declared.unwinding.EntrySummary.TheVariants.{Finds, Refused}
 use Rattle.frame_graph.specs.Reach.{IsReached}
 use Rattle.frame_reach.specs.declared.marks.TheConstants.{MOST_REACHED}
 use Rattle.std.specs.Int.{bit_at}
-use Rattle.thumb_core.specs.Words.{listed}
+use Rattle.run_images.specs.thumb_core.Words.{registers_of_list}
 use Rattle.thumb_isa.specs.declared.instr.Instr.TheVariants.{AddSubReg, MovHigh, Push}
 use Rattle.elf_image.specs.Functions.{Function}
 use Rattle.elf_image.specs.Image.{Image, type_symbols_of}
@@ -20,8 +20,8 @@ use Rattle.frame_facts.specs.declared.cause.FrameCause.{FrameCause}
 use Rattle.frame_facts.specs.declared.saves.Save.{Save}
 use Rattle.frame_facts.specs.declared.straight.Straight.{Straight}
 use Rattle.frame_facts.specs.Saves.{saves_of}
-use Rattle.frame_facts.specs.Prologues.{taken}
-use Rattle.frame_graph.specs.declared.places.Standing.TheVariants.{Instruction}
+use Rattle.frame_facts.specs.Prologues.{with_instruction}
+use Rattle.frame_graph.specs.frame_code.declared.standing.Standing.TheVariants.{Instruction}
 use Rattle.frame_graph.specs.Places.{address_of, standing_at}
 use Rattle.frame_graph.specs.Edges.{instruction_at}
 use Rattle.frame_reach.specs.Marks.{Marks}
@@ -34,7 +34,7 @@ use Rattle.frame_check.specs.declared.fault.CheckFault.{CheckFault}
 use Rattle.frame_check.specs.Roots.{flow_graph_of, roots_of}
 use Rattle.frame_check.specs.Accepts.{CauseStands, IsWell, IsAccepted, IsLowering, Refuses, saves_at}
 
--- a function is well exactly where no cause stands at any of its places
+-- a function is accepted if and only if no cause stands at any of its places
 abbrev pub WellIsUnrefused : Type 0
 WellIsUnrefused = (s : FlowGraph) → s.start < s.end → IsWell s ↔ ((p : ℕ) (c : FrameCause) → CauseStands s p c → ⊥)
 
@@ -47,7 +47,7 @@ pub record WellFunctions : Type 0 where
   pub sites : (s : FlowGraph) (p site : ℕ) (e : Entry) → IsWell s → IsReached s p → site_at s p ≡ Some site → entry_at s site ≡ Some e → e.start ≤ s.start
   pub few : (s : FlowGraph) (ps : List ℕ) → IsWell s → IsDistinct nat_eq ps → ((p : ℕ) → Contains ps p → IsReached s p) → length ps ≤ MOST_REACHED
 
--- what may be refused of an image that isn't accepted, and of no other
+-- what may be refused of an image that isn't accepted; nothing can be refused of one that is
 abbrev pub RefusalsAreRight : Type 0
 RefusalsAreRight = (image : Image) (fault : CheckFault) → Refuses image fault → IsAccepted image → ⊥
 
@@ -55,7 +55,7 @@ RefusalsAreRight = (image : Image) (fault : CheckFault) → Refuses image fault 
 abbrev pub Names : Image → Desc → ℕ → Type 0
 Names image d t = ((pad : ℕ) × (reference : Bool) × (d.kind ≡ Catch pad reference (One t))) ⊎ ((i : ℕ) × (type_in image.segments d.kind i ≡ Some t))
 
--- the roots are the types, but 0, that a descriptor of the entry names that covers a function's start, and the type symbols
+-- the roots are the types, except 0, that a descriptor of an entry covering a function's start names, and the type symbols
 abbrev pub RootsAreNamed : Type 0
 RootsAreNamed =
     (image : Image) (t : ℕ) → Contains (roots_of image) t
@@ -63,25 +63,25 @@ RootsAreNamed =
 
 -- ---- the saves of a prologue
 
--- a PUSH of the prologue: the run has come to its place and takes it
+-- a PUSH of the prologue: the run has come to its place and includes it
 pub record IsPush (s : FlowGraph) (m : Marks) (p : ℕ) (run : Straight) (list : ℕ) : Type 0 where
   pub size : ℕ
   pub next : Straight
   pub comes : IsRun s m p run
   pub stands : standing_at s p ≡ Instruction (Push list) size
   pub free : is_led_to m.target p size ≡ false
-  pub takes : taken run (Push list) size ≡ Some next
+  pub takes : with_instruction run (Push list) size ≡ Some next
 
 -- its word k, counted from the lowest address, lies so many bytes below the CFA: sp falls by a word for each register
 abbrev pub IsWord : Straight → ℕ → ℕ → ℕ → Type 0
-IsWord run list k offset = (k < length (listed list)) × (offset + 4 * k ≡ run.fact.depth + 4 * length (listed list))
+IsWord run list k offset = (k < length (registers_of_list list)) × (offset + 4 * k ≡ run.fact.depth + 4 * length (registers_of_list list))
 
--- Of a PUSH of the prologue bit k is set exactly where its word k is a save; of any other address no bit is. And each save of the prologue
--- is a word of one of its PUSHes.
+-- For a PUSH of the prologue, bit k is set if and only if its word k is a save. For any other address no bit is set. Each save of the
+-- prologue is a word of one of its PUSHes.
 pub record SavesAreWords : Type 0 where
   pub bits : (s : FlowGraph) (m : Marks) (p : ℕ) (run : Straight) (list k offset : ℕ) → s.start % 2 ≡ 0 → s.end + 4 ≤ 2 ^ 32 → IsPush s m p run list → IsWord run list k offset
       → (bit_at (saves_at s m (address_of s p)) k ≡ 1) ↔ (is_saved (prologue s m) offset ≡ true)
-  pub past : (s : FlowGraph) (m : Marks) (p : ℕ) (run : Straight) (list k : ℕ) → s.start % 2 ≡ 0 → s.end + 4 ≤ 2 ^ 32 → IsPush s m p run list → length (listed list) ≤ k
+  pub past : (s : FlowGraph) (m : Marks) (p : ℕ) (run : Straight) (list k : ℕ) → s.start % 2 ≡ 0 → s.end + 4 ≤ 2 ^ 32 → IsPush s m p run list → length (registers_of_list list) ≤ k
       → bit_at (saves_at s m (address_of s p)) k ≡ 0
   pub elsewhere : (s : FlowGraph) (m : Marks) (a : ℕ) → s.start % 2 ≡ 0 → s.end + 4 ≤ 2 ^ 32
       → ((p : ℕ) (run : Straight) (list : ℕ) → IsPush s m p run list → a ≡ address_of s p → ⊥) → saves_at s m a ≡ 0
@@ -90,7 +90,7 @@ pub record SavesAreWords : Type 0 where
 
 -- ---- lowering places
 
--- At an address of one of these functions stands a MOV of a register into sp, and 2 bytes before it a SUB of two registers into that
+-- An address of one of these functions has a MOV of a register into sp, and 2 bytes before it is a SUB of two registers into that
 -- register. Paths from the function's entry reach both.
 pub record IsLoweredAt (image : Image) (functions : List Function) (a : ℕ) : Type 0 where
   pub function : Function
@@ -107,6 +107,6 @@ pub record IsLoweredAt (image : Image) (functions : List Function) (a : ℕ) : T
   pub first : IsReached (flow_graph_of image function) before
   pub second : IsReached (flow_graph_of image function) place
 
--- the lowering places of the functions of an image are these, and no others
+-- these are exactly the lowering places of the functions of an image
 abbrev pub LoweringsAreCopies : Type 0
 LoweringsAreCopies = (image : Image) (functions : List Function) (a : ℕ) → IsLowering image functions a ↔ IsLoweredAt image functions a

@@ -1,8 +1,3 @@
-pub mod flow
-pub mod frame_facts
-pub mod frame_graph
-pub mod frame_reach
-pub mod frame_flow
 pub mod Roles
 pub mod Roots
 pub mod Pushes
@@ -10,3 +5,8 @@ pub mod Accepts
 pub mod Marking
 pub mod Judged
 pub mod Laws
+pub mod frame_entries
+pub mod frame_flow
+pub mod frame_graph
+pub mod frame_reach
+pub mod run_images

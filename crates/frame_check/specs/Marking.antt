@@ -7,7 +7,7 @@ use Rattle.frame_graph.specs.Reach.{IsReached}
 use Rattle.frame_reach.specs.Marks.{Marks}
 use Rattle.frame_reach.specs.Prologue.{prologue, lines, places}
 use Rattle.frame_check.specs.declared.roles.Role.{Role}
-use Rattle.frame_check.specs.declared.pushes.Pushed.{Pushed}
+use Rattle.frame_check.specs.declared.pushes.ProloguePush.{ProloguePush}
 use Rattle.frame_check.specs.Roles.{Table, look, Put}
 use Rattle.frame_check.specs.Pushes.{pushes_of}
 
@@ -24,17 +24,17 @@ abbrev pub with_saves : ℕ → Role → Role
 with_saves saves x = record x { saves = saves }
 
 -- the role of an address is changed so, and no other
-abbrev pub Turned : (Role → Role) → ℕ → Table → Table → Type 0
-Turned change a old new = Put old new a (change (look old a))
+abbrev pub ChangesRole : (Role → Role) → ℕ → Table → Table → Type 0
+ChangesRole change a old new = Put old new a (change (look old a))
 
--- the places' addresses are instructions now, beside those that were; nothing else has changed
+-- the places' addresses are marked as instructions now; nothing else has changed
 pub record AreInstrs (s : FlowGraph) (ps : List ℕ) (old new : Table) : Type 0 where
   pub instr : (a : ℕ) → ((look new a).is_instr ≡ true) ↔ (((look old a).is_instr ≡ true) ⊎ ((p : ℕ) × Contains ps p × (a ≡ address_of s p)))
   pub lowers : (a : ℕ) → (look new a).lowers ≡ (look old a).lowers
   pub starts : (a : ℕ) → (look new a).is_function ≡ (look old a).is_function
   pub saves : (a : ℕ) → (look new a).saves ≡ (look old a).saves
 
--- those of the places that are lowering places are told as such now, beside those that were; nothing else has changed
+-- those of the places that are lowering places are marked as such now; nothing else has changed
 pub record AreLowered (s : FlowGraph) (reached : ℕ → Bool) (ps : List ℕ) (old new : Table) : Type 0 where
   pub instr : (a : ℕ) → (look new a).is_instr ≡ (look old a).is_instr
   pub lowers : (a : ℕ) → ((look new a).lowers ≡ true)
@@ -42,19 +42,19 @@ pub record AreLowered (s : FlowGraph) (reached : ℕ → Bool) (ps : List ℕ) (
   pub starts : (a : ℕ) → (look new a).is_function ≡ (look old a).is_function
   pub saves : (a : ℕ) → (look new a).saves ≡ (look old a).saves
 
--- of several PUSHes at an address the last, and of none what was there
-abbrev pub saves_over : ℕ → List Pushed → ℕ → ℕ
-saves_over before pushes a = fold (λ found (x : Pushed). if x.at == a then x.saves else found) before pushes
+-- of several PUSHes at an address the last counts; without one, what was there before
+abbrev pub saves_over : ℕ → List ProloguePush → ℕ → ℕ
+saves_over before pushes a = fold (λ found (x : ProloguePush). if x.at == a then x.saves else found) before pushes
 
--- the PUSHes' saves are there now; nothing else has changed
-pub record AreSaved (pushes : List Pushed) (old new : Table) : Type 0 where
+-- the PUSHes' saves are recorded now; nothing else has changed
+pub record AreSaved (pushes : List ProloguePush) (old new : Table) : Type 0 where
   pub instr : (a : ℕ) → (look new a).is_instr ≡ (look old a).is_instr
   pub lowers : (a : ℕ) → (look new a).lowers ≡ (look old a).lowers
   pub starts : (a : ℕ) → (look new a).is_function ≡ (look old a).is_function
   pub saves : (a : ℕ) → (look new a).saves ≡ saves_over ((look old a).saves) pushes a
 
--- a function's reached places are instructions now, its lowering places are told, its start is one of a function, its prologue's saves are there;
--- nothing else has changed
+-- Of a function, the reached places are marked as instructions now, the lowering places and the start are marked, and the prologue's
+-- saves are recorded. Nothing else has changed.
 pub record IsMarked (s : FlowGraph) (m : Marks) (old new : Table) : Type 0 where
   pub instr : (a : ℕ) → ((look new a).is_instr ≡ true) ↔ (((look old a).is_instr ≡ true) ⊎ ((p : ℕ) × IsReached s p × (a ≡ address_of s p)))
   pub lowers : (a : ℕ) → ((look new a).lowers ≡ true) ↔ (((look old a).lowers ≡ true) ⊎ ((p : ℕ) × (is_lowering s m.reached p ≡ true) × (a ≡ address_of s p)))

@@ -10,11 +10,12 @@ use Rattle.eh_desc.specs.declared.descriptor.DescKind.{DescKind}
 use Rattle.eh_desc.specs.declared.descriptor.DescKind.TheVariants.{Cleanup, Catch, Spec}
 use Rattle.eh_desc.specs.Grammar.{type_in, items_of}
 use Rattle.frame_graph.specs.FlowGraph.{FlowGraph}
-use Rattle.unwind_codes.specs.declared.row.Entry.{Entry}
-use Rattle.unwind_codes.specs.declared.row.EntryBody.{EntryBody}
-use Rattle.unwind_codes.specs.declared.row.EntryBody.TheVariants.{CantUnwind, Inline, Table}
+use Rattle.eh_codes.specs.declared.row.Entry.{Entry}
+use Rattle.eh_codes.specs.declared.row.EntryBody.{EntryBody}
+use Rattle.eh_codes.specs.declared.row.EntryBody.TheVariants.{CantUnwind, Inline, Table}
 use Rattle.eh_index.specs.Places.{table_of}
-use Rattle.frame_graph.specs.Sites.{Item, entry_at}
+use Rattle.frame_entries.specs.Scopes.{Item}
+use Rattle.frame_graph.specs.Sites.{entry_at}
 
 -- the function as a flow graph
 abbrev pub flow_graph_of : Image → Function → FlowGraph
@@ -24,20 +25,20 @@ flow_graph_of image f = record { image = image; start = f.start; end = f.end }
 abbrev pub type_at : ℕ → List ℕ
 type_at a = if a == 0 then [] else a ∷ []
 
-abbrev pub listed : Option ℕ → List ℕ
-listed None = []
-listed (Some a) = type_at a
+abbrev pub spec_root : Option ℕ → List ℕ
+spec_root None = []
+spec_root (Some a) = type_at a
 
 abbrev pub catch_types : CatchType → List ℕ
 catch_types All = []
 catch_types AllFails = []
 catch_types (One a) = type_at a
 
--- the types that a descriptor names: of a catch its type, of a specification its types
+-- the types that a descriptor names: a catch its type, a specification its types
 abbrev pub kind_types : List Segment → DescKind → List ℕ
 kind_types segments (Cleanup pad) = []
 kind_types segments (Catch pad reference type) = catch_types type
-kind_types segments (Spec types count pad) = flat_map (λ i. listed (type_in segments (Spec types count pad) i)) (range_with_len 0 count)
+kind_types segments (Spec types count pad) = flat_map (λ i. spec_root (type_in segments (Spec types count pad) i)) (range_with_len 0 count)
 
 abbrev pub item_types : List Segment → Item → List ℕ
 item_types segments (Ok d) = kind_types segments d.kind
@@ -65,11 +66,11 @@ same_entry None None = true
 same_entry (Some a) (Some b) = (a.start == b.start) && same_body a.body b.body
 same_entry a b = false
 
--- those of the entries of functions, of which each is looked at where it isn't that of the function before
+-- the types of the functions' entries; an entry is left out if it is that of the function before
 unfoldable pub types_from : Image → Option Entry → List Function → List ℕ
 types_from image before [] = []
 types_from image before (f ∷ more) = (if same_entry before (entry_of image f) then [] else entry_types image (entry_of image f)) ++ types_from image (entry_of image f) more
 
--- those of all functions, in rising order, and after them the image's type symbols
+-- the types of all functions, in ascending order, and then the image's type symbols
 unfoldable pub roots_of : Image → List ℕ
 roots_of image = types_from image None image.functions ++ type_symbols_of image.symbols

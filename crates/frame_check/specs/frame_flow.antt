@@ -1,4 +1,4 @@
--- What the crates above cite of frame_flow.
+-- What crates above this one use of `frame_flow` and don't list, so that the ways down from each crate stay few.
 pub use Rattle.frame_flow.specs.Causes
 pub use Rattle.frame_flow.specs.Conditions
 pub use Rattle.frame_flow.specs.Flows

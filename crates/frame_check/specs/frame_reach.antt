@@ -1,4 +1,2 @@
--- What the crates above cite of frame_reach.
-pub use Rattle.frame_reach.specs.Laws
+-- What crates above this one use of `frame_reach` and don't list, so that the ways down from each crate stay few.
 pub use Rattle.frame_reach.specs.Marks
-pub use Rattle.frame_reach.specs.Prologue

@@ -1,8 +1,8 @@
-//! Checking an image. docs/checking.md.
+//! Checks an image. docs/rules/acceptance.md.
 ghost use Rattle.std.specs.Prelude.{◌≡◌, ◌≢◌, ◌<◌, [], map, All, None, IfOk, IfErr, OnOk};
 ghost use Rattle.eh_index.specs.Refusal.{index_refusal};
 ghost use Rattle.eh_types.specs.Meant.{IsGraph};
-ghost use Rattle.image_memory.specs.Profiles.{profile_of};
+ghost use Rattle.run_images.specs.Profiles.{profile_of};
 ghost use Rattle.frame_reach.specs.Held.{marks_of};
 ghost use Rattle.frame_reach.specs.Marks.{AreMarks};
 ghost use Rattle.frame_reach.specs.Prologue.{prologue};
@@ -10,11 +10,11 @@ ghost use Rattle.frame_check.specs.declared.fault.CheckFault.TheVariants.{OutOfM
 ghost use Rattle.frame_check.specs.Roots.{flow_graph_of, roots_of};
 ghost use Rattle.frame_check.specs.Accepts.{AreBytes, IsWell, AreWell, AreRoles, IsSound, IsAccepted, Refuses};
 ghost use Rattle.frame_check.specs.Judged.{IsJudged, RefusesOne, RefusesFunctions, RefusesTypes, IsTaken, IsPlaced};
-ghost use Rattle.frame_check.specs.Pushes.{counted, pushings_of};
+ghost use Rattle.frame_check.specs.Pushes.{pushing_of, pushings_of};
 
 use crate::accepted::Accepted;
 use crate::fault::{CheckFault, Rejected};
-use crate::judge::{Well, judge};
+use crate::judge::{CheckedFunction, analyse_function};
 use crate::marking::mark;
 use crate::roles::Roles;
 use crate::room::Room;
@@ -26,21 +26,21 @@ use elf_image::function::Function;
 use elf_image::image::Image;
 use elf_image::segment::Segment;
 use frame_flow::FrameFault;
-use frame_graph::{Cover, FlowGraph};
-use frame_reach::Reached;
-use image_memory::profile::profile_of;
+use frame_graph::{EntryCache, FlowGraph};
+use frame_reach::ReachMarks;
+use run_images::profile::profile_of;
 use std::alloc::Global;
 use thumb_isa::profile::Profile;
 
-/// What a run asks of an image that is accepted.
+/// What a run needs of an accepted image, besides the image.
 #[derive(Drop)]
 struct Parts<'a> {
     types: TypeGraph<'a>,
     roles: Roles,
 }
 
-/// The refusal of a function.
-fn rejected(alloc: Global, flow_graph: &FlowGraph, f: &Function, fault: FrameFault) -> CheckFault
+/// The refusal of a function, from its fault.
+fn rejection(alloc: Global, flow_graph: &FlowGraph, f: &Function, fault: FrameFault) -> CheckFault
     requires flow_graph { flow_graph.now ≡ flow_graph_of flow_graph.now.image f.now }
     requires judged { IsJudged flow_graph.now fault }
     ensures { RefusesOne flow_graph.now.image f.now result }
@@ -60,61 +60,61 @@ fn rejected(alloc: Global, flow_graph: &FlowGraph, f: &Function, fault: FrameFau
     }
 }
 
-/// Judges one function: what is found of it where it is well, else its name, an address and a cause that stands there.
-fn judged(
+/// Checks one function: what was found if it is accepted, else its name, an address, and a cause that stands there.
+fn function_verdict(
     alloc: Global,
     room: &mut Room,
     flow_graph: &FlowGraph,
     f: &Function,
-) -> Result<Well, CheckFault>
+) -> Result<CheckedFunction, CheckFault>
     requires placed { IsPlaced f.now }
     requires flow_graph { flow_graph.now ≡ flow_graph_of flow_graph.now.image f.now }
     ensures marks { IfOk result (λ w. AreMarks flow_graph.now (marks_of w.reached)) }
     ensures prologue { IfOk result (λ w. w.prologue ≡ prologue flow_graph.now (marks_of w.reached)) }
-    ensures pushes { IfOk result (λ w. map counted room.new.pushes.items ≡ pushings_of flow_graph.now (marks_of w.reached)) }
+    ensures pushes { IfOk result (λ w. map pushing_of room.new.pushes.items ≡ pushings_of flow_graph.now (marks_of w.reached)) }
     ensures well { IfOk result (λ _. IsWell flow_graph.now) }
     ensures refused { IfErr result (RefusesOne flow_graph.now.image f.now) }
 {
-    match judge(alloc, room, flow_graph) {
-        Err(fault) => Err(rejected(alloc, flow_graph, f, fault)),
+    match analyse_function(alloc, room, flow_graph) {
+        Err(fault) => Err(rejection(alloc, flow_graph, f, fault)),
         Ok(well) => Ok(well),
     }
 }
 
-/// Judges one function, and marks nothing: its reached places where it is well, else its name, an address and a cause that stands there.
-/// The cover keeps the entry of its start.
-pub fn judge_function(
+/// Checks one function, and records nothing in the roles. Ok with its reached places if it is accepted. Else Err with its name, an
+/// address, and a cause that stands there. The cache must have the entry of its start.
+pub fn check_unmarked(
     alloc: Global,
     room: &mut Room,
-    cover: &Cover,
+    cover: &EntryCache,
     f: &Function,
-) -> Result<Reached, CheckFault>
+) -> Result<ReachMarks, CheckFault>
     requires { IsPlaced f.now }
     ensures marks { IfOk result (λ reached. AreMarks (flow_graph_of cover.now f.now) (marks_of reached)) }
     ensures well { IfOk result (λ _. IsWell (flow_graph_of cover.now f.now)) }
     ensures refused { IfErr result (RefusesOne cover.now f.now) }
 {
-    let flow_graph = FlowGraph::under(cover, f.start, f.end);
-    match judged(alloc, room, &flow_graph, f) {
+    let flow_graph = FlowGraph::with_cache(cover, f.start, f.end);
+    match function_verdict(alloc, room, &flow_graph, f) {
         Err(fault) => Err(fault),
         Ok(well) => Ok(well.reached),
     }
 }
 
-/// Checks a function, and marks its addresses where it is well. The cover keeps the entry of its start.
+/// Checks a function, and records its addresses in the roles if it is accepted. The cache must have the entry of its start.
 fn check_function(
     alloc: Global,
     room: &mut Room,
     roles: &mut Roles,
-    cover: &Cover,
+    cover: &EntryCache,
     f: &Function,
 ) -> Result<(), CheckFault>
     requires { IsPlaced f.now }
     ensures taken { OnOk result (IsTaken cover.now f.now roles.old roles.new) }
     ensures refused { IfErr result (RefusesOne cover.now f.now) }
 {
-    let flow_graph = FlowGraph::under(cover, f.start, f.end);
-    match judged(alloc, room, &flow_graph, f) {
+    let flow_graph = FlowGraph::with_cache(cover, f.start, f.end);
+    match function_verdict(alloc, room, &flow_graph, f) {
         Err(fault) => Err(fault),
         Ok(well) => {
             mark(room, roles, &flow_graph, &well)?;
@@ -124,12 +124,13 @@ fn check_function(
     }
 }
 
-/// Checks the functions in rising order, and marks their addresses. An entry that covers several is read once.
+/// Checks the functions in ascending order, and records their addresses in the roles. An entry that covers several functions is read
+/// once.
 fn check_each(
     alloc: Global,
     room: &mut Room,
     roles: &mut Roles,
-    cover: &mut Cover,
+    cover: &mut EntryCache,
     index: &Index,
 ) -> Result<(), CheckFault>
     requires roles { AreRoles index.now [] roles.old }
@@ -148,7 +149,7 @@ fn check_each(
     Ok(())
 }
 
-/// Checks the functions by the profile of their image: what each address is, where all are well.
+/// Checks the functions, whose instructions `profile` decodes; the roles of their addresses if all are accepted.
 fn check_functions(alloc: Global, index: &Index, profile: Profile) -> Result<Roles, CheckFault>
     requires { profile ≡ profile_of index.now }
     ensures well { OnOk result (AreWell index.now index.now.functions) }
@@ -156,13 +157,13 @@ fn check_functions(alloc: Global, index: &Index, profile: Profile) -> Result<Rol
     ensures refused { IfErr result (RefusesFunctions index.now) }
 {
     let mut roles = Roles::new(alloc);
-    let mut cover = Cover::new(alloc, index, profile);
+    let mut cover = EntryCache::new(alloc, index, profile);
     let mut room = Room::new(alloc);
     check_each(alloc, &mut room, &mut roles, &mut cover, index)?;
     Ok(roles)
 }
 
-/// The graph of the types that an image's exceptions may have, or the first type that shows that there is none.
+/// The graph of the types that an image's exceptions may have; Err with a type that shows there is none.
 pub fn types_of<'a>(alloc: Global, index: &Index<'_, 'a>) -> Result<TypeGraph<'a>, CheckFault>
     ensures graph { IfOk result (IsGraph index.now (roots_of index.now)) }
     ensures refused { IfErr result (RefusesTypes index.now) }
@@ -175,30 +176,30 @@ pub fn types_of<'a>(alloc: Global, index: &Index<'_, 'a>) -> Result<TypeGraph<'a
     }
 }
 
-/// The numbers of these bytes are bytes.
+/// The elements of a list of bytes are below 256.
 fn are_bytes(bytes: &[u8])
     ensures { All (λ b. b < 256) bytes.now }
 {
     let _count = bytes.len();
 }
 
-/// So are those of the bytes of a segment.
-fn holds_bytes(segment: &Segment)
+/// The elements of a segment's bytes are below 256.
+fn has_bytes(segment: &Segment)
     ensures { All (λ b. b < 256) segment.now.bytes }
 {
     are_bytes(segment.bytes());
 }
 
-/// So are those of all segments.
-fn hold_bytes(segments: &[Segment])
+/// The elements of all segments' bytes are below 256.
+fn have_bytes(segments: &[Segment])
     ensures { AreBytes segments.now }
 {
     for segment in segments {
-        holds_bytes(segment);
+        has_bytes(segment);
     }
 }
 
-/// What a run asks of an image of this profile, by its index, where it is accepted.
+/// What a run needs of an image with this index and profile; Err if it isn't accepted.
 fn parts_of<'a>(
     alloc: Global,
     index: &Index<'_, 'a>,
@@ -215,21 +216,25 @@ fn parts_of<'a>(
     Ok(Parts { types, roles })
 }
 
-/// What a run asks of an image of this profile, where it is accepted.
-fn checked<'a>(alloc: Global, image: &Image<'a>, profile: Profile) -> Result<Parts<'a>, CheckFault>
+/// What a run needs of an image with this profile; Err if it isn't accepted.
+fn accepted_parts<'a>(
+    alloc: Global,
+    image: &Image<'a>,
+    profile: Profile,
+) -> Result<Parts<'a>, CheckFault>
     requires { profile ≡ profile_of image.now }
     ensures sound { IfOk result (λ c. IsSound (record { image = image.now; types = c.types; roles = c.roles })) }
     ensures refused { IfErr result (λ fault. fault ≢ NoMemory → Refuses image.now fault) }
 {
-    hold_bytes(image.segments());
+    have_bytes(image.segments());
     match Index::read(image) {
         Err(fault) => Err(CheckFault::Index(fault)),
         Ok(index) => Ok(parts_of(alloc, &index, profile)?),
     }
 }
 
-/// Checks an image: its index, then its functions in rising order, then its types. The first that isn't well is refused, which drops the
-/// image. Accepted is exactly an image that has nothing to refuse, want of memory aside.
+/// Checks an image: its index, then its functions in ascending order, then its types. Err with the first that is refused; the image is
+/// dropped then. Unless memory runs out, an image is accepted if and only if there is nothing to refuse.
 pub fn check<'a>(alloc: Global, image: Image<'a>) -> Result<Accepted<'a>, CheckFault>
     ensures same { IfOk result (λ a. a.image ≡ image.entry) }
     ensures accepted { OnOk result (IsAccepted image.entry) }
@@ -237,7 +242,7 @@ pub fn check<'a>(alloc: Global, image: Image<'a>) -> Result<Accepted<'a>, CheckF
     ensures exact { IfErr result (λ fault. fault ≢ NoMemory → IsAccepted image.entry → ⊥) }
 {
     let profile = profile_of(&image);
-    match checked(alloc, &image, profile) {
+    match accepted_parts(alloc, &image, profile) {
         Err(fault) => Err(fault),
         Ok(Parts { types, roles }) => Ok(Accepted {
             image,

@@ -1,4 +1,4 @@
-//! Why an image isn't accepted (docs/checking.md, "Refusals").
+//! Why an image isn't accepted (docs/rules/acceptance.md, "The order of refusals").
 use eh_index::IndexFault;
 use eh_types::TypeFault;
 use eh_word::{Name, NameMemory};
@@ -6,31 +6,32 @@ use frame_facts::FrameCause;
 use std::alloc::AllocError;
 use thiserror::Error;
 
-/// A function that isn't accepted, and why.
+/// A function that isn't accepted, with an address and a cause.
 #[derive(Debug, Drop)]
 pub struct Rejected {
-    /// Its name.
+    /// The function's name.
     pub function: Name,
-    /// Its first address, in bytes.
+    /// The function's first address.
     pub start: u32,
-    /// An address where the cause stands.
+    /// An address at which the cause stands.
     pub at: u32,
+    /// Why the function isn't accepted.
     pub cause: FrameCause,
 }
 
 /// Why an image isn't accepted.
 #[derive(Debug, Drop, Error)]
 pub enum CheckFault {
-    /// Its exception index isn't read.
+    /// Its index table can't be read.
     #[error("its exception index isn't read")]
     Index(IndexFault),
-    /// Its index is read, and this is the first function that isn't accepted.
+    /// Its index table was read; this is the first function that isn't accepted.
     #[error("a function isn't accepted")]
     Function(Rejected),
-    /// Its index is read and its functions are accepted, but its types aren't read.
+    /// Its index table was read and its functions are accepted, but its types can't be read.
     #[error("its types aren't read")]
     Types(TypeFault),
-    /// No memory was left. Nothing is said of the image.
+    /// An allocation failed; this tells nothing of the image.
     #[error("out of memory")]
     OutOfMemory,
 }

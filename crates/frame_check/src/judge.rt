@@ -1,32 +1,33 @@
-//! Whether a function is well. docs/checking.md, "Functions".
+//! Whether a function is accepted. docs/rules/acceptance.md, "Functions".
 ghost use Rattle.std.specs.Prelude.{◌≡◌, ◌<◌, map, IfOk, IfErr, IfSome, IfNone};
 ghost use Rattle.frame_graph.specs.Sites.{unwinding_at};
 ghost use Rattle.frame_reach.specs.Marks.{AreMarks};
 ghost use Rattle.frame_reach.specs.Held.{marks_of};
 ghost use Rattle.frame_reach.specs.Prologue.{prologue};
 ghost use Rattle.frame_flow.specs.Flows.{HasFacts};
-ghost use Rattle.frame_check.specs.Accepts.{StandsAtStart, IsWell, framed};
+ghost use Rattle.frame_check.specs.Accepts.{StandsAtStart, IsWell, framed_function};
 ghost use Rattle.frame_check.specs.Judged.{IsClear, IsJudged};
-ghost use Rattle.frame_check.specs.Pushes.{counted, pushings_of};
+ghost use Rattle.frame_check.specs.Pushes.{pushing_of, pushings_of};
 
 use crate::room::Room;
-use crate::walk::walk;
+use crate::walk::walk_prologue;
+use frame_entries::EntrySummary;
 use frame_facts::{FrameCause, Prologue};
-use frame_flow::{FrameFault, Framed, SolveRoom, solve_in};
-use frame_graph::{FlowGraph, Unwinding};
-use frame_reach::{ReachFault, Reached, reach_in};
+use frame_flow::{FrameFault, FramedFunction, SolveRoom, solve_in};
+use frame_graph::FlowGraph;
+use frame_reach::{ReachFault, ReachMarks, reach_in};
 use std::alloc::Global;
 
-/// What the entry shows that covers a function's start, by what its codes say.
-fn entry_cause_by(flow_graph: &FlowGraph, unwinding: &Unwinding) -> Option<FrameCause>
+/// The cause that the entry covering a function's start gives, from how it unwinds; None if it gives none.
+fn summary_cause(flow_graph: &FlowGraph, unwinding: &EntrySummary) -> Option<FrameCause>
     requires { unwinding.now ≡ unwinding_at flow_graph.now flow_graph.now.start }
     ensures stands { IfSome result (StandsAtStart flow_graph.now) }
     ensures clear { IfNone result (IsClear flow_graph.now) }
 {
     match unwinding {
-        Unwinding::BadBytecode => Some(FrameCause::BadBytecode),
-        Unwinding::GenericModel => Some(FrameCause::GenericModel),
-        Unwinding::Finds(_) | Unwinding::Refused => {
+        EntrySummary::BadBytecode => Some(FrameCause::BadBytecode),
+        EntrySummary::GenericModel => Some(FrameCause::GenericModel),
+        EntrySummary::Finds(_) | EntrySummary::Refused => {
             if flow_graph.has_fault(flow_graph.start()) {
                 Some(FrameCause::BadDescriptor)
             } else {
@@ -36,63 +37,64 @@ fn entry_cause_by(flow_graph: &FlowGraph, unwinding: &Unwinding) -> Option<Frame
     }
 }
 
-/// The same of an entry that isn't kept. It stays a call, so that one that is kept is asked in few steps.
+/// As `entry_cause`, for an entry that isn't cached. It isn't inlined, so that the cached case stays short.
 #[inline(never)]
-fn entry_cause_anew(flow_graph: &FlowGraph) -> Option<FrameCause>
+fn uncached_entry_cause(flow_graph: &FlowGraph) -> Option<FrameCause>
     ensures stands { IfSome result (StandsAtStart flow_graph.now) }
     ensures clear { IfNone result (IsClear flow_graph.now) }
 {
-    entry_cause_by(flow_graph, &flow_graph.unwinding_at(flow_graph.start()))
+    summary_cause(flow_graph, &flow_graph.unwinding_at(flow_graph.start()))
 }
 
-/// What the entry shows that covers a function's start.
+/// The cause that the entry covering a function's start gives; None if it gives none.
 fn entry_cause(flow_graph: &FlowGraph) -> Option<FrameCause>
     ensures stands { IfSome result (StandsAtStart flow_graph.now) }
     ensures clear { IfNone result (IsClear flow_graph.now) }
 {
     match flow_graph.kept_unwinding_at(flow_graph.start()) {
-        None => entry_cause_anew(flow_graph),
-        Some(unwinding) => entry_cause_by(flow_graph, unwinding),
+        None => uncached_entry_cause(flow_graph),
+        Some(unwinding) => summary_cause(flow_graph, unwinding),
     }
 }
 
-/// What is found of a function that is well.
+/// What is found of an accepted function.
 #[derive(Drop)]
-pub(crate) struct Well {
-    /// Its reached places.
-    pub(crate) reached: Reached,
+pub(crate) struct CheckedFunction {
+    /// Its reached places, with their marks.
+    pub(crate) reached: ReachMarks,
+    /// Its prologue.
     pub(crate) prologue: Prologue,
 }
 
-/// Whether a function whose places are marked is well.
-fn solved(
+/// Whether a function with these marks and this prologue has valid facts; Err with a cause that stands.
+fn check_facts(
     alloc: Global,
     room: &mut SolveRoom,
     flow_graph: &FlowGraph,
-    reached: &Reached,
+    reached: &ReachMarks,
     p: &Prologue,
 ) -> Result<(), FrameFault>
     requires some { flow_graph.now.start < flow_graph.now.end }
     requires marks { AreMarks flow_graph.now (marks_of reached.now) }
     requires prologue { p.now ≡ prologue flow_graph.now (marks_of reached.now) }
-    ensures well { IfOk result (λ _. HasFacts (framed flow_graph.now (marks_of reached.now))) }
+    ensures well { IfOk result (λ _. HasFacts (framed_function flow_graph.now (marks_of reached.now))) }
     ensures refused { IfErr result (IsJudged flow_graph.now) }
 {
-    let framed = Framed::new(flow_graph, p, reached.pads(), reached.reached());
+    let framed = FramedFunction::new(flow_graph, p, reached.pads(), reached.reached());
     solve_in(alloc, room, &framed)
 }
 
-/// The reached places and the prologue of a function that is well, or a place with a cause that stands there. The PUSHes of the prologue
-/// are left in the room.
-pub(crate) fn judge(
+/// The reached places and the prologue of a function; Err with a place and a cause that stands there if it isn't accepted. The PUSHes
+/// of the prologue are left in `room`.
+pub(crate) fn analyse_function(
     alloc: Global,
     room: &mut Room,
     flow_graph: &FlowGraph,
-) -> Result<Well, FrameFault>
+) -> Result<CheckedFunction, FrameFault>
     requires { flow_graph.now.start < flow_graph.now.end }
     ensures marks { IfOk result (λ w. AreMarks flow_graph.now (marks_of w.reached)) }
     ensures prologue { IfOk result (λ w. w.prologue ≡ prologue flow_graph.now (marks_of w.reached)) }
-    ensures pushes { IfOk result (λ w. map counted room.new.pushes.items ≡ pushings_of flow_graph.now (marks_of w.reached)) }
+    ensures pushes { IfOk result (λ w. map pushing_of room.new.pushes.items ≡ pushings_of flow_graph.now (marks_of w.reached)) }
     ensures well { IfOk result (λ _. IsWell flow_graph.now) }
     ensures refused { IfErr result (IsJudged flow_graph.now) }
 {
@@ -106,11 +108,11 @@ pub(crate) fn judge(
             if reached.splits(flow_graph) {
                 return Err(FrameFault::Stands(0, FrameCause::SplitEntry));
             }
-            match walk(&mut room.pushes, flow_graph, &reached) {
+            match walk_prologue(&mut room.pushes, flow_graph, &reached) {
                 Err(_) => Err(FrameFault::OutOfMemory),
                 Ok(prologue) => {
-                    solved(alloc, &mut room.solve, flow_graph, &reached, &prologue)?;
-                    Ok(Well { reached, prologue })
+                    check_facts(alloc, &mut room.solve, flow_graph, &reached, &prologue)?;
+                    Ok(CheckedFunction { reached, prologue })
                 }
             }
         }

@@ -1,5 +1,5 @@
-//! The frame checker of an image: its index, each of its functions, its types. An image that is accepted keeps what a run asks of each
-//! address. docs/checking.md states the rules.
+//! The frame checker of an image: it checks the index, each function, and the types. An accepted image stores what a run needs to know
+//! of each address. docs/rules/acceptance.md states the rules.
 #![tactic(auto)]
 
 pub mod accepted;
@@ -15,7 +15,7 @@ pub mod roots;
 mod walk;
 
 pub use accepted::Accepted;
-pub use checking::{check, judge_function, types_of};
+pub use checking::{check, check_unmarked, types_of};
 pub use fault::{CheckFault, Rejected};
 pub use roles::Role;
 pub use room::Room;

@@ -1,14 +1,14 @@
-//! What a run asks of the addresses of a function, put into the roles. docs/checking.md, "Look-ups".
+//! Records what a run needs to know of a function's addresses in the roles. docs/rules/acceptance.md, "What a run asks".
 ghost use Rattle.std.specs.Prelude.{◌≡◌, ℕ, ◌+◌, ◌*◌, ◌%◌, ◌^◌, ◌<◌, ◌≤◌, ◌∷◌, [], map, All, Contains, OnOk};
 ghost use Rattle.frame_reach.specs.Marks.{AreMarks};
 ghost use Rattle.frame_reach.specs.Held.{is_set, marks_of};
 ghost use Rattle.frame_reach.specs.Prologue.{prologue};
-ghost use Rattle.frame_check.specs.declared.pushes.Pushed.{Pushed as Push};
-ghost use Rattle.frame_check.specs.Pushes.{counted, pushings_of};
-ghost use Rattle.frame_check.specs.Marking.{with_instr, with_lowers, with_start, with_saves, Turned, AreInstrs, AreLowered, AreSaved, IsMarked};
+ghost use Rattle.frame_check.specs.declared.pushes.ProloguePush.{ProloguePush as Push};
+ghost use Rattle.frame_check.specs.Pushes.{pushing_of, pushings_of};
+ghost use Rattle.frame_check.specs.Marking.{with_instr, with_lowers, with_start, with_saves, ChangesRole, AreInstrs, AreLowered, AreSaved, IsMarked};
 
-use crate::judge::Well;
-use crate::pushes::{Pushed, tell};
+use crate::judge::CheckedFunction;
+use crate::pushes::{ProloguePush, put_push_saves};
 use crate::roles::Roles;
 use crate::room::Room;
 use frame_graph::FlowGraph;
@@ -17,9 +17,9 @@ use std::alloc::AllocError;
 /// Marks an address as a checked instruction.
 fn mark_instr(roles: &mut Roles, a: u32) -> Result<(), AllocError>
     requires { a % 2 ≡ 0 }
-    ensures { OnOk result (Turned with_instr a roles.old roles.new) }
+    ensures { OnOk result (ChangesRole with_instr a roles.old roles.new) }
 {
-    let mut role = roles.look(a);
+    let mut role = roles.look_up_role(a);
     role.is_instr = true;
     roles.put(a, role)
 }
@@ -27,9 +27,9 @@ fn mark_instr(roles: &mut Roles, a: u32) -> Result<(), AllocError>
 /// Marks an address as a lowering place.
 fn mark_lowers(roles: &mut Roles, a: u32) -> Result<(), AllocError>
     requires { a % 2 ≡ 0 }
-    ensures { OnOk result (Turned with_lowers a roles.old roles.new) }
+    ensures { OnOk result (ChangesRole with_lowers a roles.old roles.new) }
 {
-    let mut role = roles.look(a);
+    let mut role = roles.look_up_role(a);
     role.lowers = true;
     roles.put(a, role)
 }
@@ -37,19 +37,19 @@ fn mark_lowers(roles: &mut Roles, a: u32) -> Result<(), AllocError>
 /// Marks an address as a function's start.
 fn mark_start(roles: &mut Roles, a: u32) -> Result<(), AllocError>
     requires { a % 2 ≡ 0 }
-    ensures { OnOk result (Turned with_start a roles.old roles.new) }
+    ensures { OnOk result (ChangesRole with_start a roles.old roles.new) }
 {
-    let mut role = roles.look(a);
+    let mut role = roles.look_up_role(a);
     role.is_function = true;
     roles.put(a, role)
 }
 
-/// Marks the saves of a PUSH.
-fn mark_push(roles: &mut Roles, push: &Pushed) -> Result<(), AllocError>
+/// Records the saves of a PUSH.
+fn mark_push(roles: &mut Roles, push: &ProloguePush) -> Result<(), AllocError>
     requires { push.now.at % 2 ≡ 0 }
-    ensures { OnOk result (Turned (with_saves push.now.saves) push.now.at roles.old roles.new) }
+    ensures { OnOk result (ChangesRole (with_saves push.now.saves) push.now.at roles.old roles.new) }
 {
-    let mut role = roles.look(push.at);
+    let mut role = roles.look_up_role(push.at);
     role.saves = push.saves;
     roles.put(push.at, role)
 }
@@ -66,7 +66,7 @@ fn mark_places(roles: &mut Roles, flow_graph: &FlowGraph, places: &[u32]) -> Res
     Ok(())
 }
 
-/// Marks a place of a function, where it is a lowering place.
+/// Marks a place of a function if it is a lowering place.
 fn mark_lowering(
     roles: &mut Roles,
     flow_graph: &FlowGraph,
@@ -84,7 +84,7 @@ fn mark_lowering(
     }
 }
 
-/// Marks those places of a function that are lowering places.
+/// Marks those of a function's places that are lowering places.
 fn mark_lowerings(
     roles: &mut Roles,
     flow_graph: &FlowGraph,
@@ -101,8 +101,8 @@ fn mark_lowerings(
     Ok(())
 }
 
-/// Marks the saves of PUSHes.
-fn mark_pushes(roles: &mut Roles, pushes: &[Pushed]) -> Result<(), AllocError>
+/// Records the saves of PUSHes.
+fn mark_pushes(roles: &mut Roles, pushes: &[ProloguePush]) -> Result<(), AllocError>
     requires { All (λ (x : Push). x.at % 2 ≡ 0) pushes.now }
     ensures { OnOk result (AreSaved pushes.now roles.old roles.new) }
 {
@@ -112,16 +112,17 @@ fn mark_pushes(roles: &mut Roles, pushes: &[Pushed]) -> Result<(), AllocError>
     Ok(())
 }
 
-/// Marks the checked instructions of a function, its lowering places, its start, and its prologue's saves. The room has its PUSHes.
+/// Marks the checked instructions of a function, its lowering places, its start, and its prologue's saves. `room` must have the PUSHes
+/// of its prologue.
 pub(crate) fn mark(
     room: &mut Room,
     roles: &mut Roles,
     flow_graph: &FlowGraph,
-    well: &Well,
+    well: &CheckedFunction,
 ) -> Result<(), AllocError>
     requires even { flow_graph.now.start % 2 ≡ 0 }
     requires prologue { well.now.prologue ≡ prologue flow_graph.now (marks_of well.now.reached) }
-    requires pushes { map counted room.old.pushes.items ≡ pushings_of flow_graph.now (marks_of well.now.reached) }
+    requires pushes { map pushing_of room.old.pushes.items ≡ pushings_of flow_graph.now (marks_of well.now.reached) }
     requires some { flow_graph.now.start < flow_graph.now.end }
     requires low { flow_graph.now.end + 4 ≤ 2 ^ 32 }
     requires marks { AreMarks flow_graph.now (marks_of well.now.reached) }
@@ -132,6 +133,6 @@ pub(crate) fn mark(
     mark_places(roles, flow_graph, found)?;
     mark_lowerings(roles, flow_graph, well.reached.reached(), found)?;
     mark_start(roles, flow_graph.start())?;
-    tell(&mut room.pushed, &well.prologue, &room.pushes)?;
+    put_push_saves(&mut room.pushed, &well.prologue, &room.pushes)?;
     mark_pushes(roles, &room.pushed)
 }

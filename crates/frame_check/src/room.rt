@@ -1,22 +1,24 @@
-//! Lists that the check of a function fills.
-use crate::pushes::{PushAt, Pushed};
+//! Memory that the check of a function uses.
+use crate::pushes::{OpenPush, ProloguePush};
 use frame_flow::SolveRoom;
-use frame_reach::{ReachRoom, Reached};
+use frame_reach::{ReachMarks, ReachRoom};
 use std::alloc::Global;
 
-/// Room for the check of a function. What it holds before doesn't matter: it is lent, from one function to the next.
+/// Memory for the check of a function, reused from one function to the next. Its contents don't matter.
 #[derive(Drop)]
 pub struct Room {
+    /// For the search of the reached places.
     pub(crate) reach: ReachRoom,
+    /// For computing the facts.
     pub(crate) solve: SolveRoom,
-    /// The PUSHes of its prologue.
-    pub(crate) pushes: Vec<PushAt>,
-    /// What is told of them.
-    pub(crate) pushed: Vec<Pushed>,
+    /// The PUSHes of the prologue.
+    pub(crate) pushes: Vec<OpenPush>,
+    /// The PUSHes of the prologue, with their saves.
+    pub(crate) pushed: Vec<ProloguePush>,
 }
 
 impl Room {
-    /// It has no memory yet.
+    /// Holds no memory yet.
     pub fn new(alloc: Global) -> Room {
         Room {
             reach: ReachRoom::new(alloc),
@@ -26,8 +28,8 @@ impl Room {
         }
     }
 
-    /// Keeps marks that are asked for nothing more, so that those of the next function have their lists.
-    pub fn keep(&mut self, marks: Reached) {
+    /// Gives back marks that aren't needed any more, so that the next function reuses their memory.
+    pub fn keep(&mut self, marks: ReachMarks) {
         self.reach.keep(marks);
     }
 }

@@ -1,14 +1,14 @@
-//! The types that an image's exceptions may have. docs/checking.md, "Types".
+//! The types that an image's exceptions may have. docs/rules/acceptance.md, "Types".
 ghost use Rattle.std.specs.Prelude.{◌≡◌, ◌++◌, [], if◌then◌else◌, IfOk, OnOk};
 ghost use Rattle.std.specs.List.{flat_map, range_with_len};
 ghost use Rattle.eh_desc.specs.Grammar.{type_in};
-ghost use Rattle.frame_check.specs.Roots.{type_at, listed, catch_types, kind_types, item_types, entry_types, same_body, same_entry, roots_of};
+ghost use Rattle.frame_check.specs.Roots.{type_at, spec_root, catch_types, kind_types, item_types, entry_types, same_body, same_entry, roots_of};
 
 use eh_desc::{CatchType, Desc, DescFault, DescKind, Descs, spec_type};
 use eh_index::{Entry, EntryBody, Index};
 use std::alloc::{AllocError, Global};
 
-/// Adds a type; 0 is none.
+/// Adds a type; does nothing for 0.
 fn add_type(roots: &mut Vec<u32>, ty: u32) -> Result<(), AllocError>
     ensures { OnOk result (roots.new.items ≡ roots.old.items ++ type_at ty) }
 {
@@ -28,9 +28,9 @@ fn add_catch(roots: &mut Vec<u32>, ty: CatchType) -> Result<(), AllocError>
     }
 }
 
-/// Adds a type of a specification, where there is one.
-fn add_listed(roots: &mut Vec<u32>, ty: Option<u32>) -> Result<(), AllocError>
-    ensures { OnOk result (roots.new.items ≡ roots.old.items ++ listed ty) }
+/// Adds a type of a specification, if there is one.
+fn add_spec_root(roots: &mut Vec<u32>, ty: Option<u32>) -> Result<(), AllocError>
+    ensures { OnOk result (roots.new.items ≡ roots.old.items ++ spec_root ty) }
 {
     match ty {
         None => Ok(()),
@@ -38,17 +38,17 @@ fn add_listed(roots: &mut Vec<u32>, ty: Option<u32>) -> Result<(), AllocError>
     }
 }
 
-/// Adds the first `count` types of a descriptor that is a specification.
+/// Adds the first `count` types of a specification; none for another descriptor.
 fn add_listed_types(
     roots: &mut Vec<u32>,
     index: &Index,
     d: &Desc,
     count: u32,
 ) -> Result<(), AllocError>
-    ensures { OnOk result (roots.new.items ≡ roots.old.items ++ flat_map (λ i. listed (type_in index.now.segments d.now.kind i)) (range_with_len 0 count)) }
+    ensures { OnOk result (roots.new.items ≡ roots.old.items ++ flat_map (λ i. spec_root (type_in index.now.segments d.now.kind i)) (range_with_len 0 count)) }
 {
     for i in 0..count {
-        add_listed(roots, spec_type(index, d, i))?;
+        add_spec_root(roots, spec_type(index, d, i))?;
     }
     Ok(())
 }
@@ -112,7 +112,7 @@ fn is_same_entry(a: Option<Entry>, b: Option<Entry>) -> bool
     }
 }
 
-/// The same, where it isn't the entry before.
+/// As `add_entry`, unless it is the same entry as the one before.
 fn add_other(
     roots: &mut Vec<u32>,
     index: &Index,
@@ -128,8 +128,8 @@ fn add_other(
     }
 }
 
-/// The types that the descriptors of an image's functions name, function by function, and after them its type symbols. An entry that
-/// covers several functions is looked at once.
+/// The types that the descriptors of an image's functions name, function by function, and then its type symbols. An entry that covers
+/// several consecutive functions is read once.
 #[tactic(auto, unfolding(crate::specs::Roots::roots_of))]
 pub fn roots_of(alloc: Global, index: &Index) -> Result<Vec<u32>, AllocError>
     ensures { IfOk result (λ roots. roots.items ≡ roots_of index.now) }

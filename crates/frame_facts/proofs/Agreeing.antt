@@ -18,22 +18,22 @@ use Rattle.frame_facts.specs.declared.saves.Prologue.{Prologue}
 use Rattle.frame_facts.specs.Facts.{source, is_entry, IsVaguer, IsAtMost}
 use Rattle.frame_facts.specs.Saves.{word}
 use Rattle.frame_facts.specs.Branches.{call_changes}
-use Rattle.frame_facts.specs.Agrees.{at_site, stack_place, base_at, is_lost, word_from, source_found, lies_whole, in_frame, gives_cfa, gives, has_no_room, fails, answer, agreed}
+use Rattle.frame_facts.specs.Agrees.{at_site, stack_place, base_at, is_lost, word_from, recipe_source, lies_whole, in_frame, gives_cfa, gives_caller_value, has_no_room, fails_register, agreement_by, agreement}
 use Rattle.frame_facts.proofs.Vaguer.{source_vaguer, clobbered_vaguer}
 use Rattle.frame_facts.proofs.Following.{word_vaguer, entry_vaguer}
 
 module _ (p : Prologue) (r : Recipe) (is_call : Bool) (f here : Fact) where
-  agreed_is : here ≡ at_site is_call f → answer (find (fails p r is_call here) numbers) (is_lost r here) r.base ≡ agreed p r is_call f
-  agreed_is e = ap (λ g. answer (find (fails p r is_call g) numbers) (is_lost r g) r.base) e
+  agreed_is : here ≡ at_site is_call f → agreement_by (find (fails_register p r is_call here) numbers) (is_lost r here) r.base ≡ agreement p r is_call f
+  agreed_is e = ap (λ g. agreement_by (find (fails_register p r is_call g) numbers) (is_lost r g) r.base) e
 
-  pub agreed_lost : here ≡ at_site is_call f → find (fails p r is_call here) numbers ≡ None → is_lost r here ≡ true → Err (FramePointerLost r.base) ≡ agreed p r is_call f
-  agreed_lost e none lost = sym (ap (λ o. answer o (is_lost r here) r.base) none ∙ ap (λ b. answer None b r.base) lost) ∙ agreed_is e
+  pub agreed_lost : here ≡ at_site is_call f → find (fails_register p r is_call here) numbers ≡ None → is_lost r here ≡ true → Err (FramePointerLost r.base) ≡ agreement p r is_call f
+  agreed_lost e none lost = sym (ap (λ o. agreement_by o (is_lost r here) r.base) none ∙ ap (λ b. agreement_by None b r.base) lost) ∙ agreed_is e
 
-  pub agreed_ok : here ≡ at_site is_call f → find (fails p r is_call here) numbers ≡ None → is_lost r here ≡ false → Ok tt ≡ agreed p r is_call f
-  agreed_ok e none lost = sym (ap (λ o. answer o (is_lost r here) r.base) none ∙ ap (λ b. answer None b r.base) lost) ∙ agreed_is e
+  pub agreed_ok : here ≡ at_site is_call f → find (fails_register p r is_call here) numbers ≡ None → is_lost r here ≡ false → Ok tt ≡ agreement p r is_call f
+  agreed_ok e none lost = sym (ap (λ o. agreement_by o (is_lost r here) r.base) none ∙ ap (λ b. agreement_by None b r.base) lost) ∙ agreed_is e
 
-pub agreed_fails : (p : Prologue) (r : Recipe) (is_call : Bool) (f here : Fact) (reg : ℕ) → here ≡ at_site is_call f → find (fails p r is_call here) numbers ≡ Some reg → Err (CallState reg) ≡ agreed p r is_call f
-agreed_fails p r is_call f here reg e some = sym (ap (λ o. answer o (is_lost r here) r.base) some) ∙ ap (λ g. answer (find (fails p r is_call g) numbers) (is_lost r g) r.base) e
+pub agreed_fails : (p : Prologue) (r : Recipe) (is_call : Bool) (f here : Fact) (reg : ℕ) → here ≡ at_site is_call f → find (fails_register p r is_call here) numbers ≡ Some reg → Err (CallState reg) ≡ agreement p r is_call f
+agreed_fails p r is_call f here reg e some = sym (ap (λ o. agreement_by o (is_lost r here) r.base) some) ∙ ap (λ g. agreement_by (find (fails_register p r is_call g) numbers) (is_lost r g) r.base) e
 
 -- ---- on a fact that is less vague
 
@@ -74,7 +74,7 @@ from_vaguer p f g base offset x = split (base_at g base) refl
     split None e = inr refl
     split (Some k) e = subst (λ o. IsVaguer (word_from p f o offset) (word p g.kept k offset)) (sym (base_follows f g base k x e)) (word_vaguer p f.kept g.kept k offset x.kept)
 
-found_vaguer : (p : Prologue) (r : Recipe) (f g : Fact) (reg : ℕ) (src : Src) → IsAtMost f g → IsVaguer (source_found p r f reg src) (source_found p r g reg src)
+found_vaguer : (p : Prologue) (r : Recipe) (f g : Fact) (reg : ℕ) (src : Src) → IsAtMost f g → IsVaguer (recipe_source p r f reg src) (recipe_source p r g reg src)
 found_vaguer p r f g reg Same x = source_vaguer f g (cond (eqb reg 15) 14 reg) x
 found_vaguer p r f g reg (FromSp offset) x = from_vaguer p f g 13 offset x
 found_vaguer p r f g reg (FromBase offset) x = from_vaguer p f g r.base offset x
@@ -102,27 +102,27 @@ true_either : (b a a' c c' : Bool) → (a' ≡ true → a ≡ true) → (c' ≡ 
 true_either true a a' c c' v w = v
 true_either false a a' c c' v w = w
 
-gives_follows : (p : Prologue) (r : Recipe) (f g : Fact) (reg : ℕ) → IsAtMost f g → gives p r g reg ≡ true → gives p r f reg ≡ true
+gives_follows : (p : Prologue) (r : Recipe) (f g : Fact) (reg : ℕ) → IsAtMost f g → gives_caller_value p r g reg ≡ true → gives_caller_value p r f reg ≡ true
 gives_follows p r f g reg x =
     let src = get_or r.src reg Same in
     let seen = found_vaguer p r f g reg src x in
     true_either (eqb reg 13) (gives_cfa r f) (gives_cfa r g)
-    (cond (eqb reg 15) (is_entry 14 (source_found p r f reg src)) (cond (leb 4 reg && ltb reg 12) (is_entry reg (source_found p r f reg src)) (in_frame r f src)))
-    (cond (eqb reg 15) (is_entry 14 (source_found p r g reg src)) (cond (leb 4 reg && ltb reg 12) (is_entry reg (source_found p r g reg src)) (in_frame r g src)))
+    (cond (eqb reg 15) (is_entry 14 (recipe_source p r f reg src)) (cond (leb 4 reg && ltb reg 12) (is_entry reg (recipe_source p r f reg src)) (in_frame r f src)))
+    (cond (eqb reg 15) (is_entry 14 (recipe_source p r g reg src)) (cond (leb 4 reg && ltb reg 12) (is_entry reg (recipe_source p r g reg src)) (in_frame r g src)))
     (cfa_follows r f g x)
-    (true_either (eqb reg 15) (is_entry 14 (source_found p r f reg src)) (is_entry 14 (source_found p r g reg src))
-    (cond (leb 4 reg && ltb reg 12) (is_entry reg (source_found p r f reg src)) (in_frame r f src)) (cond (leb 4 reg && ltb reg 12) (is_entry reg (source_found p r g reg src)) (in_frame r g src))
-    (entry_vaguer 14 (source_found p r f reg src) (source_found p r g reg src) seen)
-    (true_either (leb 4 reg && ltb reg 12) (is_entry reg (source_found p r f reg src)) (is_entry reg (source_found p r g reg src)) (in_frame r f src) (in_frame r g src)
-    (entry_vaguer reg (source_found p r f reg src) (source_found p r g reg src) seen) (frame_follows r f g src x)))
+    (true_either (eqb reg 15) (is_entry 14 (recipe_source p r f reg src)) (is_entry 14 (recipe_source p r g reg src))
+    (cond (leb 4 reg && ltb reg 12) (is_entry reg (recipe_source p r f reg src)) (in_frame r f src)) (cond (leb 4 reg && ltb reg 12) (is_entry reg (recipe_source p r g reg src)) (in_frame r g src))
+    (entry_vaguer 14 (recipe_source p r f reg src) (recipe_source p r g reg src) seen)
+    (true_either (leb 4 reg && ltb reg 12) (is_entry reg (recipe_source p r f reg src)) (is_entry reg (recipe_source p r g reg src)) (in_frame r f src) (in_frame r g src)
+    (entry_vaguer reg (recipe_source p r f reg src) (recipe_source p r g reg src) seen) (frame_follows r f g src x)))
 
 -- where the frame pointer is known, a register that is fine stays so
-fails_follows : (p : Prologue) (r : Recipe) (is_call : Bool) (f g : Fact) (reg : ℕ) → IsAtMost f g → is_lost r g ≡ false → fails p r is_call g reg ≡ false → fails p r is_call f reg ≡ false
+fails_follows : (p : Prologue) (r : Recipe) (is_call : Bool) (f g : Fact) (reg : ℕ) → IsAtMost f g → is_lost r g ≡ false → fails_register p r is_call g reg ≡ false → fails_register p r is_call f reg ≡ false
 fails_follows p r is_call f g reg x l h =
-    let a = neither (has_no_room is_call g reg) (not (is_lost r g) && not (gives p r g reg)) h in
-    let good : gives p r g reg ≡ true = found_good (is_lost r g) (gives p r g reg) l a.1 in
-    ap (λ b. b || (not (is_lost r f) && not (gives p r f reg))) (ap (λ d. is_call && eqb reg 14 && ltb d 4) x.depth ∙ a.0)
-    ∙ ap (λ b. not b && not (gives p r f reg)) (lost_follows r f g x l)
+    let a = neither (has_no_room is_call g reg) (not (is_lost r g) && not (gives_caller_value p r g reg)) h in
+    let good : gives_caller_value p r g reg ≡ true = found_good (is_lost r g) (gives_caller_value p r g reg) l a.1 in
+    ap (λ b. b || (not (is_lost r f) && not (gives_caller_value p r f reg))) (ap (λ d. is_call && eqb reg 14 && ltb d 4) x.depth ∙ a.0)
+    ∙ ap (λ b. not b && not (gives_caller_value p r f reg)) (lost_follows r f g x l)
     ∙ ap not (gives_follows p r f g reg x good)
   where
     neither : (a b : Bool) → (a || b) ≡ false → (a ≡ false) × (b ≡ false)
@@ -142,7 +142,7 @@ none_follows q r (k ∷ xs) h e = split (r k) refl (λ d. none_follows q r xs h 
     split true d rest e = absurd (none-some k (sym e))
     split false d rest e = ap (λ b. cond b (Some k) (find q xs)) (h k d) ∙ rest e
 
-answer_parts : (o : Option ℕ) (lost : Bool) (base : ℕ) → answer o lost base ≡ Ok tt → (o ≡ None) × (lost ≡ false)
+answer_parts : (o : Option ℕ) (lost : Bool) (base : ℕ) → agreement_by o lost base ≡ Ok tt → (o ≡ None) × (lost ≡ false)
 answer_parts (Some reg) lost base h = absurd (err_ok (CallState reg) h)
   where
     err_ok : (e : FrameCause) → (let r : Result (Unit {0}) FrameCause = Err e in r) ≡ Ok tt → ⊥
@@ -154,10 +154,10 @@ answer_parts None true base h = absurd (err_ok (FramePointerLost base) h)
 answer_parts None false base h = (refl, refl)
 
 -- where a recipe agrees with a fact, it agrees with a fact that is less vague
-pub agrees_vaguer : (p : Prologue) (r : Recipe) (is_call : Bool) (f g : Fact) → IsAtMost f g → agreed p r is_call g ≡ Ok tt → agreed p r is_call f ≡ Ok tt
+pub agrees_vaguer : (p : Prologue) (r : Recipe) (is_call : Bool) (f g : Fact) → IsAtMost f g → agreement p r is_call g ≡ Ok tt → agreement p r is_call f ≡ Ok tt
 agrees_vaguer p r is_call f g x h =
     let y = site_vaguer is_call f g x in
-    let w = answer_parts (find (fails p r is_call (at_site is_call g)) numbers) (is_lost r (at_site is_call g)) r.base h in
+    let w = answer_parts (find (fails_register p r is_call (at_site is_call g)) numbers) (is_lost r (at_site is_call g)) r.base h in
     sym (agreed_ok p r is_call f (at_site is_call f) refl
-    (none_follows (fails p r is_call (at_site is_call f)) (fails p r is_call (at_site is_call g)) numbers (λ k e. fails_follows p r is_call (at_site is_call f) (at_site is_call g) k y w.1 e) w.0)
+    (none_follows (fails_register p r is_call (at_site is_call f)) (fails_register p r is_call (at_site is_call g)) numbers (λ k e. fails_follows p r is_call (at_site is_call f) (at_site is_call g) k y w.1 e) w.0)
     (lost_follows r (at_site is_call f) (at_site is_call g) y w.1))

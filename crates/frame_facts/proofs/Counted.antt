@@ -5,7 +5,7 @@ use Rattle.std.specs.List.{filter}
 use Rattle.std.specs.Int.{bit_at}
 use Rattle.std.specs.Int.Count.{ones_step}
 use Rattle.std.proofs.lemmas.Nat.{ones-le}
-use Rattle.thumb_core.specs.Words.{listed}
+use Rattle.thumb_core.specs.Words.{registers_of_list}
 use Rattle.thumb_core.proofs.Listed.{numbers_from}
 
 -- one bit, and those of the rest
@@ -24,8 +24,8 @@ counted (suc n) k mask low =
     one_more k (mask / 2 ^ k % 2) (count_ones (mask / 2 ^ (k + 1))) (filter (λ j. bit_at mask j == 1) (numbers_from n (k + 1))) (omega arith) rest
     ∙ ap (λ (x : ℕ). mask / 2 ^ k % 2 + count_ones x) (sym half) ∙ sym (ones_step (mask / 2 ^ k))
 
-pub listed_count : (mask : ℕ) → mask < 2 ^ 16 → length (listed mask) ≡ count_ones mask
-unfolding listed
+pub listed_count : (mask : ℕ) → mask < 2 ^ 16 → length (registers_of_list mask) ≡ count_ones mask
+unfolding registers_of_list
 listed_count mask low =
     let whole : mask / 2 ^ 0 ≡ mask = omega arith in
     counted 16 0 mask (subst (λ (x : ℕ). x < 2 ^ 16) (sym whole) low) ∙ ap count_ones whole

@@ -9,11 +9,11 @@ use Rattle.std.proofs.lemmas.Option.{same_Some, none-some}
 use Rattle.std.proofs.lemmas.Int.{ints}
 use Rattle.std.proofs.lemmas.List.{get_or-set_same, get_or-set_other, get_or_past, length-set}
 use Rattle.thumb_isa.specs.declared.instr.Instr.TheVariants.{ShiftImm, AddSubImm3, Imm8, Alu, AddRdSp}
-use Rattle.thumb_isa.specs.Nature.{Derived, Shifts, AddsThree, AddsEight, Combines, AddsToSp, Nature, Works, Derives, nature}
+use Rattle.thumb_isa.specs.Nature.{Derivation, Shifts, AddsThree, AddsEight, Combines, AddsToSp, Nature, Works, Derives, nature}
 use Rattle.thumb_isa.proofs.Natures.{derived_instr, derived_is}
 use Rattle.thumb_core.proofs.Natures.{work}
 use Rattle.thumb_core.specs.declared.regs.Regs.{Regs}
-use Rattle.thumb_core.specs.Registers.{reg, word_in, with_flags, operand, pc_read, with_next, with_reg, with_pc}
+use Rattle.thumb_core.specs.Registers.{reg, word_in, with_flags, operand, pc_operand, with_next, with_reg, with_pc}
 use Rattle.thumb_core.specs.Arith.{sum_or_difference, sum_of, difference_of}
 use Rattle.thumb_core.specs.Shift.{shift_of}
 use Rattle.thumb_core.specs.Alu.{alu_of}
@@ -22,11 +22,11 @@ use Rattle.frame_facts.specs.declared.facts.Source.{Source}
 use Rattle.frame_facts.specs.declared.facts.Source.TheVariants.{Entry, SpAt, Other}
 use Rattle.frame_facts.specs.declared.facts.Fact.{Fact}
 use Rattle.frame_facts.specs.declared.facts.TheConstants.{DEEPEST}
-use Rattle.frame_facts.specs.Facts.{source, slot, with_source, lost, clobbered, sp_at, sp_plus, shifted}
+use Rattle.frame_facts.specs.Facts.{source, slot, with_source, forget_register, forget_registers, sp_at, sp_plus, offset_source}
 use Rattle.frame_facts.specs.Shifts.{shift_imm}
-use Rattle.frame_facts.specs.Data.{add_sub_imm3, imm8, alu, copied, sp_set}
-use Rattle.frame_facts.specs.After.{derived, nature_effect}
-use Rattle.frame_facts.specs.Machine.{derived_on, nature_works_on, Means, Describes, IsRoomy, DataIsDescribed, MovesAreDescribed, ClobberingIsDescribed}
+use Rattle.frame_facts.specs.Data.{add_sub_imm3, imm8, alu, copy_source, set_sp}
+use Rattle.frame_facts.specs.After.{derive_effect, nature_effect}
+use Rattle.frame_facts.specs.Machine.{written_register, nature_works_on, Means, Describes, IsRoomy, DataIsDescribed, MovesAreDescribed, ClobberingIsDescribed}
 
 -- ---- places of registers
 
@@ -63,11 +63,11 @@ few_slots d low = elim (slots d) [
 ]
 
 -- a register of which nothing is known any more
-lost_cases : (f : Fact) (r k : ℕ) → (source (lost r f) k ≡ Other) ⊎ ((source (lost r f) k ≡ source f k) × (k ≡ r → ⊥))
+lost_cases : (f : Fact) (r k : ℕ) → (source (forget_register r f) k ≡ Other) ⊎ ((source (forget_register r f) k ≡ source f k) × (k ≡ r → ⊥))
 lost_cases f r k = ⊎_elim
-    (λ (e : slot k ≡ slot r). inl (ap (λ j. get_or (lost r f).regs j Other) e ∙ ⊎_elim
+    (λ (e : slot k ≡ slot r). inl (ap (λ j. get_or (forget_register r f).regs j Other) e ∙ ⊎_elim
     (λ (l : slot r < length f.regs). get_or-set_same f.regs (slot r) Other Other l)
-    (λ (l : length f.regs ≤ slot r). get_or_past (lost r f).regs (slot r) Other (omega (arith, length-set f.regs (slot r) Other, l)))
+    (λ (l : length f.regs ≤ slot r). get_or_past (forget_register r f).regs (slot r) Other (omega (arith, length-set f.regs (slot r) Other, l)))
     (cases_lt (slot r) (length f.regs))))
     (λ (n : slot k ≡ slot r → ⊥). inr (get_or-set_other f.regs (slot r) (slot k) Other Other n, λ e. n (ap slot e)))
     (cases_eq (slot k) (slot r))
@@ -100,7 +100,7 @@ module _ (entry : ℕ → ℕ) (cfa : ℕ) where
           subst (λ j. Means entry cfa (source (with_source f d t) j) (reg new j)) (sym e) (subst (λ u. Means entry cfa u (reg new d)) (sym src) (subst (λ v. Means entry cfa t v) (sym val) means))
 
   -- of a register that an instruction may write nothing is said
-  untold : (f : Fact) (regs new : Regs) (d w : ℕ) → d ≢ 13 → IsRoomy cfa regs → Describes entry cfa f regs → new.r ≡ set regs.r d w → Describes entry cfa (lost d f) new
+  untold : (f : Fact) (regs new : Regs) (d w : ℕ) → d ≢ 13 → IsRoomy cfa regs → Describes entry cfa f regs → new.r ≡ set regs.r d w → Describes entry cfa (forget_register d f) new
   untold f regs new d w low roomy x is = written f regs new d Other w low roomy x is tt
 
   unchanged : (f : Fact) (regs new : Regs) → Describes entry cfa f regs → new.r ≡ regs.r → Describes entry cfa f new
@@ -110,12 +110,12 @@ module _ (entry : ℕ → ℕ) (cfa : ℕ) where
     sp = λ b. ap (λ r. get_or r 13 0 + f.depth) is ∙ x.sp b;
   }
 
-  clobbers : (f : Fact) (regs : Regs) (d : ℕ) → Describes entry cfa f regs → Describes entry cfa (lost d f) regs
+  clobbers : (f : Fact) (regs : Regs) (d : ℕ) → Describes entry cfa f regs → Describes entry cfa (forget_register d f) regs
   clobbers f regs d x = record {
     long = length-set f.regs (slot d) Other ∙ x.long;
     sources = λ k. ⊎_elim
-        (λ (e : source (lost d f) k ≡ Other). subst (λ t. Means entry cfa t (reg regs k)) (sym e) tt)
-        (λ (v : (source (lost d f) k ≡ source f k) × (k ≡ d → ⊥)). subst (λ t. Means entry cfa t (reg regs k)) (sym v.0) (x.sources k))
+        (λ (e : source (forget_register d f) k ≡ Other). subst (λ t. Means entry cfa t (reg regs k)) (sym e) tt)
+        (λ (v : (source (forget_register d f) k ≡ source f k) × (k ≡ d → ⊥)). subst (λ t. Means entry cfa t (reg regs k)) (sym v.0) (x.sources k))
         (lost_cases f d k);
     sp = x.sp;
   }
@@ -141,7 +141,7 @@ module _ (entry : ℕ → ℕ) (cfa : ℕ) where
       split true e = h n refl (leb-true n DEEPEST e)
       split false e = tt
 
-  moved_means : (sub : Bool) (imm : ℕ) (s : Source) (v w : ℕ) → DEEPEST ≤ cfa → cfa < 2 ^ 32 → v < 2 ^ 32 → w ≡ (sum_or_difference sub v imm).value % 2 ^ 32 → Means entry cfa s v → Means entry cfa (shifted sub imm s) w
+  moved_means : (sub : Bool) (imm : ℕ) (s : Source) (v w : ℕ) → DEEPEST ≤ cfa → cfa < 2 ^ 32 → v < 2 ^ 32 → w ≡ (sum_or_difference sub v imm).value % 2 ^ 32 → Means entry cfa s v → Means entry cfa (offset_source sub imm s) w
   moved_means sub imm (Entry k) v w room top l e m = tt
   moved_means sub imm Other v w room top l e m = tt
   moved_means true imm (SpAt o) v w room top l e m = at_place (pos o +ℤ pos imm) w (λ n z deep. let sum : o + imm ≡ n = omega (arith, ints, z) in omega (arith, room, top, l, e, m, sum, deep))
@@ -152,18 +152,18 @@ module _ (entry : ℕ → ℕ) (cfa : ℕ) where
   same_value false imm v e = omega (arith, e)
 
   imm3_described : (sub : Bool) (d n imm : ℕ) (f : Fact) (regs new : Regs) → d ≢ 13 → IsRoomy cfa regs → Describes entry cfa f regs → new.r ≡ set regs.r d (word_in d (sum_or_difference sub (reg regs n) imm).value)
-      → Describes entry cfa (with_source f d (cond (eqb imm 0) (source f n) (shifted sub imm (source f n)))) new
-  imm3_described sub d n imm f regs new low roomy x is = written f regs new d (cond (eqb imm 0) (source f n) (shifted sub imm (source f n))) (word_in d (sum_or_difference sub (reg regs n) imm).value) low roomy x is (split (eqb imm 0) refl)
+      → Describes entry cfa (with_source f d (cond (eqb imm 0) (source f n) (offset_source sub imm (source f n)))) new
+  imm3_described sub d n imm f regs new low roomy x is = written f regs new d (cond (eqb imm 0) (source f n) (offset_source sub imm (source f n))) (word_in d (sum_or_difference sub (reg regs n) imm).value) low roomy x is (split (eqb imm 0) refl)
     where
-      split : (b : Bool) → eqb imm 0 ≡ b → Means entry cfa (cond b (source f n) (shifted sub imm (source f n))) (word_in d (sum_or_difference sub (reg regs n) imm).value)
+      split : (b : Bool) → eqb imm 0 ≡ b → Means entry cfa (cond b (source f n) (offset_source sub imm (source f n))) (word_in d (sum_or_difference sub (reg regs n) imm).value)
       split true e = kept (source f n) (reg regs n) (word_in d (sum_or_difference sub (reg regs n) imm).value) (roomy.words n) (low_word d (sum_or_difference sub (reg regs n) imm).value low ∙ same_value sub imm (reg regs n) (eqb-true imm 0 e)) (x.sources n)
       split false e = moved_means sub imm (source f n) (reg regs n) (word_in d (sum_or_difference sub (reg regs n) imm).value) roomy.room roomy.top (roomy.words n) (low_word d (sum_or_difference sub (reg regs n) imm).value low) (x.sources n)
 
   shift_described : (op d m n : ℕ) (f : Fact) (regs new : Regs) → d ≢ 13 → IsRoomy cfa regs → Describes entry cfa f regs → new.r ≡ set regs.r d (word_in d (shift_of op (reg regs m) n regs.c).0)
-      → Describes entry cfa (cond (eqb op 0 && eqb n 0) (with_source f d (source f m)) (lost d f)) new
+      → Describes entry cfa (cond (eqb op 0 && eqb n 0) (with_source f d (source f m)) (forget_register d f)) new
   shift_described op d m n f regs new low roomy x is = split (eqb op 0 && eqb n 0) refl
     where
-      split : (b : Bool) → (eqb op 0 && eqb n 0) ≡ b → Describes entry cfa (cond b (with_source f d (source f m)) (lost d f)) new
+      split : (b : Bool) → (eqb op 0 && eqb n 0) ≡ b → Describes entry cfa (cond b (with_source f d (source f m)) (forget_register d f)) new
       split true e =
           let none : n ≡ 0 = eqb-true n 0 (and_parts (eqb op 0) (eqb n 0) e).1 in
           written f regs new d (source f m) (word_in d (shift_of op (reg regs m) n regs.c).0) low roomy x is
@@ -171,9 +171,9 @@ module _ (entry : ℕ → ℕ) (cfa : ℕ) where
           (low_word d (shift_of op (reg regs m) n regs.c).0 low ∙ ap (λ k. (shift_of op (reg regs m) k regs.c).0 % 2 ^ 32) none) (x.sources m))
       split false e = untold f regs new d (word_in d (shift_of op (reg regs m) n regs.c).0) low roomy x is
 
-  maybe_described : (b : Bool) (d w : ℕ) (f : Fact) (regs new : Regs) → d ≢ 13 → IsRoomy cfa regs → Describes entry cfa f regs → new.r ≡ cond b (set regs.r d w) regs.r → Describes entry cfa (lost d f) new
+  maybe_described : (b : Bool) (d w : ℕ) (f : Fact) (regs new : Regs) → d ≢ 13 → IsRoomy cfa regs → Describes entry cfa f regs → new.r ≡ cond b (set regs.r d w) regs.r → Describes entry cfa (forget_register d f) new
   maybe_described true d w f regs new low roomy x is = untold f regs new d w low roomy x is
-  maybe_described false d w f regs new low roomy x is = unchanged (lost d f) regs new (clobbers f regs d x) is
+  maybe_described false d w f regs new low roomy x is = unchanged (forget_register d f) regs new (clobbers f regs d x) is
 
   unwritten : (op x y : ℕ) (regs : Regs) → (eqb op 8 || eqb op 10 || eqb op 11) ≡ true → (alu_of op x y regs).written ≡ false
   unwritten op x y regs e = split (eqb op 8) (eqb op 10) (eqb op 11) refl refl refl e
@@ -186,10 +186,10 @@ module _ (entry : ℕ → ℕ) (cfa : ℕ) where
 
   alu_described : (op d m : ℕ) (f : Fact) (regs new : Regs) → d ≢ 13 → IsRoomy cfa regs → Describes entry cfa f regs
       → new.r ≡ cond (alu_of op (reg regs d) (reg regs m) regs).written (set regs.r d (word_in d (alu_of op (reg regs d) (reg regs m) regs).value)) regs.r
-      → Describes entry cfa (cond (eqb op 8 || eqb op 10 || eqb op 11) f (lost d f)) new
+      → Describes entry cfa (cond (eqb op 8 || eqb op 10 || eqb op 11) f (forget_register d f)) new
   alu_described op d m f regs new low roomy x is = split (eqb op 8 || eqb op 10 || eqb op 11) refl
     where
-      split : (b : Bool) → (eqb op 8 || eqb op 10 || eqb op 11) ≡ b → Describes entry cfa (cond b f (lost d f)) new
+      split : (b : Bool) → (eqb op 8 || eqb op 10 || eqb op 11) ≡ b → Describes entry cfa (cond b f (forget_register d f)) new
       split true e = unchanged f regs new x (is ∙ ap (λ t. cond t (set regs.r d (word_in d (alu_of op (reg regs d) (reg regs m) regs).value)) regs.r) (unwritten op (reg regs d) (reg regs m) regs e))
       split false e = maybe_described (alu_of op (reg regs d) (reg regs m) regs).written d (word_in d (alu_of op (reg regs d) (reg regs m) regs).value) f regs new low roomy x is
 
@@ -205,13 +205,13 @@ module _ (entry : ℕ → ℕ) (cfa : ℕ) where
   imm8_described : (op d imm : ℕ) (f : Fact) (regs : Regs) → d ≢ 13 → IsRoomy cfa regs → Describes entry cfa f regs → Describes entry cfa (imm8 op d imm f) (data_effect (Imm8 op d imm) regs)
   imm8_described op d imm f regs low roomy x = split (eqb op 0) (eqb op 1) (eqb op 2)
     where
-      raised : (sub : Bool) (new : Regs) → new.r ≡ set regs.r d (word_in d (sum_or_difference sub (reg regs d) imm).value) → Describes entry cfa (with_source f d (shifted sub imm (source f d))) new
+      raised : (sub : Bool) (new : Regs) → new.r ≡ set regs.r d (word_in d (sum_or_difference sub (reg regs d) imm).value) → Describes entry cfa (with_source f d (offset_source sub imm (source f d))) new
       raised sub new is =
-          written f regs new d (shifted sub imm (source f d)) (word_in d (sum_or_difference sub (reg regs d) imm).value) low roomy x is
+          written f regs new d (offset_source sub imm (source f d)) (word_in d (sum_or_difference sub (reg regs d) imm).value) low roomy x is
           (moved_means sub imm (source f d) (reg regs d) (word_in d (sum_or_difference sub (reg regs d) imm).value) roomy.room roomy.top (roomy.words d) (low_word d (sum_or_difference sub (reg regs d) imm).value low) (x.sources d))
 
       split : (a b c : Bool)
-          → Describes entry cfa (cond a (lost d f) (cond b f (with_source f d (shifted (not c) imm (source f d)))))
+          → Describes entry cfa (cond a (forget_register d f) (cond b f (with_source f d (offset_source (not c) imm (source f d)))))
           (cond a (with_value d imm regs) (cond b (with_flags regs (difference_of (reg regs d) imm)) (cond c (with_sum d (sum_of (reg regs d) imm 0) regs) (with_sum d (difference_of (reg regs d) imm) regs))))
       split true b c = untold f regs (with_value d imm regs) d (word_in d imm) low roomy x refl
       split false true c = unchanged f regs (with_flags regs (difference_of (reg regs d) imm)) x refl
@@ -225,8 +225,8 @@ for_d P d d' e h = subst P (sym (same_Some d d' e)) h
 to_g : (entry : ℕ → ℕ) (cfa : ℕ) (regs : Regs) (f g : Fact) → Some f ≡ Some g → Describes entry cfa f regs → Describes entry cfa g regs
 to_g entry cfa regs f g e x = subst (λ h. Describes entry cfa h regs) (same_Some f g e) x
 
-derived_described : (entry : ℕ → ℕ) (cfa : ℕ) (v : Derived) (d' : ℕ) (f g : Fact) (regs : Regs) → derived_on v ≡ Some d' → d' ≢ 13 → IsRoomy cfa regs → Describes entry cfa f regs
-    → Some (derived v f) ≡ Some g → Describes entry cfa g (data_effect (derived_instr v) regs)
+derived_described : (entry : ℕ → ℕ) (cfa : ℕ) (v : Derivation) (d' : ℕ) (f g : Fact) (regs : Regs) → written_register v ≡ Some d' → d' ≢ 13 → IsRoomy cfa regs → Describes entry cfa f regs
+    → Some (derive_effect v f) ≡ Some g → Describes entry cfa g (data_effect (derived_instr v) regs)
 derived_described entry cfa (Shifts op d m n) d' f g regs on low roomy x e =
     to_g entry cfa (data_effect (ShiftImm op d m n) regs) (shift_imm op d m n f) g e (shift_described entry cfa op d m n f regs (data_effect (ShiftImm op d m n) regs) (for_d (λ k. k ≢ 13) d d' on low) roomy x refl)
 derived_described entry cfa (AddsThree sub d n imm) d' f g regs on low roomy x e =
@@ -245,7 +245,7 @@ data_described entry cfa p lowers at i d' f g regs on low roomy x e = by_nature 
     by_nature : (n : Nature) → nature i ≡ n → nature_works_on n ≡ Some d' → nature_effect p lowers at n f ≡ Some g → Describes entry cfa g (data_effect i regs)
     by_nature (Works d) s on e =
         let w = work i d s in
-        to_g entry cfa (data_effect i regs) (lost d f) g e (untold entry cfa f regs (data_effect i regs) d (word_in d (w.value regs)) (for_d (λ k. k ≢ 13) d d' on low) roomy x (w.writes regs))
+        to_g entry cfa (data_effect i regs) (forget_register d f) g e (untold entry cfa f regs (data_effect i regs) d (word_in d (w.value regs)) (for_d (λ k. k ≢ 13) d d' on low) roomy x (w.writes regs))
     by_nature (Derives v) s on e = subst (λ j. Describes entry cfa g (data_effect j regs)) (sym (derived_is i v s)) (derived_described entry cfa v d' f g regs on low roomy x e)
     by_nature n s on e = absurd (none-some d' on)
 
@@ -262,13 +262,13 @@ module _ (entry : ℕ → ℕ) (cfa d m : ℕ) (f : Fact) (regs : Regs) (low : d
   pc_unknown : m ≡ 15 → source f m ≡ Other
   pc_unknown e = ap (source f) e ∙ get_or_past f.regs 14 Other (let l : length f.regs ≤ 14 = omega (arith, x.long) in l)
 
-  copy_means : Means entry cfa (copied m f) (word_in d (operand regs m))
+  copy_means : Means entry cfa (copy_source m f) (word_in d (operand regs m))
   copy_means = split (eqb m 13) (eqb m 15) refl refl
     where
-      split : (a b : Bool) → eqb m 13 ≡ a → eqb m 15 ≡ b → Means entry cfa (cond a (sp_plus f (pos 0)) (source f m)) (word_in d (cond b (pc_read regs) (reg regs m)))
+      split : (a b : Bool) → eqb m 13 ≡ a → eqb m 15 ≡ b → Means entry cfa (cond a (sp_plus f (pos 0)) (source f m)) (word_in d (cond b (pc_operand regs) (reg regs m)))
       split true true p q = absurd (omega (arith, eqb-true m 13 p, eqb-true m 15 q))
       split true false p q = sp_copied (word_in d (reg regs m)) (low_word entry cfa d (reg regs m) low ∙ ap (λ k. reg regs k % 2 ^ 32) (eqb-true m 13 p))
-      split false true p q = subst (λ s. Means entry cfa s (word_in d (pc_read regs))) (sym (pc_unknown (eqb-true m 15 q))) tt
+      split false true p q = subst (λ s. Means entry cfa s (word_in d (pc_operand regs))) (sym (pc_unknown (eqb-true m 15 q))) tt
       split false false p q = kept entry cfa (source f m) (reg regs m) (word_in d (reg regs m)) (roomy.words m) (low_word entry cfa d (reg regs m) low) (x.sources m)
 
 pub moves_described : MovesAreDescribed
@@ -278,12 +278,12 @@ moves_described entry cfa p lowers at d m size f g regs low roomy x e =
     no_sp : d ≢ 13
     no_sp q = omega (arith, low, q)
 
-    done : Some (with_source f d (copied m f)) ≡ Some g → Describes entry cfa g (with_next size (with_reg regs d (operand regs m)))
-    done h = to_g entry cfa (with_next size (with_reg regs d (operand regs m))) (with_source f d (copied m f)) g h
-        (written entry cfa f regs (with_next size (with_reg regs d (operand regs m))) d (copied m f) (word_in d (operand regs m)) no_sp roomy x refl (copy_means entry cfa d m f regs no_sp roomy x))
+    done : Some (with_source f d (copy_source m f)) ≡ Some g → Describes entry cfa g (with_next size (with_reg regs d (operand regs m)))
+    done h = to_g entry cfa (with_next size (with_reg regs d (operand regs m))) (with_source f d (copy_source m f)) g h
+        (written entry cfa f regs (with_next size (with_reg regs d (operand regs m))) d (copy_source m f) (word_in d (operand regs m)) no_sp roomy x refl (copy_means entry cfa d m f regs no_sp roomy x))
 
     by_d : (a b : Bool) → eqb d 13 ≡ a → eqb d 15 ≡ b
-        → cond a (cond lowers (Some (let r : Fact = record f { below = true } in r)) (sp_set p (copied m f) f)) (Some (with_source f d (copied m f))) ≡ Some g
+        → cond a (cond lowers (Some (let r : Fact = record f { below = true } in r)) (set_sp p (copy_source m f) f)) (Some (with_source f d (copy_source m f))) ≡ Some g
         → Describes entry cfa g (cond b (with_pc regs (operand regs m)) (with_next size (with_reg regs d (operand regs m))))
     by_d true b q r h = absurd (omega (arith, low, eqb-true d 13 q))
     by_d false true q r h = absurd (omega (arith, low, eqb-true d 15 r))
@@ -294,19 +294,19 @@ moves_described entry cfa p lowers at d m size f g regs low roomy x e =
 differs : (a b : ℕ) → (b ≡ a → ⊥) → eqb a b ≡ false
 differs a b n = ⊎_elim (λ (e : eqb a b ≡ true). absurd (n (sym (eqb-true a b e)))) (λ (e : eqb a b ≡ false). e) (cases_Bool (eqb a b))
 
-clobbered_cases : (xs : List ℕ) (f : Fact) (k : ℕ) → (source (clobbered xs f) k ≡ Other) ⊎ ((source (clobbered xs f) k ≡ source f k) × (list_any (λ j. eqb j k) xs ≡ false))
+clobbered_cases : (xs : List ℕ) (f : Fact) (k : ℕ) → (source (forget_registers xs f) k ≡ Other) ⊎ ((source (forget_registers xs f) k ≡ source f k) × (list_any (λ j. eqb j k) xs ≡ false))
 clobbered_cases [] f k = inr (refl, refl)
 clobbered_cases (r ∷ xs) f k = ⊎_elim
-    (λ (e : source (clobbered xs (lost r f)) k ≡ Other). inl e)
-    (λ (w : (source (clobbered xs (lost r f)) k ≡ source (lost r f) k) × (list_any (λ j. eqb j k) xs ≡ false)). ⊎_elim
-    (λ (e : source (lost r f) k ≡ Other). inl (w.0 ∙ e))
-    (λ (v : (source (lost r f) k ≡ source f k) × (k ≡ r → ⊥)). inr (w.0 ∙ v.0, ap (λ b. b || list_any (λ j. eqb j k) xs) (differs r k v.1) ∙ w.1))
+    (λ (e : source (forget_registers xs (forget_register r f)) k ≡ Other). inl e)
+    (λ (w : (source (forget_registers xs (forget_register r f)) k ≡ source (forget_register r f) k) × (list_any (λ j. eqb j k) xs ≡ false)). ⊎_elim
+    (λ (e : source (forget_register r f) k ≡ Other). inl (w.0 ∙ e))
+    (λ (v : (source (forget_register r f) k ≡ source f k) × (k ≡ r → ⊥)). inr (w.0 ∙ v.0, ap (λ b. b || list_any (λ j. eqb j k) xs) (differs r k v.1) ∙ w.1))
     (lost_cases f r k))
-    (clobbered_cases xs (lost r f) k)
+    (clobbered_cases xs (forget_register r f) k)
 
-clobbered_same : (xs : List ℕ) (f : Fact) → (length (clobbered xs f).regs ≡ length f.regs) × ((clobbered xs f).below ≡ f.below) × ((clobbered xs f).depth ≡ f.depth)
+clobbered_same : (xs : List ℕ) (f : Fact) → (length (forget_registers xs f).regs ≡ length f.regs) × ((forget_registers xs f).below ≡ f.below) × ((forget_registers xs f).depth ≡ f.depth)
 clobbered_same [] f = (refl, refl, refl)
-clobbered_same (r ∷ xs) f = let w = clobbered_same xs (lost r f) in (w.0 ∙ length-set f.regs (slot r) Other, w.1, w.2)
+clobbered_same (r ∷ xs) f = let w = clobbered_same xs (forget_register r f) in (w.0 ∙ length-set f.regs (slot r) Other, w.1, w.2)
 
 pub clobbering_described : ClobberingIsDescribed
 clobbering_described entry cfa xs f regs new x same keeps =
@@ -314,8 +314,8 @@ clobbering_described entry cfa xs f regs new x same keeps =
     record {
       long = w.0 ∙ x.long;
       sources = λ k. ⊎_elim
-          (λ (e : source (clobbered xs f) k ≡ Other). subst (λ s. Means entry cfa s (reg new k)) (sym e) tt)
-          (λ (v : (source (clobbered xs f) k ≡ source f k) × (list_any (λ j. eqb j k) xs ≡ false)).
+          (λ (e : source (forget_registers xs f) k ≡ Other). subst (λ s. Means entry cfa s (reg new k)) (sym e) tt)
+          (λ (v : (source (forget_registers xs f) k ≡ source f k) × (list_any (λ j. eqb j k) xs ≡ false)).
           subst (λ s. Means entry cfa s (reg new k)) (sym v.0) (subst (λ u. Means entry cfa (source f k) u) (sym (same k v.1)) (x.sources k)))
           (clobbered_cases xs f k);
       sp = λ b. omega (arith, same 13 keeps, w.2, x.sp (sym w.1 ∙ b));

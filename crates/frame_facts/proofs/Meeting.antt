@@ -5,7 +5,7 @@ use Rattle.std.proofs.lemmas.List.Sums.{sum_by-cons}
 use Rattle.std.specs.List.{sum_by}
 use Rattle.frame_facts.specs.declared.facts.Source.{Source}
 use Rattle.frame_facts.specs.declared.facts.Source.TheVariants.{Entry, SpAt, Other}
-use Rattle.frame_facts.specs.Facts.{same_source, met_source, met_sources, known, IsVaguer}
+use Rattle.frame_facts.specs.Facts.{same_source, met_source, met_sources, source_height, IsVaguer}
 
 met_suc : (r : ℕ) (xs ys : List Source) (d s : Source) → r < length xs → r < length ys → s ≡ met_source (get_or xs r d) (get_or ys r d)
     → take r xs ++ met_sources (drop r xs) (drop r ys) ≡ take (suc r) (set xs r s) ++ met_sources (drop (suc r) (set xs r s)) (drop (suc r) ys)
@@ -92,22 +92,22 @@ met_length [] ys = refl
 met_length (x ∷ xs) [] = ap suc (met_length xs [])
 met_length (x ∷ xs) (y ∷ ys) = ap suc (met_length xs ys)
 
-head_falls : (x m : Source) → (m ≡ x) ⊎ (m ≡ Other) → (m ≡ x) ⊎ (known m < known x)
+head_falls : (x m : Source) → (m ≡ x) ⊎ (m ≡ Other) → (m ≡ x) ⊎ (source_height m < source_height x)
 head_falls x m (inl e) = inl e
-head_falls (Entry n) m (inr e) = inr (subst (λ s. known s < 1) (sym e) (omega arith))
-head_falls (SpAt n) m (inr e) = inr (subst (λ s. known s < 1) (sym e) (omega arith))
+head_falls (Entry n) m (inr e) = inr (subst (λ s. source_height s < 1) (sym e) (omega arith))
+head_falls (SpAt n) m (inr e) = inr (subst (λ s. source_height s < 1) (sym e) (omega arith))
 head_falls Other m (inr e) = inl e
 
-two_fall : (x m : Source) (xs ms : List Source) → (m ≡ x) ⊎ (known m < known x) → (ms ≡ xs) ⊎ (sum_by known ms < sum_by known xs) → (m ∷ ms ≡ x ∷ xs) ⊎ (sum_by known (m ∷ ms) < sum_by known (x ∷ xs))
+two_fall : (x m : Source) (xs ms : List Source) → (m ≡ x) ⊎ (source_height m < source_height x) → (ms ≡ xs) ⊎ (sum_by source_height ms < sum_by source_height xs) → (m ∷ ms ≡ x ∷ xs) ⊎ (sum_by source_height (m ∷ ms) < sum_by source_height (x ∷ xs))
 two_fall x m xs ms (inl e) (inl f) = inl (ap (λ s. s ∷ ms) e ∙ ap (λ l. x ∷ l) f)
-two_fall x m xs ms (inl e) (inr f) = inr (omega (arith, sum_by-cons known m ms, sum_by-cons known x xs, ap known e, f))
-two_fall x m xs ms (inr e) (inl f) = inr (omega (arith, sum_by-cons known m ms, sum_by-cons known x xs, ap (sum_by known) f, e))
-two_fall x m xs ms (inr e) (inr f) = inr (omega (arith, sum_by-cons known m ms, sum_by-cons known x xs, e, f))
+two_fall x m xs ms (inl e) (inr f) = inr (omega (arith, sum_by-cons source_height m ms, sum_by-cons source_height x xs, ap source_height e, f))
+two_fall x m xs ms (inr e) (inl f) = inr (omega (arith, sum_by-cons source_height m ms, sum_by-cons source_height x xs, ap (sum_by source_height) f, e))
+two_fall x m xs ms (inr e) (inr f) = inr (omega (arith, sum_by-cons source_height m ms, sum_by-cons source_height x xs, e, f))
 
 met_or_other : (a b : Source) → (met_source a b ≡ a) ⊎ (met_source a b ≡ Other)
 met_or_other a b = ⊎_elim (λ (w : (a ≡ b) × (met_source a b ≡ a)). inl w.1) (λ (e : met_source a b ≡ Other). inr e) (met_cases a b)
 
-pub met_falls : (xs ys : List Source) → (met_sources xs ys ≡ xs) ⊎ (sum_by known (met_sources xs ys) < sum_by known xs)
+pub met_falls : (xs ys : List Source) → (met_sources xs ys ≡ xs) ⊎ (sum_by source_height (met_sources xs ys) < sum_by source_height xs)
 unfolding met_sources
 met_falls [] ys = inl refl
 met_falls (x ∷ xs) [] = two_fall x Other xs (met_sources xs []) (head_falls x Other (inr refl)) (met_falls xs [])

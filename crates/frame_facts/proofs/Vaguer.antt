@@ -7,7 +7,7 @@ use Rattle.std.specs.List.{sum_by}
 use Rattle.frame_facts.specs.declared.facts.Source.{Source}
 use Rattle.frame_facts.specs.declared.facts.Source.TheVariants.{Other}
 use Rattle.frame_facts.specs.declared.facts.Fact.{Fact}
-use Rattle.frame_facts.specs.Facts.{source, slot, with_source, met_sources, join_of, lost, clobbered, known, height, IsVaguer, IsAtMost}
+use Rattle.frame_facts.specs.Facts.{source, slot, with_source, met_sources, join_of, forget_register, forget_registers, source_height, height, IsVaguer, IsAtMost}
 use Rattle.frame_facts.proofs.Meeting.{met_left, met_right, met_least, met_at, met_length, met_falls}
 
 pub vaguer_self : (s : Source) → IsVaguer s s
@@ -111,15 +111,15 @@ unfolding height
 joined_falls a b = ⊎_elim
     (λ (e : met_sources a.regs b.regs ≡ a.regs). ⊎_elim
     (λ (w : (a.below || b.below) ≡ a.below). ⊎_elim
-    (λ (l : b.kept < a.kept). inr (omega (arith, ap (sum_by known) e, ap placed w, l)))
+    (λ (l : b.kept < a.kept). inr (omega (arith, ap (sum_by source_height) e, ap placed w, l)))
     (λ (l : a.kept ≤ b.kept). let k : min a.kept b.kept ≡ a.kept = omega arith in
     inl (ap (λ x. let f : Fact = record { depth = a.depth; below = a.below || b.below; kept = x; regs = met_sources a.regs b.regs } in f) k
     ∙ ap (λ x. let f : Fact = record { depth = a.depth; below = x; kept = a.kept; regs = met_sources a.regs b.regs } in f) w
     ∙ ap (λ x. let f : Fact = record { depth = a.depth; below = a.below; kept = a.kept; regs = x } in f) e))
     (cases_lt b.kept a.kept))
-    (λ (w : (a.below ≡ false) × ((a.below || b.below) ≡ true)). inr (omega (arith, ap (sum_by known) e, ap placed w.0, ap placed w.1)))
+    (λ (w : (a.below ≡ false) × ((a.below || b.below) ≡ true)). inr (omega (arith, ap (sum_by source_height) e, ap placed w.0, ap placed w.1)))
     (met_below a.below b.below))
-    (λ (l : sum_by known (met_sources a.regs b.regs) < sum_by known a.regs). ⊎_elim
+    (λ (l : sum_by source_height (met_sources a.regs b.regs) < sum_by source_height a.regs). ⊎_elim
     (λ (w : (a.below || b.below) ≡ a.below). inr (omega (arith, ap placed w, l)))
     (λ (w : (a.below ≡ false) × ((a.below || b.below) ≡ true)). inr (omega (arith, ap placed w.0, ap placed w.1, l)))
     (met_below a.below b.below))
@@ -154,9 +154,9 @@ with_vaguer f g reg s t x v = set_vaguer (slot reg)
           (cases_eq k r);
     }
 
-pub lost_vaguer : (f g : Fact) (reg : ℕ) → IsAtMost f g → IsAtMost (lost reg f) (lost reg g)
+pub lost_vaguer : (f g : Fact) (reg : ℕ) → IsAtMost f g → IsAtMost (forget_register reg f) (forget_register reg g)
 lost_vaguer f g reg x = with_vaguer f g reg Other Other x (inl refl)
 
-pub clobbered_vaguer : (regs : List ℕ) (f g : Fact) → IsAtMost f g → IsAtMost (clobbered regs f) (clobbered regs g)
+pub clobbered_vaguer : (regs : List ℕ) (f g : Fact) → IsAtMost f g → IsAtMost (forget_registers regs f) (forget_registers regs g)
 clobbered_vaguer [] f g x = x
-clobbered_vaguer (reg ∷ more) f g x = clobbered_vaguer more (lost reg f) (lost reg g) (lost_vaguer f g reg x)
+clobbered_vaguer (reg ∷ more) f g x = clobbered_vaguer more (forget_register reg f) (forget_register reg g) (lost_vaguer f g reg x)

@@ -4,15 +4,15 @@ use Rattle.std.specs.Int.{bit_at}
 use Rattle.std.specs.Int.Bits.{bit_and}
 use Rattle.std.specs.List.{find, list_all}
 use Rattle.std.proofs.lemmas.Nat.Bits.{shr_and_one, bit_at-lt}
-use Rattle.thumb_core.specs.Words.{listed, numbers}
+use Rattle.thumb_core.specs.Words.{registers_of_list, numbers}
 use Rattle.thumb_core.proofs.Listed.{numbers_from, listed_from, listed_all, listed_none, listed_more}
 use Rattle.frame_facts.specs.declared.facts.Source.{Source}
 use Rattle.frame_facts.specs.declared.facts.Source.TheVariants.{Other}
 use Rattle.frame_facts.specs.declared.facts.Fact.{Fact}
 use Rattle.frame_facts.specs.declared.saves.Prologue.{Prologue}
-use Rattle.frame_facts.specs.Facts.{with_source, clobbered}
+use Rattle.frame_facts.specs.Facts.{with_source, forget_registers}
 use Rattle.frame_facts.specs.Saves.{stack_word}
-use Rattle.frame_facts.specs.Lists.{loaded}
+use Rattle.frame_facts.specs.Lists.{load_registers}
 use Rattle.frame_facts.specs.Branches.{holds_own}
 
 -- ---- the registers of a mask
@@ -29,33 +29,33 @@ one_less k list low clear =
     let none : bit_at list k ≡ 0 = omega arith in
     listed_more k list low ∙ ap (λ b. cond b (k ∷ listed_from (k + 1) list) (listed_from (k + 1) list)) (ap (λ (n : ℕ). n == 1) none)
 
-pub clobber_start : (list : ℕ) (f left : Fact) → left ≡ f → clobbered (listed_from 0 list) left ≡ clobbered (listed list) f
-clobber_start list f left e = ap (λ l. clobbered l left) (sym (listed_all list)) ∙ ap (clobbered (listed list)) e
+pub clobber_start : (list : ℕ) (f left : Fact) → left ≡ f → forget_registers (listed_from 0 list) left ≡ forget_registers (registers_of_list list) f
+clobber_start list f left e = ap (λ l. forget_registers l left) (sym (listed_all list)) ∙ ap (forget_registers (registers_of_list list)) e
 
-pub clobber_next : (k list : ℕ) (left new : Fact) → k < 16 → bit_and (list / 2 ^ k) 1 ≡ 1 → new ≡ with_source left k Other → clobbered (listed_from (k + 1) list) new ≡ clobbered (listed_from k list) left
-clobber_next k list left new low is e = ap (clobbered (listed_from (k + 1) list)) e ∙ sym (ap (λ l. clobbered l left) (one_more k list low is))
+pub clobber_next : (k list : ℕ) (left new : Fact) → k < 16 → bit_and (list / 2 ^ k) 1 ≡ 1 → new ≡ with_source left k Other → forget_registers (listed_from (k + 1) list) new ≡ forget_registers (listed_from k list) left
+clobber_next k list left new low is e = ap (forget_registers (listed_from (k + 1) list)) e ∙ sym (ap (λ l. forget_registers l left) (one_more k list low is))
 
-pub clobber_past : (k list : ℕ) (left new : Fact) → k < 16 → bit_and (list / 2 ^ k) 1 ≢ 1 → new ≡ left → clobbered (listed_from (k + 1) list) new ≡ clobbered (listed_from k list) left
-clobber_past k list left new low is e = ap (clobbered (listed_from (k + 1) list)) e ∙ sym (ap (λ l. clobbered l left) (one_less k list low is))
+pub clobber_past : (k list : ℕ) (left new : Fact) → k < 16 → bit_and (list / 2 ^ k) 1 ≢ 1 → new ≡ left → forget_registers (listed_from (k + 1) list) new ≡ forget_registers (listed_from k list) left
+clobber_past k list left new low is e = ap (forget_registers (listed_from (k + 1) list)) e ∙ sym (ap (λ l. forget_registers l left) (one_less k list low is))
 
-pub clobber_end : (k list : ℕ) (left all : Fact) → k ≡ 16 → clobbered (listed_from k list) left ≡ all → left ≡ all
-clobber_end k list left all last e = sym (ap (λ n. clobbered (listed_from n list) left) last ∙ ap (λ l. clobbered l left) (listed_none list)) ∙ e
+pub clobber_end : (k list : ℕ) (left all : Fact) → k ≡ 16 → forget_registers (listed_from k list) left ≡ all → left ≡ all
+clobber_end k list left all last e = sym (ap (λ n. forget_registers (listed_from n list) left) last ∙ ap (λ l. forget_registers l left) (listed_none list)) ∙ e
 
-pub load_start : (p : Prologue) (f : Fact) (list : ℕ) → loaded p f 0 (listed_from 0 list) f ≡ loaded p f 0 (listed list) f
-load_start p f list = ap (λ l. loaded p f 0 l f) (sym (listed_all list))
+pub load_start : (p : Prologue) (f : Fact) (list : ℕ) → load_registers p f 0 (listed_from 0 list) f ≡ load_registers p f 0 (registers_of_list list) f
+load_start p f list = ap (λ l. load_registers p f 0 l f) (sym (listed_all list))
 
 pub load_next : (p : Prologue) (f : Fact) (at next k list : ℕ) (left new : Fact) (s : Source) → k < 16 → bit_and (list / 2 ^ k) 1 ≡ 1 → s ≡ stack_word p f (pos at) → new ≡ with_source left k s → next ≡ at + 4
-    → loaded p f next (listed_from (k + 1) list) new ≡ loaded p f at (listed_from k list) left
+    → load_registers p f next (listed_from (k + 1) list) new ≡ load_registers p f at (listed_from k list) left
 load_next p f at next k list left new s low is w e n =
-    ap (λ m. loaded p f m (listed_from (k + 1) list) new) n ∙ ap (loaded p f (at + 4) (listed_from (k + 1) list)) (e ∙ ap (with_source left k) w) ∙ sym (ap (λ l. loaded p f at l left) (one_more k list low is))
+    ap (λ m. load_registers p f m (listed_from (k + 1) list) new) n ∙ ap (load_registers p f (at + 4) (listed_from (k + 1) list)) (e ∙ ap (with_source left k) w) ∙ sym (ap (λ l. load_registers p f at l left) (one_more k list low is))
 
 pub load_past : (p : Prologue) (f : Fact) (at next k list : ℕ) (left new : Fact) → k < 16 → bit_and (list / 2 ^ k) 1 ≢ 1 → new ≡ left → next ≡ at
-    → loaded p f next (listed_from (k + 1) list) new ≡ loaded p f at (listed_from k list) left
+    → load_registers p f next (listed_from (k + 1) list) new ≡ load_registers p f at (listed_from k list) left
 load_past p f at next k list left new low is e n =
-    ap (λ m. loaded p f m (listed_from (k + 1) list) new) n ∙ ap (loaded p f at (listed_from (k + 1) list)) e ∙ sym (ap (λ l. loaded p f at l left) (one_less k list low is))
+    ap (λ m. load_registers p f m (listed_from (k + 1) list) new) n ∙ ap (load_registers p f at (listed_from (k + 1) list)) e ∙ sym (ap (λ l. load_registers p f at l left) (one_less k list low is))
 
-pub load_end : (p : Prologue) (f : Fact) (at k list : ℕ) (left all : Fact) → k ≡ 16 → loaded p f at (listed_from k list) left ≡ all → left ≡ all
-load_end p f at k list left all last e = sym (ap (λ n. loaded p f at (listed_from n list) left) last ∙ ap (λ l. loaded p f at l left) (listed_none list)) ∙ e
+pub load_end : (p : Prologue) (f : Fact) (at k list : ℕ) (left all : Fact) → k ≡ 16 → load_registers p f at (listed_from k list) left ≡ all → left ≡ all
+load_end p f at k list left all last e = sym (ap (λ n. load_registers p f at (listed_from n list) left) last ∙ ap (λ l. load_registers p f at l left) (listed_none list)) ∙ e
 
 pub length_more : (k list : ℕ) → k < 16 → bit_and (list / 2 ^ k) 1 ≡ 1 → length (listed_from k list) ≡ length (listed_from (k + 1) list) + 1
 length_more k list low is = ap length (one_more k list low is) ∙ sym (add-one (length (listed_from (k + 1) list)))
@@ -63,7 +63,7 @@ length_more k list low is = ap length (one_more k list low is) ∙ sym (add-one 
 pub length_less : (k list : ℕ) → k < 16 → bit_and (list / 2 ^ k) 1 ≢ 1 → length (listed_from k list) ≡ length (listed_from (k + 1) list)
 length_less k list low is = ap length (one_less k list low is)
 
-pub length_start : (list : ℕ) → length (listed_from 0 list) ≡ length (listed list)
+pub length_start : (list : ℕ) → length (listed_from 0 list) ≡ length (registers_of_list list)
 length_start list = ap length (sym (listed_all list))
 
 pub length_end : (k list : ℕ) → k ≡ 16 → length (listed_from k list) ≡ 0

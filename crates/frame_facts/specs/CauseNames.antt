@@ -1,4 +1,4 @@
--- The names of the causes, as a line of a report has them (docs/acceptance.md).
+-- The names of the causes, as they are written in reports (docs/rules/acceptance.md).
 use Rattle.std.specs.Prelude.{ℕ, List, codes}
 use Rattle.frame_facts.specs.declared.cause.FrameCause.{FrameCause}
 use Rattle.frame_facts.specs.declared.cause.FrameCause.TheVariants.{Undecodable, BranchOut, IndirectBranch, CallNotFunction, SpWrite, JoinDepth, ReturnState, CallState, FramePointerLost, BadBytecode, BadDescriptor, PadDepth, ThrowInLeafScope, SplitEntry, GenericModel, TooLong}

@@ -7,7 +7,7 @@ use Rattle.frame_facts.specs.declared.facts.Source.TheVariants.{Entry, SpAt, Oth
 use Rattle.frame_facts.specs.declared.facts.Fact.{Fact}
 use Rattle.frame_facts.specs.declared.facts.TheConstants.{DEEPEST}
 
--- where a register stands among the sources of a fact: r0 to r12 and then lr; sp and pc stand after the last
+-- the index of a register in a fact's sources: r0 to r12 and then lr; sp and pc are past the end
 abbrev pub slot : ℕ → ℕ
 slot reg = if nat_lt reg 13 then reg else (if reg == 14 then 13 else 14)
 
@@ -19,9 +19,9 @@ source f reg = slice_index_or f.regs (slot reg) Other
 abbrev pub with_source : Fact → ℕ → Source → Fact
 with_source f reg s = record f { regs = slice_set f.regs (slot reg) s }
 
--- at the entry nothing is on the stack, and each register holds its own value
-abbrev pub entered : Fact
-entered = record {
+-- at the entry nothing is on the stack, and each register has its own value
+abbrev pub entry_fact : Fact
+entry_fact = record {
   depth = 0;
   below = false;
   kept = 0;
@@ -42,10 +42,10 @@ abbrev pub sp_plus : Fact → ℤ → Source
 sp_plus f offset = if f.below then Other else sp_at (pos f.depth -ℤ offset)
 
 -- a value raised, or lowered, by so many bytes
-abbrev pub shifted : Bool → ℕ → Source → Source
-shifted sub by (SpAt offset) = sp_at (if sub then pos offset +ℤ pos by else pos offset -ℤ pos by)
-shifted sub by (Entry k) = Other
-shifted sub by Other = Other
+abbrev pub offset_source : Bool → ℕ → Source → Source
+offset_source sub by (SpAt offset) = sp_at (if sub then pos offset +ℤ pos by else pos offset -ℤ pos by)
+offset_source sub by (Entry k) = Other
+offset_source sub by Other = Other
 
 abbrev pub is_entry : ℕ → Source → Bool
 is_entry reg (Entry k) = k == reg
@@ -53,18 +53,18 @@ is_entry reg (SpAt offset) = false
 is_entry reg Other = false
 
 -- nothing is known of a register
-abbrev pub lost : ℕ → Fact → Fact
-lost reg f = with_source f reg Other
+abbrev pub forget_register : ℕ → Fact → Fact
+forget_register reg f = with_source f reg Other
 
 -- nothing is known of these registers
-abbrev pub clobbered : List ℕ → Fact → Fact
-clobbered [] f = f
-clobbered (reg ∷ more) f = clobbered more (lost reg f)
+abbrev pub forget_registers : List ℕ → Fact → Fact
+forget_registers [] f = f
+forget_registers (reg ∷ more) f = forget_registers more (forget_register reg f)
 
--- what is written to a place of its own, where there is any
-abbrev pub placed : {X : Type 0} → Bool → X → Option X
-placed true x = Some x
-placed false x = None
+-- an output that is only written if the test holds
+abbrev pub some_if : {X : Type 0} → Bool → X → Option X
+some_if true x = Some x
+some_if false x = None
 
 -- ---- what two facts have in common
 
@@ -96,7 +96,7 @@ same_bool false false = true
 abbrev pub same_fact : Fact → Fact → Bool
 same_fact a b = (a.depth == b.depth) && same_bool a.below b.below && (a.kept == b.kept) && same_sources a.regs b.regs
 
--- at equal depths: below where one is, the fewer saves, and the sources that are the same
+-- if the depths are equal: below if one is, the smaller number of saves, and the sources that are equal
 abbrev pub join_of : Fact → Fact → Option Fact
 join_of a b =
     if a.depth == b.depth then Some (record { depth = a.depth; below = a.below || b.below; kept = min a.kept b.kept; regs = met_sources a.regs b.regs })
@@ -108,7 +108,8 @@ join_of a b =
 abbrev pub IsVaguer : Source → Source → Type 0
 IsVaguer s t = (s ≡ t) ⊎ (t ≡ Other)
 
--- a is at most as vague as b: the depths are equal, a isn't below alone, keeps no fewer saves, and b's sources are a's or unknown
+-- a is at most as vague as b. The depths are equal, a isn't below unless b is, a keeps at least as many saves, and each source of b is
+-- a's or unknown.
 pub record IsAtMost (a b : Fact) : Type 0 where
   pub depth : a.depth ≡ b.depth
   pub below : IsTrue a.below → IsTrue b.below
@@ -116,16 +117,16 @@ pub record IsAtMost (a b : Fact) : Type 0 where
   pub long : length a.regs ≡ length b.regs
   pub regs : (k : ℕ) → IsVaguer (slice_index_or a.regs k Other) (slice_index_or b.regs k Other)
 
-abbrev pub known : Source → ℕ
-known (Entry n) = 1
-known (SpAt n) = 1
-known Other = 0
+abbrev pub source_height : Source → ℕ
+source_height (Entry n) = 1
+source_height (SpAt n) = 1
+source_height Other = 0
 
--- how much is known: kept saves, sources, and that sp lies where the depth says
+-- how much is known: the kept saves, the known sources, and whether sp is exactly at the depth
 unfoldable pub height : Fact → ℕ
-height f = f.kept + (if f.below then 0 else 1) + sum_by known f.regs
+height f = f.kept + (if f.below then 0 else 1) + sum_by source_height f.regs
 
--- what every state keeps: the depth is one, and no more saves are kept than there are
+-- a property of every state: the depth is in range, and no more saves are kept than there are
 pub record IsFit (count : ℕ) (f : Fact) : Type 0 where
   pub depth : f.depth ≤ DEEPEST
   pub kept : f.kept ≤ count

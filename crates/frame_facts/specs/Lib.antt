@@ -12,3 +12,4 @@ pub mod Machine
 pub mod Prologues
 pub mod Saves
 pub mod Shifts
+pub mod eh_bytecode

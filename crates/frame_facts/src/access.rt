@@ -1,4 +1,4 @@
-//! The effect of loads and stores of one register on a fact, in its place: stores leave it as it is.
+//! The effect of loads and stores of one register on a fact, which is changed in place. Stores leave it unchanged.
 ghost use Rattle.std.specs.Prelude.{◌≡◌};
 ghost use Rattle.frame_facts.specs.Access.{mem_reg, mem_imm, mem_sp};
 
@@ -10,7 +10,7 @@ pub(crate) fn mem_reg(fact: &mut Fact, op: u8, t: u8)
     ensures { fact.new ≡ mem_reg op t fact.old }
 {
     if op >= 3 {
-        fact.lose(t);
+        fact.forget_register(t);
     }
 }
 
@@ -19,7 +19,7 @@ pub(crate) fn mem_imm(fact: &mut Fact, op: u8, t: u8)
     ensures { fact.new ≡ mem_imm op t fact.old }
 {
     if op == 1 || op == 3 || op == 5 {
-        fact.lose(t);
+        fact.forget_register(t);
     }
 }
 

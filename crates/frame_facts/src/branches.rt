@@ -1,9 +1,9 @@
-//! Calls, gates, returns and branches to where a register says.
+//! Calls, gates, returns, and branches to the address in a register.
 ghost use Rattle.std.specs.Prelude.{◌≡◌, ◌≤◌, ◌<◌};
 ghost use Rattle.std.specs.List.{list_all};
-ghost use Rattle.thumb_core.specs.Words.{listed};
-ghost use Rattle.frame_facts.specs.Facts.{clobbered};
-ghost use Rattle.frame_facts.specs.Branches.{call_changes, gate_changes, kept_by_calls, is_indirect, return_to, holds_own, returns_well};
+ghost use Rattle.thumb_core.specs.Words.{registers_of_list};
+ghost use Rattle.frame_facts.specs.Facts.{forget_registers};
+ghost use Rattle.frame_facts.specs.Branches.{call_changes, gate_changes, preserved_by_calls, is_indirect, return_to, holds_own, returns_well};
 
 use crate::facts::{Fact, Source};
 use crate::lists;
@@ -11,10 +11,10 @@ use crate::saves::Prologue;
 use thumb_isa::instr::Instr;
 use thumb_isa::plain;
 
-/// A gate, after it: r0 to r3 and r12 are changed.
+/// The fact after a gate, which changes r0 to r3 and r12.
 #[tactic(auto, using(crate::proofs::Changing::gate_leaves))]
 pub(crate) fn gate(fact: &mut Fact)
-    ensures { fact.new ≡ clobbered gate_changes fact.old }
+    ensures { fact.new ≡ forget_registers gate_changes fact.old }
 {
     fact.regs[0] = Source::Other;
     fact.regs[1] = Source::Other;
@@ -23,16 +23,16 @@ pub(crate) fn gate(fact: &mut Fact)
     fact.regs[12] = Source::Other;
 }
 
-/// A call, after its return: what a gate changes, and lr.
+/// The fact after a call returns: it changes what a gate changes, and lr.
 #[tactic(auto, using(crate::proofs::Changing::call_leaves))]
 pub(crate) fn call(fact: &mut Fact)
-    ensures { fact.new ≡ clobbered call_changes fact.old }
+    ensures { fact.new ≡ forget_registers call_changes fact.old }
 {
     gate(fact);
     fact.regs[13] = Source::Other;
 }
 
-/// Whether an instruction branches to where a register says and is no call and no return.
+/// Whether an instruction branches to the address in a register, and is neither a call nor a return.
 pub(crate) fn is_indirect(fact: &Fact, i: &Instr) -> bool
     ensures { result ≡ is_indirect i.now fact.now }
 {
@@ -56,7 +56,7 @@ pub(crate) fn is_indirect(fact: &Fact, i: &Instr) -> bool
     }
 }
 
-/// Where a return goes to; `None` for an instruction that is none.
+/// The source of the address that a return goes to; None if the instruction isn't a return.
 pub(crate) fn return_to(p: &Prologue, fact: &Fact, i: &Instr) -> Option<Source>
     ensures { result ≡ return_to p.now i.now fact.now }
 {
@@ -81,9 +81,9 @@ pub(crate) fn return_to(p: &Prologue, fact: &Fact, i: &Instr) -> Option<Source>
     }
 }
 
-/// Whether r4 to r11 hold their own values.
+/// Whether r4 to r11 have the values that they had at the entry.
 fn all_own(fact: &Fact) -> bool
-    ensures { result ≡ list_all (holds_own fact.now) kept_by_calls }
+    ensures { result ≡ list_all (holds_own fact.now) preserved_by_calls }
 {
     for reg in 4..12u8 {
         if !fact.source(reg).is_entry(reg) {
@@ -93,7 +93,7 @@ fn all_own(fact: &Fact) -> bool
     true
 }
 
-/// Whether a return with this fact after it leaves the frame as the caller wants it.
+/// Whether a return to `pc`, with this fact after it, leaves registers and stack as the caller needs them.
 pub(crate) fn returns_well(fact: &Fact, pc: Source) -> bool
     ensures { result ≡ returns_well fact.now pc }
 {

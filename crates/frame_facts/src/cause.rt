@@ -1,48 +1,48 @@
-//! Why a function's frame is refused; docs/acceptance.md explains each.
+//! Why a function's frame is rejected; docs/rules/acceptance.md explains each cause.
 ghost use Rattle.std.specs.Prelude.{◌≡◌, ◌≤◌, length};
 ghost use Rattle.frame_facts.specs.CauseNames.{cause_name};
 
-/// Why a function's frame isn't accepted, in the order in which the causes are numbered. A cause stands at an address that a path from
-/// the function's entry reaches in a state that meets its condition.
+/// Why a function's frame isn't accepted. The order of the variants is that of the causes' numbers. A cause is given with an address
+/// that a path from the function's entry reaches in a state that meets the cause's condition.
 #[derive(Clone, Copy, Debug)]
 pub enum FrameCause {
-    /// No instruction stands there, or its second halfword isn't the function's.
+    /// The bytes there are no instruction, or its second halfword isn't code of the function.
     Undecodable,
     /// A branch leads to an address that isn't code of the function.
     BranchOut,
-    /// MOV or ADD writes pc, or BX goes to a register that isn't the entry's lr.
+    /// MOV or ADD writes pc, or BX goes to a register that doesn't have the entry's lr.
     IndirectBranch,
-    /// BL leads to an address where no function starts.
+    /// BL calls an address where no function starts.
     CallNotFunction,
-    /// sp is written in another way than by a known amount, or the depth leaves 0 to 65,536.
+    /// sp is changed in a way other than by a known amount, or the depth leaves the range from 0 to 65,536.
     SpWrite,
-    /// Two paths reach the address with different depths.
+    /// Two paths reach the address with different depths of the stack.
     JoinDepth,
-    /// A return with a frame left, with a changed register of r4 to r11, or not to the entry's lr.
+    /// A return while words are still on the stack, with a changed register of r4 to r11, or not to the entry's lr.
     ReturnState,
-    /// The recipe doesn't find a register of the caller; 13 stands for the CFA, 15 for the return address, and 14 also for a call
-    /// with no room on the stack.
+    /// The unwind recipe gives a wrong value to the caller's register `reg`. 13 means the CFA and 15 the return address. 14 is also
+    /// given for a call at a depth below 4.
     CallState { reg: u8 },
-    /// The codes take the virtual stack pointer from a register that isn't known to hold a place of the frame.
+    /// The unwind instructions compute the virtual stack pointer from `reg`, which isn't known to have an address in the frame.
     FramePointerLost { reg: u8 },
-    /// The codes of the covering entry can't be read or summed up, or pop a register twice.
+    /// The unwind instructions of the covering entry can't be read, have no recipe, or pop a register twice.
     BadBytecode,
-    /// A descriptor of the covering entry is at fault.
+    /// A descriptor of the covering entry can't be read.
     BadDescriptor,
-    /// A landing pad isn't code of the function, or is reached with another depth.
+    /// A landing pad isn't code of the function, or paths reach it with different depths of the stack.
     PadDepth,
-    /// A gate in a scope, with nothing on the stack.
+    /// A gate lies in the scope of a descriptor, with nothing on the stack.
     ThrowInLeafScope,
-    /// An index entry starts inside the function, at or below a site that is reached.
+    /// The unwind entry that covers a reachable site starts inside the function.
     SplitEntry,
-    /// The covering entry is of the generic model.
+    /// The covering unwind entry is of the generic model.
     GenericModel,
-    /// More than 16,384 instructions are reached.
+    /// More than 16,384 instructions are reachable.
     TooLong,
 }
 
 impl FrameCause {
-    /// The name of the cause, as a report writes it.
+    /// The cause's name, as it is written in reports: at most 16 bytes.
     pub fn name(self) -> &'static [u8]
         ensures name { result.now ≡ cause_name self }
         ensures short { length result.now ≤ 16 }

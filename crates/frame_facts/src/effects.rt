@@ -1,7 +1,7 @@
-//! The effect of an instruction on a fact, and the causes that it can show. docs/acceptance.md, "Effects".
+//! The effect of an instruction on a fact, and the causes that it can give. docs/rules/acceptance.md, "Effects".
 ghost use Rattle.std.specs.Prelude.{◌≡◌};
-ghost use Rattle.frame_facts.specs.Facts.{placed};
-ghost use Rattle.frame_facts.specs.After.{effect, after_of, written};
+ghost use Rattle.frame_facts.specs.Facts.{some_if};
+ghost use Rattle.frame_facts.specs.After.{effect, after_of, fact_if_ok};
 
 use crate::access::{mem_imm, mem_reg, mem_sp};
 use crate::branches::{call, gate, is_indirect, return_to, returns_well};
@@ -14,8 +14,8 @@ use crate::shifts::shift_imm;
 use thumb_isa::instr::Instr;
 use thumb_isa::{idles, works};
 
-/// Writes the fact after an instruction at the address `at` to `next`; false where sp is written as it may not be, and `next` then holds
-/// anything.
+/// Writes the fact after the instruction at address `at` to `next`. False if sp is changed in a way that isn't allowed; then `next`
+/// isn't specified.
 pub(crate) fn effect(
     fact: &Fact,
     next: &mut Fact,
@@ -24,12 +24,12 @@ pub(crate) fn effect(
     p: &Prologue,
     lowers: bool,
 ) -> bool
-    ensures { placed result next.new ≡ effect p.now lowers at i.now fact.now }
+    ensures { some_if result next.new ≡ effect p.now lowers at i.now fact.now }
 {
     *next = *fact;
     match *i {
         works!(d) => {
-            next.lose(d);
+            next.forget_register(d);
             true
         }
         idles!() => true,
@@ -56,7 +56,7 @@ pub(crate) fn effect(
         Instr::AddHigh { d, .. } => add_high(next, d),
         Instr::MovHigh { d, m } => mov_high(p, next, lowers, d, m),
         Instr::LdrLit { t, .. } => {
-            next.lose(t);
+            next.forget_register(t);
             true
         }
         Instr::MemReg { op, t, .. } => {
@@ -72,7 +72,7 @@ pub(crate) fn effect(
             true
         }
         Instr::Stm { n, .. } => {
-            next.lose(n);
+            next.forget_register(n);
             true
         }
         Instr::Ldm { n, list } => {
@@ -99,12 +99,13 @@ pub(crate) fn effect(
     }
 }
 
-/// The fact after an instruction that stands at the address `at` of a function with this prologue, or the lowest cause that it shows:
-/// `IndirectBranch`, `SpWrite` or `ReturnState`. After a return it says what the caller finds.
+/// Writes the fact after the instruction at address `at`, in a function with this prologue, to `next`. Err with the lowest cause that
+/// it gives: `IndirectBranch`, `SpWrite` or `ReturnState`; then `next` isn't specified. After a return the fact is what the caller
+/// finds.
 ///
-/// `lowers` says that `at` is a place where sp is lowered by an amount that is known only at run time; it plays a part only for a MOV
-/// into sp. The fact is written to `next`, which holds anything where a cause is shown.
-pub fn follow(
+/// `lowers` says that `at` is a place where sp is lowered by an amount that is only known at run time; it only matters for a MOV into
+/// sp.
+pub fn write_fact_after(
     fact: &Fact,
     next: &mut Fact,
     i: &Instr,
@@ -112,9 +113,9 @@ pub fn follow(
     p: &Prologue,
     lowers: bool,
 ) -> Result<(), FrameCause>
-    ensures { written result next.new ≡ after_of p.now lowers at i.now fact.now }
+    ensures { fact_if_ok result next.new ≡ after_of p.now lowers at i.now fact.now }
 {
-    // most sites are calls, which show no cause
+    // most sites are calls, which give no cause
     if let Instr::Bl { .. } = *i {
         *next = *fact;
         call(next);
@@ -138,7 +139,7 @@ pub fn follow(
     }
 }
 
-/// The same as a value.
+/// As `follow`, but returns the fact.
 pub fn after(
     fact: &Fact,
     i: &Instr,
@@ -149,7 +150,7 @@ pub fn after(
     ensures { result ≡ after_of p.now lowers at i.now fact.now }
 {
     let mut next = *fact;
-    match follow(fact, &mut next, i, at, p, lowers) {
+    match write_fact_after(fact, &mut next, i, at, p, lowers) {
         Ok(()) => Ok(next),
         Err(cause) => Err(cause),
     }

@@ -1,39 +1,39 @@
-//! Facts: what is known of registers and stack at a place, what two of them have in common. docs/acceptance.md, "Facts".
+//! Facts: what is known of registers and stack at a place, and what two facts have in common. docs/rules/acceptance.md, "Facts".
 ghost use Rattle.std.specs.Prelude.{◌≡◌, ℕ, ◌+◌, ◌-◌, ◌*◌, ◌<◌, ◌≤◌, ◌^◌, ◌==◌, ℤ, pos, ◌+ℤ◌, ◌-ℤ◌, length, IsTrue, ◌↔◌, false};
 ghost use Rattle.std.specs.Option.{option_map_or};
-ghost use Rattle.thumb_core.specs.Words.{listed};
-ghost use Rattle.frame_facts.specs.Facts.{source, with_source, entered, bounded_depth, sp_at, sp_plus, shifted, is_entry, lost, clobbered, met_source, met_sources, same_source, same_sources, same_fact, join_of};
+ghost use Rattle.thumb_core.specs.Words.{registers_of_list};
+ghost use Rattle.frame_facts.specs.Facts.{source, with_source, entry_fact, bounded_depth, sp_at, sp_plus, offset_source, is_entry, forget_register, forget_registers, met_source, met_sources, same_source, same_sources, same_fact, join_of};
 
-/// The greatest depth of a frame, and of a place that a register is known to hold, in bytes below the CFA.
+/// The largest known depth of a frame, and distance of an address in a register from the CFA, in bytes.
 pub const DEEPEST: u32 = 65_536;
 
-/// What a register holds.
+/// What is known of a register's value.
 #[derive(Clone, Copy, PartialEq, Eq)]
 pub enum Source {
-    /// The value that this register had at the function's entry.
+    /// The value that the register with this number had at the function's entry.
     Entry(u8),
-    /// The CFA, which is sp at the entry, minus so many bytes.
+    /// The address this many bytes below the CFA (sp at the entry).
     SpAt(u32),
-    /// Nothing is known of it.
+    /// Nothing is known.
     Other,
 }
 
-/// What is known at a place of a function.
+/// What is known of registers and stack at a place of a function.
 #[derive(Clone, Copy)]
 pub struct Fact {
-    /// How many bytes sp lies below the CFA, or at least lies there where `below` is true.
+    /// How many bytes sp lies below the CFA; at least so many if `below` is true.
     pub depth: u32,
-    /// Whether sp may lie further below.
+    /// Whether sp may lie deeper than `depth`.
     pub below: bool,
-    /// How many of the prologue's saves, from the first on, lie at an offset of at most `depth` and are still there.
+    /// How many of the prologue's saves are still on the stack: the first ones, with an offset of at most `depth`.
     pub kept: u32,
-    /// What r0 to r12 hold, and then lr.
+    /// The values of r0 to r12, and then of lr.
     pub regs: [Source; 14],
 }
 
-/// The fact at a function's entry: nothing is on the stack, and each register holds its own value.
+/// The fact at a function's entry: nothing is on the stack, and each register has its own value.
 pub fn entry_fact() -> Fact
-    ensures { result ≡ entered }
+    ensures { result ≡ entry_fact }
 {
     Fact {
         depth: 0,
@@ -58,7 +58,7 @@ pub fn entry_fact() -> Fact
     }
 }
 
-/// A depth, where it is one.
+/// The depth as a number of bytes; None if it is outside 0 to `DEEPEST`.
 pub(crate) fn bounded_depth(depth: i64) -> Option<u32>
     ensures { result ≡ bounded_depth depth }
 {
@@ -69,7 +69,7 @@ pub(crate) fn bounded_depth(depth: i64) -> Option<u32>
     }
 }
 
-/// The CFA minus a number of bytes, where it is one.
+/// The address `offset` bytes below the CFA; `Other` if that is outside 0 to `DEEPEST`.
 pub(crate) fn sp_at(offset: i64) -> Source
     ensures { result ≡ sp_at offset }
 {
@@ -80,9 +80,9 @@ pub(crate) fn sp_at(offset: i64) -> Source
 }
 
 impl Source {
-    /// What a register holds that had this value and is raised, or lowered, by so many bytes.
-    pub(crate) fn shifted(self, sub: bool, by: u32) -> Source
-        ensures { result ≡ shifted sub by self }
+    /// The value after adding `by` bytes, or subtracting them if `sub`.
+    pub(crate) fn offset_source(self, sub: bool, by: u32) -> Source
+        ensures { result ≡ offset_source sub by self }
     {
         match self {
             Source::SpAt(offset) => {
@@ -96,7 +96,7 @@ impl Source {
         }
     }
 
-    /// Whether it is the value that a register had at the entry.
+    /// Whether it is the value that register `reg` had at the entry.
     pub(crate) fn is_entry(self, reg: u8) -> bool
         ensures { result ≡ is_entry reg self }
     {
@@ -106,7 +106,7 @@ impl Source {
         }
     }
 
-    /// What two paths have in common.
+    /// What two paths have in common: the source if both have the same, else `Other`.
     fn meet(self, other: Source) -> Source
         ensures { result ≡ met_source self other }
     {
@@ -119,8 +119,8 @@ impl Source {
         self == other
     }
 
-    /// Whether it is what two paths have in common.
-    fn stays_met(self, other: Source) -> bool
+    /// Whether `self` is what the two have in common.
+    fn is_common(self, other: Source) -> bool
         ensures { result ≡ same_source (met_source self other) self }
     {
         self == other || self == Source::Other
@@ -128,7 +128,7 @@ impl Source {
 }
 
 impl Fact {
-    /// What a register holds; of sp and pc nothing is said here.
+    /// What is known of a register; `Other` for sp and pc.
     pub(crate) fn source(&self, reg: u8) -> Source
         ensures { result ≡ source self.now reg }
     {
@@ -141,7 +141,7 @@ impl Fact {
         }
     }
 
-    /// A register holds something else.
+    /// Sets what is known of a register.
     pub(crate) fn set(&mut self, reg: u8, source: Source)
         ensures { self.new ≡ with_source self.old reg source }
     {
@@ -152,14 +152,14 @@ impl Fact {
         }
     }
 
-    /// Nothing is known of a register any more.
-    pub(crate) fn lose(&mut self, reg: u8)
-        ensures { self.new ≡ lost reg self.old }
+    /// Forgets what is known of a register.
+    pub(crate) fn forget_register(&mut self, reg: u8)
+        ensures { self.new ≡ forget_register reg self.old }
     {
         self.set(reg, Source::Other);
     }
 
-    /// The value of sp plus an offset.
+    /// The address `offset` bytes above sp; `Other` if it isn't known.
     pub(crate) fn sp_plus(&self, offset: i32) -> Source
         ensures { result ≡ sp_plus self.now offset }
     {
@@ -171,14 +171,14 @@ impl Fact {
     }
 }
 
-/// The fact where nothing is known of the registers of a list; bit k of it stands for register k.
+/// The fact without what it knows of the registers of a list; bit k means register k.
 pub fn clobber(fact: &Fact, list: u16) -> Fact
-    ensures { result ≡ clobbered (listed list) fact.now }
+    ensures { result ≡ forget_registers (registers_of_list list) fact.now }
 {
     let mut left = *fact;
     for k in 0..16u8 {
         if (list >> k) & 1 == 1 {
-            left.lose(k);
+            left.forget_register(k);
         }
     }
     left
@@ -195,27 +195,27 @@ fn are_alike(a: &[Source; 14], b: &[Source; 14]) -> bool
     true
 }
 
-/// Whether two facts are one.
+/// Whether two facts are equal.
 pub fn is_same(a: &Fact, b: &Fact) -> bool
     ensures { result ≡ same_fact a.now b.now }
 {
     a.depth == b.depth && a.below == b.below && a.kept == b.kept && are_alike(&a.regs, &b.regs)
 }
 
-/// Whether what each register holds on two paths is what it holds on the first.
-fn stay_met(held: &[Source; 14], other: &[Source; 14]) -> bool
+/// Whether what two paths know of the registers in common is what `held` knows.
+fn are_common(held: &[Source; 14], other: &[Source; 14]) -> bool
     ensures { result ≡ same_sources (met_sources held.now other.now) held.now }
 {
     for k in 0..14 {
-        if !held[k].stays_met(other[k]) {
+        if !held[k].is_common(other[k]) {
             return false;
         }
     }
     true
 }
 
-/// Whether two paths to a place have in common what the first fact says. Neither is copied.
-pub fn stays(held: &Fact, other: &Fact) -> bool
+/// Whether what two paths to a place have in common is the fact `held`. Copies neither.
+pub fn is_meeting(held: &Fact, other: &Fact) -> bool
     ensures { result ≡ option_map_or (λ met. same_fact met held.now) (join_of held.now other.now) false }
 {
     if held.depth != other.depth {
@@ -227,10 +227,10 @@ pub fn stays(held: &Fact, other: &Fact) -> bool
     if held.kept > other.kept {
         return false;
     }
-    stay_met(&held.regs, &other.regs)
+    are_common(&held.regs, &other.regs)
 }
 
-/// What two paths to a place have in common: `None` exactly where their depths differ.
+/// The meeting of two facts: what two paths to a place have in common. None if and only if their depths differ.
 pub fn join(a: &Fact, b: &Fact) -> Option<Fact>
     ensures { result ≡ join_of a.now b.now }
 {

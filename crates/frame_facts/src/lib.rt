@@ -1,5 +1,5 @@
-//! What is known of a function's registers and stack at a place, as a fact: the effect of each instruction on it, meetings, vagueness,
-//! the prologue's saves, and whether a fact agrees with a recipe. docs/acceptance.md states the rules.
+//! What is known of a function's registers and stack at a place, as a fact: the effect of each instruction, meetings, vagueness, the
+//! prologue's saves, and whether a fact agrees with an unwind recipe. docs/rules/acceptance.md states the rules.
 #![tactic(auto)]
 
 pub mod access;
@@ -16,8 +16,8 @@ pub mod sites;
 pub mod straight;
 
 pub use cause::FrameCause;
-pub use effects::{after, follow};
-pub use facts::{Fact, Source, clobber, entry_fact, is_same, join, stays};
+pub use effects::{after, write_fact_after};
+pub use facts::{Fact, Source, clobber, entry_fact, is_meeting, is_same, join};
 pub use saves::{Prologue, Save};
 pub use sites::agrees;
 pub use straight::Straight;

@@ -1,33 +1,33 @@
-//! The effect of PUSH, POP and LDM on a fact, in its place.
+//! The effect of PUSH, POP and LDM on a fact, which is changed in place.
 ghost use Rattle.std.specs.Prelude.{◌≡◌, ◌+◌, ◌-◌, ◌*◌, ◌/◌, ◌<◌, ◌≤◌, ◌^◌, length, pos};
-ghost use Rattle.thumb_core.specs.Words.{listed};
-ghost use Rattle.frame_facts.specs.Facts.{placed};
+ghost use Rattle.thumb_core.specs.Words.{registers_of_list};
+ghost use Rattle.frame_facts.specs.Facts.{some_if};
 ghost use Rattle.frame_facts.specs.Saves.{stack_word};
-ghost use Rattle.frame_facts.specs.Lists.{push, pushed_to, loaded, pop, popped_pc, ldm};
+ghost use Rattle.frame_facts.specs.Lists.{push, push_to_depth, load_registers, pop, popped_pc, ldm};
 
 use crate::facts::{Fact, Source, bounded_depth, clobber};
 use crate::saves::Prologue;
 
-/// How many registers a list has.
+/// The number of registers in a list.
 #[tactic(auto, using(crate::proofs::Counted::listed_count))]
 pub fn words_of(list: u16) -> u32
-    ensures words { result ≡ length (listed list) }
+    ensures words { result ≡ length (registers_of_list list) }
     ensures few { result ≤ 16 }
 {
     list.count_ones()
 }
 
-/// How many bytes the registers of a list take.
+/// The number of bytes that the registers of a list take.
 fn bytes_of(list: u16) -> u8
-    ensures bytes { result ≡ 4 * length (listed list) }
+    ensures bytes { result ≡ 4 * length (registers_of_list list) }
     ensures few { result ≤ 64 }
 {
     4 * words_of(list) as u8
 }
 
-/// A PUSH at the address `at` has brought sp to a depth.
+/// The fact after a PUSH at address `at` that brings sp to `depth`.
 fn push_to(p: &Prologue, fact: &mut Fact, at: u32, depth: u32)
-    ensures { fact.new ≡ pushed_to p.now at depth fact.old }
+    ensures { fact.new ≡ push_to_depth p.now at depth fact.old }
 {
     if at < p.end {
         fact.kept = p.saves_within(depth);
@@ -37,9 +37,9 @@ fn push_to(p: &Prologue, fact: &mut Fact, at: u32, depth: u32)
     }
 }
 
-/// PUSH at the address `at`.
+/// PUSH at address `at`; false if the depth is too large.
 pub(crate) fn push(p: &Prologue, fact: &mut Fact, at: u32, list: u16) -> bool
-    ensures { placed result fact.new ≡ push p.now at list fact.old }
+    ensures { some_if result fact.new ≡ push p.now at list fact.old }
 {
     match bounded_depth(i64::from(fact.depth) + i64::from(bytes_of(list))) {
         None => false,
@@ -50,17 +50,17 @@ pub(crate) fn push(p: &Prologue, fact: &mut Fact, at: u32, list: u16) -> bool
     }
 }
 
-/// What a word holds that lies `at` bytes above sp.
+/// What is known of the word `at` bytes above sp.
 fn word_above(p: &Prologue, fact: &Fact, at: u8) -> Source
     ensures { result ≡ stack_word p.now fact.now (pos at) }
 {
     p.stack_word(fact, i32::from(at))
 }
 
-/// The registers of a list take the words of the stack, as the fact before says. `left` is that fact first.
+/// Loads the registers of a list from the words at sp, as `fact` knows them. `left` must be equal to `fact` at first.
 fn load(p: &Prologue, fact: &Fact, left: &mut Fact, list: u16)
     requires { left.old ≡ fact.now }
-    ensures { left.new ≡ loaded p.now fact.now 0 (listed list) fact.now }
+    ensures { left.new ≡ load_registers p.now fact.now 0 (registers_of_list list) fact.now }
 {
     let mut at = 0u8;
     for k in 0..16u8 {
@@ -71,16 +71,16 @@ fn load(p: &Prologue, fact: &Fact, left: &mut Fact, list: u16)
     }
 }
 
-/// POP, after the fact before it. `left` is that fact first.
+/// POP, from `fact`; false if that takes sp above the CFA. `left` must be equal to `fact` at first.
 pub(crate) fn pop(p: &Prologue, fact: &Fact, left: &mut Fact, list: u16) -> bool
     requires { left.old ≡ fact.now }
-    ensures { placed result left.new ≡ pop p.now list fact.now }
+    ensures { some_if result left.new ≡ pop p.now list fact.now }
 {
     load(p, fact, left, list);
     p.to_depth(left, i64::from(fact.depth) - i64::from(bytes_of(list)))
 }
 
-/// What a POP into pc goes to.
+/// The source of the address that a POP loads into pc; None if the list doesn't have pc.
 pub(crate) fn popped_pc(p: &Prologue, fact: &Fact, list: u16) -> Option<Source>
     ensures { result ≡ popped_pc p.now list fact.now }
 {
@@ -96,5 +96,5 @@ pub(crate) fn ldm(fact: &mut Fact, n: u8, list: u16)
     ensures { fact.new ≡ ldm n list fact.old }
 {
     *fact = clobber(fact, list);
-    fact.lose(n);
+    fact.forget_register(n);
 }

@@ -1,9 +1,9 @@
-//! The straight run from a function's entry, whose PUSHes save registers. docs/acceptance.md, "The prologue".
+//! The straight run of instructions from a function's entry, whose PUSHes save registers. docs/rules/acceptance.md, "The prologue".
 ghost use Rattle.std.specs.Prelude.{◌≡◌, ◌+◌, ◌*◌, ◌<◌, ◌≤◌, ◌^◌, length, not, option_and_then};
 ghost use Rattle.std.specs.List.{list_any};
-ghost use Rattle.thumb_core.specs.Words.{listed};
-ghost use Rattle.frame_facts.specs.Facts.{placed};
-ghost use Rattle.frame_facts.specs.Prologues.{is_callers, is_free, may_stand, saved, with_save, with_pushed, pushed_by, taken, begun};
+ghost use Rattle.thumb_core.specs.Words.{registers_of_list};
+ghost use Rattle.frame_facts.specs.Facts.{some_if};
+ghost use Rattle.frame_facts.specs.Prologues.{is_callers, is_free, may_stand, save_of_word, with_save, with_push_saves, prologue_after, with_instruction, empty_run};
 
 use crate::effects::effect;
 use crate::facts::{DEEPEST, Fact, Source, entry_fact};
@@ -11,16 +11,16 @@ use crate::saves::{MOST_SAVES, Prologue, Save};
 use thumb_isa::instr::Instr;
 use thumb_isa::{idles, plain, works};
 
-/// The run so far: the fact after it, and the prologue that it is.
+/// The straight run so far.
 #[derive(Clone, Copy)]
 pub struct Straight {
-    /// What holds after the run.
+    /// The fact after the run.
     pub fact: Fact,
-    /// The prologue; it ends after the run.
+    /// The prologue that the run makes; it ends where the run ends.
     pub prologue: Prologue,
 }
 
-/// Whether a register is the caller's: r4 to r11 and lr.
+/// Whether the caller needs a register's value: r4 to r11 and lr.
 fn is_callers(reg: u8) -> bool
     ensures { result ≡ is_callers reg }
 {
@@ -34,9 +34,9 @@ fn is_free(reg: u8) -> bool
     !is_callers(reg) && reg != 13 && reg != 15
 }
 
-/// Whether the run may write the registers of a list.
+/// Whether the run may write all registers of a list.
 fn all_free(list: u16) -> bool
-    ensures { result ≡ not (list_any (λ reg. not (is_free reg)) (listed list)) }
+    ensures { result ≡ not (list_any (λ reg. not (is_free reg)) (registers_of_list list)) }
 {
     for k in 0..16u8 {
         if (list >> k) & 1 == 1 {
@@ -48,7 +48,7 @@ fn all_free(list: u16) -> bool
     true
 }
 
-/// Whether an instruction may stand in the run.
+/// Whether an instruction is allowed in the run.
 fn may_stand(i: &Instr) -> bool
     ensures { result ≡ may_stand i.now }
 {
@@ -82,9 +82,9 @@ fn may_stand(i: &Instr) -> bool
     }
 }
 
-/// The save that a word at an offset is, where it is one.
-fn saved(offset: u32, held: Source) -> Option<Save>
-    ensures { result ≡ saved offset held }
+/// The save that a word at an offset makes; None if it saves no register of the caller.
+fn save_of_word(offset: u32, held: Source) -> Option<Save>
+    ensures { result ≡ save_of_word offset held }
 {
     match held {
         Source::Entry(reg) => {
@@ -98,9 +98,9 @@ fn saved(offset: u32, held: Source) -> Option<Save>
     }
 }
 
-/// Adds a save to a prologue whose saves so far fit; false where they didn't, and where this is one too many.
+/// Adds a save to a prologue. False if the saves before didn't fit (`fits`), or this one doesn't.
 fn add_save(grown: &mut Prologue, fits: bool, save: Option<Save>) -> bool
-    ensures { placed result grown.new ≡ option_and_then (with_save save) (placed fits grown.old) }
+    ensures { some_if result grown.new ≡ option_and_then (with_save save) (some_if fits grown.old) }
 {
     if !fits {
         return false;
@@ -116,10 +116,10 @@ fn add_save(grown: &mut Prologue, fits: bool, save: Option<Save>) -> bool
     true
 }
 
-/// Adds the saves of a PUSH to a prologue; false where they are too many.
-fn add_pushed(grown: &mut Prologue, fact: &Fact, list: u16) -> bool
+/// Adds the saves of a PUSH to a prologue; false if they are too many.
+fn add_push_saves(grown: &mut Prologue, fact: &Fact, list: u16) -> bool
     requires { fact.now.depth ≤ DEEPEST }
-    ensures { placed result grown.new ≡ with_pushed grown.old fact.now (listed list) }
+    ensures { some_if result grown.new ≡ with_push_saves grown.old fact.now (registers_of_list list) }
 {
     let mut fits = true;
     let mut offset = fact.depth;
@@ -127,16 +127,16 @@ fn add_pushed(grown: &mut Prologue, fact: &Fact, list: u16) -> bool
         let k = 15 - n;
         if (list >> k) & 1 == 1 {
             offset += 4;
-            fits = add_save(grown, fits, saved(offset, fact.source(k)));
+            fits = add_save(grown, fits, save_of_word(offset, fact.source(k)));
         }
     }
     fits
 }
 
 impl Straight {
-    /// The run at a function's entry, which stands at the address `start`: it has no instruction.
+    /// The run at the entry of the function at address `start`: it has no instruction.
     pub fn begin(start: u32) -> Straight
-        ensures { result ≡ begun start }
+        ensures { result ≡ empty_run start }
     {
         Straight {
             fact: entry_fact(),
@@ -148,14 +148,14 @@ impl Straight {
         }
     }
 
-    /// Adds what an instruction saves to the prologue, which is handed in; false where that is too much.
+    /// Adds an instruction's saves to the prologue `grown`; false if they are too many.
     fn add_pushed_by(&self, grown: &mut Prologue, i: &Instr) -> bool
         requires depth { self.now.fact.depth ≤ DEEPEST }
         requires same { grown.old ≡ self.now.prologue }
-        ensures { placed result grown.new ≡ pushed_by self.now i.now }
+        ensures { some_if result grown.new ≡ prologue_after self.now i.now }
     {
         match *i {
-            Instr::Push { list } => add_pushed(grown, &self.fact, list),
+            Instr::Push { list } => add_push_saves(grown, &self.fact, list),
             plain!()
             | Instr::AddHigh { .. }
             | Instr::MovHigh { .. }
@@ -175,10 +175,10 @@ impl Straight {
         }
     }
 
-    /// The run with an instruction more, of `size` bytes, that stands after it; `None` where the prologue ends before it. That nothing
-    /// branches to one of its halfwords and that no pad stands there is for the caller to see.
+    /// The run extended by the next instruction, of `size` bytes. None if the prologue ends before it. The caller has to make sure that
+    /// no branch goes to one of its halfwords and that no landing pad is there.
     pub fn taken(&self, i: &Instr, size: u32) -> Option<Straight>
-        ensures { result ≡ taken self.now i.now size }
+        ensures { result ≡ with_instruction self.now i.now size }
     {
         if self.fact.depth > DEEPEST || !may_stand(i) {
             return None;

@@ -4,19 +4,20 @@ use Rattle.std.specs.List.{Contains}
 use Rattle.thumb_isa.specs.declared.instr.Instr.{Instr}
 use Rattle.frame_facts.specs.declared.cause.FrameCause.{FrameCause}
 use Rattle.frame_facts.specs.declared.facts.Fact.{Fact}
-use Rattle.frame_facts.specs.Facts.{entered, IsAtMost}
-use Rattle.frame_graph.specs.declared.places.Standing.{Standing}
-use Rattle.frame_graph.specs.declared.places.Standing.TheVariants.{Instruction, Udf, Nothing}
+use Rattle.frame_facts.specs.Facts.{entry_fact, IsAtMost}
+use Rattle.frame_code.specs.declared.standing.Standing.{Standing}
+use Rattle.frame_code.specs.declared.standing.Standing.TheVariants.{Instruction, Udf, Nothing}
 use Rattle.frame_graph.specs.declared.edges.Edge.{Edge}
 use Rattle.frame_graph.specs.FlowGraph.{FlowGraph}
 use Rattle.frame_graph.specs.Places.{address_of, standing_at}
-use Rattle.frame_graph.specs.Edges.{straight_by, instruction_of, instruction_at}
+use Rattle.frame_code.specs.Standing.{instruction_of}
+use Rattle.frame_graph.specs.Edges.{straight_by, instruction_at}
 use Rattle.frame_graph.specs.Sites.{site_of, edges_from, edges_of}
 use Rattle.frame_graph.specs.Reach.{IsReached, entry, along as stepped}
-use Rattle.flow.specs.Flow.{at_entry, along, meeting, Passes}
-use Rattle.flow.proofs.Law.{below}
-use Rattle.flow.proofs.Work.{contains_none}
-use Rattle.frame_flow.specs.Framed.{Framed}
+use Rattle.frame_dataflow.specs.Flow.{at_entry, along, meeting, Passes}
+use Rattle.frame_dataflow.proofs.Law.{below}
+use Rattle.frame_dataflow.proofs.Work.{contains_none}
+use Rattle.frame_flow.specs.Framed.{FramedFunction}
 use Rattle.frame_flow.specs.Flows.{along_edge, flow_of, IsStateOf, HasFacts}
 use Rattle.frame_flow.specs.Laws.{FactsReach}
 use Rattle.frame_flow.proofs.Causing.{passes_found}
@@ -32,15 +33,15 @@ edge_from : (s : FlowGraph) (p : ℕ) (w : Edge) → Contains (edges_of s p) w �
 unfolding edges_of
 edge_from s p w h = edge_by s (address_of s p) (standing_at s p) w h
 
-pub state_reached : (x : Framed) (p : ℕ) (f : Fact) → IsStateOf x p f → IsReached x.flow_graph p
+pub state_reached : (x : FramedFunction) (p : ℕ) (f : Fact) → IsStateOf x p f → IsReached x.flow_graph p
 state_reached x _ _ at_entry = entry
 state_reached x _ _ (along {p} {q} {f} {g} s e) =
     let w = transfer_is x p f q g e in
     subst (λ k. IsReached x.flow_graph k) (ap (λ (y : ℕ × Fact). y.0) w.2.2) (stepped (state_reached x p f s) w.2.1)
 state_reached x _ _ (meeting {p} {f} {g} {h} s t e) = state_reached x p f s
 
-reached_state : (x : Framed) → HasFacts x → (p : ℕ) → IsReached x.flow_graph p → (f : Fact) × IsStateOf x p f
-reached_state x v _ entry = (entered, at_entry)
+reached_state : (x : FramedFunction) → HasFacts x → (p : ℕ) → IsReached x.flow_graph p → (f : Fact) × IsStateOf x p f
+reached_state x v _ entry = (entry_fact, at_entry)
 reached_state x v _ (stepped {p} {w} r h) =
     let s = reached_state x v p r in
     let c = below Fact FrameCause (flow_of x) IsAtMost (laws x) v.0 v.1 p s.0 s.1 in

@@ -9,19 +9,19 @@ use Rattle.frame_facts.specs.declared.facts.Fact.{Fact}
 use Rattle.frame_facts.specs.Facts.{join_of}
 use Rattle.frame_graph.specs.Places.{address_of}
 use Rattle.frame_graph.specs.Sites.{site_of}
-use Rattle.flow.specs.Flow.{at_entry, met, apart}
-use Rattle.frame_flow.specs.Framed.{Framed}
+use Rattle.frame_dataflow.specs.Flow.{at_entry, met, apart}
+use Rattle.frame_flow.specs.Framed.{FramedFunction}
 use Rattle.frame_flow.specs.Causes.{is_call}
-use Rattle.frame_flow.specs.Flows.{parted, StandsIn, IsStateOf}
+use Rattle.frame_flow.specs.Flows.{is_depth_cause, StandsIn, IsStateOf}
 use Rattle.frame_flow.specs.Conditions.{Holds, HasTwoDepths, OfDepths, CausesStand, EntryIsAState, SitesAreCallsOrGates}
 use Rattle.frame_flow.proofs.Conditions.{causes_are_conditions}
 
-parted_is : (x : Framed) (p : ℕ) (c : FrameCause) → parted x p c ≡ true → OfDepths x p c
+parted_is : (x : FramedFunction) (p : ℕ) (c : FrameCause) → is_depth_cause x p c ≡ true → OfDepths x p c
 parted_is x p JoinDepth h = tt
 parted_is x p PadDepth h = h
 parted_is x p c h = absurd (false≢true h)
 
-is_parted : (x : Framed) (p : ℕ) (c : FrameCause) → OfDepths x p c → parted x p c ≡ true
+is_parted : (x : FramedFunction) (p : ℕ) (c : FrameCause) → OfDepths x p c → is_depth_cause x p c ≡ true
 is_parted x p JoinDepth h = refl
 is_parted x p PadDepth h = h
 is_parted x p c h = absurd h
@@ -41,7 +41,7 @@ differ_apart f g ne = by (f.depth == g.depth) _ (λ e. ne (eqb-true f.depth g.de
     by true k h = absurd (h refl)
     by false k h = refl
 
-stands_is : (x : Framed) (p : ℕ) (c : FrameCause) → StandsIn x p c → ((f : Fact) × IsStateOf x p f × Holds x p f c) ⊎ (OfDepths x p c × HasTwoDepths x p)
+stands_is : (x : FramedFunction) (p : ℕ) (c : FrameCause) → StandsIn x p c → ((f : Fact) × IsStateOf x p f × Holds x p f c) ⊎ (OfDepths x p c × HasTwoDepths x p)
 stands_is x _ _ (met {p} {f} {c} s m) = inl (f, s, (causes_are_conditions x c p f).0 m)
 stands_is x _ _ (apart {p} {f} {g} {c} s t e m) = inr (parted_is x p c m, (f, g, s, t, apart_differ f g e))
 

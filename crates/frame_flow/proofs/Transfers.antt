@@ -6,9 +6,9 @@ use Rattle.frame_facts.specs.Facts.{IsAtMost}
 use Rattle.frame_graph.specs.declared.edges.Edge.{Edge}
 use Rattle.frame_graph.specs.FlowGraph.{FlowGraph}
 use Rattle.frame_graph.specs.Sites.{edges_of}
-use Rattle.frame_graph.specs.Stretch.{HaveSame}
-use Rattle.flow.specs.Flow.{Covered}
-use Rattle.frame_flow.specs.Framed.{Framed}
+use Rattle.frame_graph.specs.SiteCaching.{HaveSame}
+use Rattle.frame_dataflow.specs.Flow.{IsCovered}
+use Rattle.frame_flow.specs.Framed.{FramedFunction}
 use Rattle.frame_flow.specs.Flows.{along_edge}
 use Rattle.frame_flow.specs.Work.{IsSound}
 use Rattle.frame_flow.proofs.Instance.{mapped, unmapped}
@@ -19,7 +19,7 @@ transfer_there f xs ys same e h =
     subst (λ (k : ℕ × Fact). Contains (map (along_edge f) ys) k) w.2 (mapped (along_edge f) ys w.0 ((same w.0).0 w.1))
 
 -- the work list stays sound
-pub same_transfer : (x : Framed) (facts : List (Option Fact)) (work : List ℕ) (f : Fact) (xs ys : List Edge) → HaveSame xs ys → IsSound x facts work (map (along_edge f) ys) → IsSound x facts work (map (along_edge f) xs)
+pub same_transfer : (x : FramedFunction) (facts : List (Option Fact)) (work : List ℕ) (f : Fact) (xs ys : List Edge) → HaveSame xs ys → IsSound x facts work (map (along_edge f) ys) → IsSound x facts work (map (along_edge f) xs)
 same_transfer x facts work f xs ys same s = record {
   long = s.long;
   states = s.states;
@@ -32,7 +32,7 @@ same_transfer x facts work f xs ys same s = record {
         r.0,
         λ q g c. ⊎_elim
             (λ (t : Contains (map (along_edge f) ys) (q, g)). inl (transfer_there f ys xs (λ w. ((same w).1, (same w).0)) (q, g) t))
-            (λ (t : Covered IsAtMost facts q g). inr t)
+            (λ (t : IsCovered IsAtMost facts q g). inr t)
             (r.1 q g c),
       ))
       (s.closed p h e);

@@ -1,4 +1,4 @@
--- The causes that a fact meets at a place of a function (docs/acceptance.md, "Causes").
+-- The causes that a fact meets at a place of a function (docs/rules/acceptance.md, "Causes").
 use Rattle.std.specs.Prelude.{ℕ, ◌==◌, ◌&&◌, not, Bool, true, false, if◌then◌else◌, List, [], ◌∷◌, ◌++◌, Option, Some, None, Result, Ok, Err}
 use Rattle.std.specs.List.{list_any}
 use Rattle.std.specs.Option.{option_map_or}
@@ -10,23 +10,23 @@ use Rattle.frame_facts.specs.declared.cause.FrameCause.TheVariants.{Undecodable,
 use Rattle.frame_facts.specs.declared.facts.Fact.{Fact}
 use Rattle.frame_facts.specs.declared.saves.Prologue.{Prologue}
 use Rattle.frame_facts.specs.After.{after_of}
-use Rattle.frame_facts.specs.Agrees.{has_no_room, agreed}
-use Rattle.frame_graph.specs.declared.unwinding.Unwinding.{Unwinding}
-use Rattle.frame_graph.specs.declared.unwinding.Unwinding.TheVariants.{Finds, Refused, BadBytecode as BadCodes, GenericModel as Generic}
+use Rattle.frame_facts.specs.Agrees.{has_no_room, agreement}
+use Rattle.frame_entries.specs.declared.unwinding.EntrySummary.{EntrySummary}
+use Rattle.frame_entries.specs.declared.unwinding.EntrySummary.TheVariants.{Finds, Refused, BadBytecode as BadCodes, GenericModel as Generic}
 use Rattle.frame_graph.specs.FlowGraph.{FlowGraph}
 use Rattle.frame_graph.specs.Places.{address_of}
 use Rattle.frame_graph.specs.Edges.{is_undecodable, branches_out, calls_nothing, instruction_at}
 use Rattle.frame_graph.specs.Sites.{site_at, unwinding_at, is_scoped, pads_out}
-use Rattle.frame_flow.specs.Framed.{Framed}
+use Rattle.frame_flow.specs.Framed.{FramedFunction}
 
 -- ---- what a test and an answer show
 
-abbrev pub shown : Bool → FrameCause → List FrameCause
-shown test c = if test then c ∷ [] else []
+abbrev pub cause_if : Bool → FrameCause → List FrameCause
+cause_if test c = if test then c ∷ [] else []
 
-abbrev pub answered : {X : Type 0} → Result X FrameCause → List FrameCause
-answered (Ok x) = []
-answered (Err c) = c ∷ []
+abbrev pub causes_of_result : {X : Type 0} → Result X FrameCause → List FrameCause
+causes_of_result (Ok x) = []
+causes_of_result (Err c) = c ∷ []
 
 -- ---- sites
 
@@ -36,36 +36,37 @@ is_call (Bl off) = true
 is_call (Blx m) = true
 is_call i = false
 
--- What the entry that covers a site says: its recipe has to agree; where there is none only calls are asked, and only for a word on the
--- stack.
-abbrev pub unwound : Prologue → Unwinding → Bool → Fact → List FrameCause
-unwound p (Finds r) call f = answered (agreed p r call f)
-unwound p Refused call f = shown (has_no_room call f LR) (CallState LR)
-unwound p BadCodes call f = shown (has_no_room call f LR) (CallState LR)
-unwound p Generic call f = shown (has_no_room call f LR) (CallState LR)
+-- The cause that a site gives by its entry: a recipe must agree with the fact. Without one only calls are checked, and only for a word
+-- on the stack.
+abbrev pub entry_causes : Prologue → EntrySummary → Bool → Fact → List FrameCause
+entry_causes p (Finds r) call f = causes_of_result (agreement p r call f)
+entry_causes p Refused call f = cause_if (has_no_room call f LR) (CallState LR)
+entry_causes p BadCodes call f = cause_if (has_no_room call f LR) (CallState LR)
+entry_causes p Generic call f = cause_if (has_no_room call f LR) (CallState LR)
 
 -- a gate in the scope of a descriptor, with nothing on the stack
 abbrev pub throws_in_leaf : FlowGraph → ℕ → Bool → Fact → Bool
 throws_in_leaf s site call f = not call && (f.depth == 0) && is_scoped s site
 
-abbrev pub site_causes : Framed → Bool → Fact → ℕ → List FrameCause
+abbrev pub site_causes : FramedFunction → Bool → Fact → ℕ → List FrameCause
 site_causes x call f site =
-    unwound x.prologue (unwinding_at x.flow_graph site) call f ++ (shown (pads_out x.flow_graph site) PadDepth ++ shown (throws_in_leaf x.flow_graph site call f) ThrowInLeafScope)
+    entry_causes x.prologue (unwinding_at x.flow_graph site) call f ++ (cause_if (pads_out x.flow_graph site) PadDepth ++ cause_if (throws_in_leaf x.flow_graph site call f) ThrowInLeafScope)
 
 -- ---- places
 
 -- what the instruction at a place does to the fact
-abbrev pub after_at : Framed → ℕ → Fact → Instr → Result Fact FrameCause
+abbrev pub after_at : FramedFunction → ℕ → Fact → Instr → Result Fact FrameCause
 after_at x p f i = after_of x.prologue (x.lowers p) (address_of x.flow_graph p) i f
 
-abbrev pub instruction_causes : Framed → ℕ → Fact → Instr → List FrameCause
-instruction_causes x p f i = answered (after_at x p f i) ++ option_map_or (site_causes x (is_call i) f) (site_at x.flow_graph p) []
+abbrev pub instruction_causes : FramedFunction → ℕ → Fact → Instr → List FrameCause
+instruction_causes x p f i = causes_of_result (after_at x p f i) ++ option_map_or (site_causes x (is_call i) f) (site_at x.flow_graph p) []
 
--- The causes that a fact meets at a place, the lowest first. Only BL can call what is no function, and it shows no cause by its effect.
-unfoldable pub causes_at : Framed → ℕ → Fact → List FrameCause
+-- The causes that a fact meets at a place, the lowest first. Only BL can call an address where no function begins, and its effect gives
+-- no cause.
+unfoldable pub causes_at : FramedFunction → ℕ → Fact → List FrameCause
 causes_at x p f =
-    shown (is_undecodable x.flow_graph p) Undecodable ++ (shown (branches_out x.flow_graph p) BranchOut
-    ++ (shown (calls_nothing x.flow_graph p) CallNotFunction ++ option_map_or (instruction_causes x p f) (instruction_at x.flow_graph p) []))
+    cause_if (is_undecodable x.flow_graph p) Undecodable ++ (cause_if (branches_out x.flow_graph p) BranchOut
+    ++ (cause_if (calls_nothing x.flow_graph p) CallNotFunction ++ option_map_or (instruction_causes x p f) (instruction_at x.flow_graph p) []))
 
 -- ---- one cause and another
 
@@ -116,6 +117,6 @@ same_register (Some a) (Some b) = a == b
 abbrev pub same_cause : FrameCause → FrameCause → Bool
 same_cause a b = (number a == number b) && same_register (register a) (register b)
 
--- a fact meets a cause at a place where the cause is among those found
-unfoldable pub meets : Framed → FrameCause → ℕ → Fact → Bool
-meets x c p f = list_any (same_cause c) (causes_at x p f)
+-- a fact meets a cause at a place if the cause is among those computed
+unfoldable pub meets_cause : FramedFunction → FrameCause → ℕ → Fact → Bool
+meets_cause x c p f = list_any (same_cause c) (causes_at x p f)

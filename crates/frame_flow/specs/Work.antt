@@ -1,13 +1,13 @@
--- How a work list finds the facts of a function, or a cause that stands.
+-- How a work list computes the facts of a function, or finds a cause that stands.
 use Rattle.std.specs.Prelude.{ℕ, ◌≡◌, ◌≤◌, ◌+◌, Bool, true, false, List, [], ◌∷◌, ◌++◌, Option, Some, None, Result, Ok, Err, slice_set}
 use Rattle.frame_facts.specs.declared.cause.FrameCause.{FrameCause}
 use Rattle.frame_facts.specs.declared.facts.Fact.{Fact}
 use Rattle.frame_facts.specs.Facts.{join_of, height, IsAtMost}
-use Rattle.flow.specs.Flow.{fact_at}
-use Rattle.flow.specs.Sound.{Sound, weight}
+use Rattle.frame_dataflow.specs.Flow.{fact_at}
+use Rattle.frame_dataflow.specs.Sound.{Sound, weight}
 use Rattle.frame_flow.specs.declared.work.FrameFault.{FrameFault}
 use Rattle.frame_flow.specs.declared.work.FrameFault.TheVariants.{Stands, OutOfMemory}
-use Rattle.frame_flow.specs.Framed.{Framed}
+use Rattle.frame_flow.specs.Framed.{FramedFunction}
 use Rattle.frame_flow.specs.Causes.{causes_at}
 use Rattle.frame_flow.specs.Flows.{fact_after, parting, flow_of, count_of, StandsIn, HasFacts}
 
@@ -18,49 +18,49 @@ abbrev pub by_first : {X : Type 0} → List FrameCause → X → Result X FrameC
 by_first [] x = Ok x
 by_first (c ∷ more) x = Err c
 
--- the fact after a place, where it meets no cause there; else the lowest
-abbrev pub passed : Framed → ℕ → Fact → Result (Option Fact) FrameCause
-passed x p f = by_first (causes_at x p f) (fact_after x p f)
+-- the fact after a place if it meets no cause there, else the lowest cause
+abbrev pub pass_place : FramedFunction → ℕ → Fact → Result (Option Fact) FrameCause
+pass_place x p f = by_first (causes_at x p f) (fact_after x p f)
 
--- the same answer, where the fact is written to a place of its own
-abbrev pub written : Result Bool FrameCause → Fact → Result (Option Fact) FrameCause
-written (Ok true) g = Ok (Some g)
-written (Ok false) g = Ok None
-written (Err c) g = Err c
+-- the same result, with the fact written to an output
+abbrev pub fact_if_true : Result Bool FrameCause → Fact → Result (Option Fact) FrameCause
+fact_if_true (Ok true) g = Ok (Some g)
+fact_if_true (Ok false) g = Ok None
+fact_if_true (Err c) g = Err c
 
 -- ---- the work list
 
-abbrev pub IsSound : Framed → List (Option Fact) → List ℕ → List (ℕ × Fact) → Type 0
+abbrev pub IsSound : FramedFunction → List (Option Fact) → List ℕ → List (ℕ × Fact) → Type 0
 IsSound x = Sound Fact FrameCause (flow_of x) IsAtMost (count_of x.flow_graph)
 
--- a height above that of every state: the saves that are kept count, and what is known beside them is less than 32
-abbrev pub top_of : Framed → ℕ
+-- a height above that of every state: the number of saves, plus what is known besides them, which is less than 32
+abbrev pub top_of : FramedFunction → ℕ
 top_of x = x.prologue.count + 32
 
 -- how much there is to do at most
-abbrev pub load : Framed → List (Option Fact) → List ℕ → ℕ
+abbrev pub load : FramedFunction → List (Option Fact) → List ℕ → ℕ
 load x = weight height (top_of x)
 
--- a fault names a cause that stands; that memory runs out says nothing
-abbrev pub FaultStands : Framed → FrameFault → Type 0
+-- a fault names a cause that stands; running out of memory tells nothing
+abbrev pub FaultStands : FramedFunction → FrameFault → Type 0
 FaultStands x (Stands place cause) = StandsIn x place cause
 FaultStands x OutOfMemory = Unit {0}
 
--- a fault that isn't want of memory shows that there are no valid facts
-abbrev pub LacksFacts : Framed → FrameFault → Type 0
+-- a fault other than running out of memory means that there are no valid facts
+abbrev pub LacksFacts : FramedFunction → FrameFault → Type 0
 LacksFacts x (Stands place cause) = HasFacts x → ⊥
 LacksFacts x OutOfMemory = Unit {0}
 
 -- what becomes of the facts and the work list at an edge to the place q with the fact g: the fact is written where there was none, or the
 -- meeting with the one that was there where that is another; then the place is to be visited. Two depths part
-pub data Merged (x : Framed) (facts : List (Option Fact)) (work : List ℕ) (q : ℕ) (g : Fact) (facts' : List (Option Fact)) (work' : List ℕ) : Result (Unit {0}) FrameFault → Type 0 where
-  fresh : fact_at facts q ≡ None → facts' ≡ slice_set facts q (Some g) → work' ≡ work ++ q ∷ [] → Merged x facts work q g facts' work' (Ok tt)
-  same : (h k : Fact) → fact_at facts q ≡ Some h → join_of h g ≡ Some k → k ≡ h → facts' ≡ facts → work' ≡ work → Merged x facts work q g facts' work' (Ok tt)
-  vaguer : (h k : Fact) → fact_at facts q ≡ Some h → join_of h g ≡ Some k → (k ≡ h → ⊥) → facts' ≡ slice_set facts q (Some k) → work' ≡ work ++ q ∷ [] → Merged x facts work q g facts' work' (Ok tt)
-  parts : (h : Fact) → fact_at facts q ≡ Some h → join_of h g ≡ None → Merged x facts work q g facts' work' (Err (Stands q (parting x q)))
-  spent : Merged x facts work q g facts' work' (Err OutOfMemory)
+pub data MergesFact (x : FramedFunction) (facts : List (Option Fact)) (work : List ℕ) (q : ℕ) (g : Fact) (facts' : List (Option Fact)) (work' : List ℕ) : Result (Unit {0}) FrameFault → Type 0 where
+  fresh : fact_at facts q ≡ None → facts' ≡ slice_set facts q (Some g) → work' ≡ work ++ q ∷ [] → MergesFact x facts work q g facts' work' (Ok tt)
+  same : (h k : Fact) → fact_at facts q ≡ Some h → join_of h g ≡ Some k → k ≡ h → facts' ≡ facts → work' ≡ work → MergesFact x facts work q g facts' work' (Ok tt)
+  vaguer : (h k : Fact) → fact_at facts q ≡ Some h → join_of h g ≡ Some k → (k ≡ h → ⊥) → facts' ≡ slice_set facts q (Some k) → work' ≡ work ++ q ∷ [] → MergesFact x facts work q g facts' work' (Ok tt)
+  parts : (h : Fact) → fact_at facts q ≡ Some h → join_of h g ≡ None → MergesFact x facts work q g facts' work' (Err (Stands q (parting x q)))
+  spent : MergesFact x facts work q g facts' work' (Err OutOfMemory)
 
--- the work list stays sound and its load grows no more, or a cause stands
-abbrev pub Keeps : Framed → List (Option Fact) → List ℕ → List (Option Fact) → List ℕ → List (ℕ × Fact) → Result (Unit {0}) FrameFault → Type 0
+-- the work list keeps its invariant and its load doesn't grow, or a cause stands
+abbrev pub Keeps : FramedFunction → List (Option Fact) → List ℕ → List (Option Fact) → List ℕ → List (ℕ × Fact) → Result (Unit {0}) FrameFault → Type 0
 Keeps x facts work facts' work' todo (Ok u) = IsSound x facts' work' todo × (load x facts' work' ≤ load x facts work)
 Keeps x facts work facts' work' todo (Err e) = FaultStands x e

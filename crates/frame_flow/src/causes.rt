@@ -1,42 +1,50 @@
-//! The causes that a fact meets at a place, the lowest first. docs/acceptance.md, "Causes".
+//! The causes that a fact meets at a place, the lowest first. docs/rules/acceptance.md, "Causes".
 ghost use Rattle.std.specs.Prelude.{◌≡◌, ◌+◌, ◌*◌, ◌<◌, ◌^◌, Some, is_some};
-ghost use Rattle.frame_flow.specs.Framed.{framed_of};
-ghost use Rattle.frame_flow.specs.Causes.{is_call, unwound, throws_in_leaf, site_causes, causes_at};
+ghost use Rattle.frame_flow.specs.Framed.{framed_view};
+ghost use Rattle.frame_flow.specs.Causes.{is_call, entry_causes, throws_in_leaf, site_causes, causes_at};
 ghost use Rattle.frame_flow.specs.Flows.{fact_after, parting};
-ghost use Rattle.frame_flow.specs.Work.{by_first, passed, written};
+ghost use Rattle.frame_flow.specs.Work.{by_first, pass_place, fact_if_true};
 ghost use Rattle.frame_graph.specs.Edges.{instruction_at};
-ghost use Rattle.frame_graph.specs.Lowering.{sets_sp_from};
+ghost use Rattle.frame_code.specs.Lowering.{sets_sp_from};
 ghost use Rattle.frame_graph.specs.Sites.{unwinding_at, pads_out};
-ghost use Rattle.frame_graph.specs.Stretch.{Tells, TellsOn};
+ghost use Rattle.frame_graph.specs.SiteCaching.{Tells, TellsOn};
 
-use crate::framed::Framed;
-use frame_facts::{Fact, FrameCause, agrees, follow};
-use frame_graph::{Standing, Stretch, Unwinding};
+use crate::framed::FramedFunction;
+use frame_code::Standing;
+use frame_entries::EntrySummary;
+use frame_facts::{Fact, FrameCause, agrees, write_fact_after};
+use frame_graph::SiteCache;
 use thumb_core::regs::{LR, SP};
 use thumb_isa::instr::Instr;
 
-/// Of a call and a gate, the call.
+/// Whether the instruction at a site is a call; else it is a gate.
 fn is_call(i: &Instr) -> bool
     ensures { result ≡ is_call i.now }
 {
     matches!(*i, Instr::Bl { .. } | Instr::Blx { .. })
 }
 
-/// Whether it is a MOV into sp.
+/// Whether an instruction is a MOV into sp.
 fn sets_sp(i: &Instr) -> bool
     ensures { result ≡ is_some (sets_sp_from i.now) }
 {
     matches!(*i, Instr::MovHigh { d: SP, .. })
 }
 
-impl<'f, 's, 'i, 'a> Framed<'f, 's, 'i, 'a> {
-    /// Whether a site agrees with what the codes of its entry say: by their recipe, and where there is none by the room of a call alone.
-    fn unwound_by(&self, unwinding: &Unwinding, call: bool, fact: &Fact) -> Result<(), FrameCause>
-        ensures { result ≡ by_first (unwound self.now.prologue unwinding.now call fact.now) tt }
+impl<'f, 's, 'i, 'a> FramedFunction<'f, 's, 'i, 'a> {
+    /// Whether a site agrees with how its entry unwinds. With a recipe, the fact must agree with it. Without one, a call only needs a
+    /// word on the stack.
+    fn agrees_with_summary(
+        &self,
+        unwinding: &EntrySummary,
+        call: bool,
+        fact: &Fact,
+    ) -> Result<(), FrameCause>
+        ensures { result ≡ by_first (entry_causes self.now.prologue unwinding.now call fact.now) tt }
     {
         match unwinding {
-            Unwinding::Finds(recipe) => agrees(fact, self.prologue, recipe, call),
-            Unwinding::Refused | Unwinding::BadBytecode | Unwinding::GenericModel => {
+            EntrySummary::Finds(recipe) => agrees(fact, self.prologue, recipe, call),
+            EntrySummary::Refused | EntrySummary::BadBytecode | EntrySummary::GenericModel => {
                 if call && fact.depth < 4 {
                     Err(FrameCause::CallState { reg: LR })
                 } else {
@@ -46,26 +54,26 @@ impl<'f, 's, 'i, 'a> Framed<'f, 's, 'i, 'a> {
         }
     }
 
-    /// The same of a site whose entry isn't kept. It stays a call, so that one that is kept is asked in few steps.
+    /// As `unwound`, for a site whose entry isn't cached. It isn't inlined, so that the cached case stays short.
     #[inline(never)]
-    fn unwound_anew(&self, site: u32, call: bool, fact: &Fact) -> Result<(), FrameCause>
-        ensures { result ≡ by_first (unwound self.now.prologue (unwinding_at self.now.flow_graph site) call fact.now) tt }
+    fn agrees_with_uncached(&self, site: u32, call: bool, fact: &Fact) -> Result<(), FrameCause>
+        ensures { result ≡ by_first (entry_causes self.now.prologue (unwinding_at self.now.flow_graph site) call fact.now) tt }
     {
-        self.unwound_by(&self.flow_graph.unwinding_at(site), call, fact)
+        self.agrees_with_summary(&self.flow_graph.unwinding_at(site), call, fact)
     }
 
     /// Whether a site agrees with the entry that covers it.
-    fn unwound(&self, site: u32, call: bool, fact: &Fact) -> Result<(), FrameCause>
-        ensures { result ≡ by_first (unwound self.now.prologue (unwinding_at self.now.flow_graph site) call fact.now) tt }
+    fn agrees_with_entry(&self, site: u32, call: bool, fact: &Fact) -> Result<(), FrameCause>
+        ensures { result ≡ by_first (entry_causes self.now.prologue (unwinding_at self.now.flow_graph site) call fact.now) tt }
     {
         match self.flow_graph.kept_unwinding_at(site) {
-            None => self.unwound_anew(site, call, fact),
-            Some(unwinding) => self.unwound_by(unwinding, call, fact),
+            None => self.agrees_with_uncached(site, call, fact),
+            Some(unwinding) => self.agrees_with_summary(unwinding, call, fact),
         }
     }
 
-    /// Whether a gate stands in the scope of a descriptor with nothing on the stack.
-    fn throws_in_leaf(&self, stretch: &Stretch, site: u32, call: bool, fact: &Fact) -> bool
+    /// Whether a gate lies in the scope of a descriptor while nothing is on the stack.
+    fn throws_in_leaf(&self, stretch: &SiteCache, site: u32, call: bool, fact: &Fact) -> bool
         requires { Tells self.now.flow_graph stretch.now site }
         ensures { result ≡ throws_in_leaf self.now.flow_graph site call fact.now }
     {
@@ -73,25 +81,25 @@ impl<'f, 's, 'i, 'a> Framed<'f, 's, 'i, 'a> {
     }
 
     /// Whether a landing pad of a site isn't code of the function.
-    fn pads_out(&self, stretch: &Stretch, site: u32) -> bool
+    fn pads_out(&self, stretch: &SiteCache, site: u32) -> bool
         requires { Tells self.now.flow_graph stretch.now site }
         ensures { result ≡ pads_out self.now.flow_graph site }
     {
         stretch.pads_out()
     }
 
-    /// The lowest cause that a fact meets at a site.
+    /// Err with the lowest cause that a fact meets at a site.
     fn agrees_at(
         &self,
-        stretch: &Stretch,
+        stretch: &SiteCache,
         site: u32,
         call: bool,
         fact: &Fact,
     ) -> Result<(), FrameCause>
         requires { Tells self.now.flow_graph stretch.now site }
-        ensures { result ≡ by_first (site_causes (framed_of self.now) call fact.now site) tt }
+        ensures { result ≡ by_first (site_causes (framed_view self.now) call fact.now site) tt }
     {
-        self.unwound(site, call, fact)?;
+        self.agrees_with_entry(site, call, fact)?;
         if self.pads_out(stretch, site) {
             return Err(FrameCause::PadDepth);
         }
@@ -101,26 +109,28 @@ impl<'f, 's, 'i, 'a> Framed<'f, 's, 'i, 'a> {
         Ok(())
     }
 
-    /// Whether a frame of variable size is made at a place, by the instruction there. Only for a MOV into sp is anything else looked at.
+    /// Whether the instruction at a place makes a frame of variable size. For instructions other than a MOV into sp nothing else is
+    /// read.
     fn lowers_at(&self, place: u32, i: &Instr) -> bool
         requires { instruction_at self.now.flow_graph place ≡ Some i.now }
-        ensures { result ≡ (framed_of self.now).lowers place }
+        ensures { result ≡ (framed_view self.now).lowers place }
     {
         sets_sp(i) && self.flow_graph.is_lowering(self.reached, place)
     }
 
-    /// Whether something leads on from a place, whose fact after it is then written to `next`; or the lowest cause that the fact before it
-    /// meets there. The stretch is that of its site. Where nothing leads on, `next` holds anything.
-    pub(crate) fn passed(
+    /// Applies the instruction at a place to `fact`: writes the fact after it to `next`, and returns whether the place has edges. Err
+    /// with the lowest cause that `fact` meets there. If there are no edges, `next` isn't specified. `stretch` is the answer for the
+    /// site of the place.
+    pub(crate) fn pass_place(
         &self,
-        stretch: &Stretch,
+        stretch: &SiteCache,
         place: u32,
         fact: &Fact,
         next: &mut Fact,
     ) -> Result<bool, FrameCause>
         requires low { self.now.flow_graph.start + 2 * place < 2 ^ 32 }
         requires tells { TellsOn self.now.flow_graph stretch.now place }
-        ensures { written result next.new ≡ passed (framed_of self.now) place fact.now }
+        ensures { fact_if_true result next.new ≡ pass_place (framed_view self.now) place fact.now }
     {
         let standing = self.flow_graph.standing_at(place);
         if self.flow_graph.is_undecodable(place) {
@@ -135,7 +145,7 @@ impl<'f, 's, 'i, 'a> Framed<'f, 's, 'i, 'a> {
         let Standing::Instruction(i, _) = standing else {
             return Ok(false);
         };
-        match follow(
+        match write_fact_after(
             fact,
             next,
             &i,
@@ -154,9 +164,9 @@ impl<'f, 's, 'i, 'a> Framed<'f, 's, 'i, 'a> {
         }
     }
 
-    /// Which cause is named where two paths reach a place with different depths.
-    pub(crate) fn parting(&self, place: u32) -> FrameCause
-        ensures { result ≡ parting (framed_of self.now) place }
+    /// The cause to name if two paths reach a place with different depths.
+    pub(crate) fn depth_cause(&self, place: u32) -> FrameCause
+        ensures { result ≡ parting (framed_view self.now) place }
     {
         let place = place as usize;
         if place < self.pads.len() && self.pads[place] {

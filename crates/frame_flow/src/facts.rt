@@ -1,6 +1,6 @@
-//! The facts of a function's places while they are found. docs/acceptance.md, "The facts of a function".
+//! The facts of a function's places while they are computed. docs/rules/acceptance.md, "Valid facts".
 ghost use Rattle.std.specs.Prelude.{◌≡◌, ◌<◌, [], List, Option, Some, None, length, replicate, slice_set, slice_index_or, option_copied, OnOk};
-ghost use Rattle.flow.specs.Flow.{fact_at};
+ghost use Rattle.frame_dataflow.specs.Flow.{fact_at};
 
 use frame_facts::Fact;
 use std::alloc::{AllocError, Global};
@@ -8,16 +8,17 @@ use std::marker::Model;
 
 /// A place with its fact.
 #[derive(Clone, Copy)]
-pub(crate) struct Known {
+pub(crate) struct PlaceFact {
     place: u32,
     fact: Fact,
 }
 
-/// A table with at most one fact a place. Contracts see it place by place. Where a place has no fact it takes the room of a number alone.
+/// A table with at most one fact for each place. In contracts, it is a list with one element a place. A place without a fact only takes
+/// the memory of a number.
 #[derive(Drop)]
 pub(crate) struct Facts {
     slots: Vec<Option<u32>>,
-    known: Vec<Known>,
+    known: Vec<PlaceFact>,
 }
 
 impl Model for Facts {
@@ -33,7 +34,7 @@ impl Model for Facts {
 }
 
 impl Facts {
-    /// A table of no places.
+    /// A table without places.
     pub(crate) fn none(alloc: Global) -> Facts
         ensures { result ≡ [] }
     {
@@ -43,7 +44,7 @@ impl Facts {
         }
     }
 
-    /// Makes it a table for so many places, in which none has a fact, in the room that it has.
+    /// Makes it a table of `count` places without facts, and reuses its memory.
     pub(crate) fn blank(&mut self, count: u32) -> Result<(), AllocError>
         ensures { OnOk result (self.new ≡ replicate count None) }
     {
@@ -52,7 +53,7 @@ impl Facts {
         self.slots.resize(count as usize, None)
     }
 
-    /// The fact of a place. It is lent.
+    /// The fact of a place; None if it has none.
     pub(crate) fn get(&self, place: u32) -> Option<&Fact>
         requires { place < length self.now }
         ensures { option_copied result ≡ fact_at self.now place }
@@ -63,21 +64,21 @@ impl Facts {
         }
     }
 
-    /// Writes the fact of a place.
+    /// Sets the fact of a place.
     pub(crate) fn put(&mut self, place: u32, fact: &Fact) -> Result<(), AllocError>
         requires { place < length self.old }
         ensures { OnOk result (self.new ≡ slice_set self.old place (Some fact.now)) }
     {
         match self.slots[place as usize] {
             Some(slot) => {
-                self.known[slot as usize] = Known { place, fact: *fact };
+                self.known[slot as usize] = PlaceFact { place, fact: *fact };
                 Ok(())
             }
             None => {
                 let Ok(slot) = u32::try_from(self.known.len()) else {
                     return Err(AllocError);
                 };
-                self.known.push(Known { place, fact: *fact })?;
+                self.known.push(PlaceFact { place, fact: *fact })?;
                 self.slots[place as usize] = Some(slot);
                 Ok(())
             }

@@ -1,5 +1,5 @@
-//! The facts of one function: what is known at each of its places, and the causes that stand there. docs/acceptance.md, "The facts of a
-//! function", states the rules.
+//! The facts of one function: what is known at each of its places, and the causes that stand there.
+//! docs/rules/acceptance.md, "Valid facts", states the rules.
 #![tactic(auto)]
 
 pub mod causes;
@@ -8,5 +8,5 @@ pub mod framed;
 pub mod laws;
 pub mod work;
 
-pub use framed::Framed;
+pub use framed::FramedFunction;
 pub use work::{FrameFault, SolveRoom, solve, solve_in};

@@ -1,49 +1,49 @@
-//! A work list that finds the facts of a function. docs/acceptance.md, "The facts of a function".
+//! The work list that computes the facts of a function. docs/rules/acceptance.md, "Valid facts".
 ghost use Rattle.std.specs.Prelude.{◌≡◌, ℕ, ◌+◌, ◌*◌, ◌<◌, ◌≤◌, ◌^◌, ◌++◌, ◌∷◌, [], List, Option, map, length, IfOk, IfErr, slice_set};
-ghost use Rattle.thumb_core.specs.Words.{listed};
-ghost use Rattle.frame_facts.specs.Facts.{clobbered};
-ghost use Rattle.frame_graph.specs.Stretch.{TellsOn};
-ghost use Rattle.frame_flow.specs.Framed.{framed_of};
+ghost use Rattle.thumb_core.specs.Words.{registers_of_list};
+ghost use Rattle.frame_facts.specs.Facts.{forget_registers};
+ghost use Rattle.frame_graph.specs.SiteCaching.{TellsOn};
+ghost use Rattle.frame_flow.specs.Framed.{framed_view};
 ghost use Rattle.frame_flow.specs.Flows.{along_edge, count_of, HasFacts, NoneStands};
-ghost use Rattle.frame_flow.specs.Work.{IsSound, FaultStands, LacksFacts, Keeps, Merged};
+ghost use Rattle.frame_flow.specs.Work.{IsSound, FaultStands, LacksFacts, Keeps, MergesFact};
 
 use crate::facts::Facts;
-use crate::framed::Framed;
-use frame_facts::{Fact, FrameCause, clobber, entry_fact, join, stays};
-use frame_graph::{Edge, Stretch};
+use crate::framed::FramedFunction;
+use frame_facts::{Fact, FrameCause, clobber, entry_fact, is_meeting, join};
+use frame_graph::{Edge, SiteCache};
 use std::alloc::Global;
 
-/// Lists that a search for facts fills. What they hold before doesn't matter: they are lent as room, from one function to the next.
+/// Memory that computing facts uses, and that is reused from one function to the next. Its contents don't matter.
 #[derive(Drop)]
 pub struct SolveRoom {
     facts: Facts,
     work: Vec<u32>,
     edges: Vec<Edge>,
-    stretch: Stretch,
+    stretch: SiteCache,
 }
 
 impl SolveRoom {
-    /// It has no memory yet.
+    /// Holds no memory yet.
     pub fn new(alloc: Global) -> SolveRoom {
         SolveRoom {
             facts: Facts::none(alloc),
             work: Vec::new(alloc),
             edges: Vec::new(alloc),
-            stretch: Stretch::new(alloc),
+            stretch: SiteCache::new(alloc),
         }
     }
 }
 
-/// Why a function has no valid facts, or why none were found.
+/// Why a function has no valid facts, or why none were computed.
 #[derive(Clone, Copy)]
 pub enum FrameFault {
-    /// A cause stands at a place, which is told by how many halfwords it lies after the entry.
+    /// This cause stands at this place, counted in halfwords after the function's entry.
     Stands(u32, FrameCause),
-    /// There is no memory left.
+    /// An allocation failed.
     OutOfMemory,
 }
 
-/// Writes the fact of a place, which is then to be visited.
+/// Sets the fact of a place, and queues the place.
 fn put(facts: &mut Facts, work: &mut Vec<u32>, to: u32, fact: &Fact) -> Result<(), FrameFault>
     requires { to < length facts.old }
     ensures facts { IfOk result (λ _. facts.new ≡ slice_set facts.old to (Some fact.now)) }
@@ -60,42 +60,42 @@ fn put(facts: &mut Facts, work: &mut Vec<u32>, to: u32, fact: &Fact) -> Result<(
     }
 }
 
-/// Takes an edge to a place, with the fact there.
+/// Merges a fact into that of the place `to`, which an edge leads to; queues the place if its fact changes.
 fn merge(
-    x: &Framed,
+    x: &FramedFunction,
     facts: &mut Facts,
     work: &mut Vec<u32>,
     to: u32,
     fact: &Fact,
 ) -> Result<(), FrameFault>
     requires { to < length facts.old }
-    ensures { Merged (framed_of x.now) facts.old work.old.items to fact.now facts.new work.new.items result }
+    ensures { MergesFact (framed_view x.now) facts.old work.old.items to fact.now facts.new work.new.items result }
 {
     match facts.get(to) {
         None => put(facts, work, to, fact),
         Some(held) => {
-            if stays(held, fact) {
+            if is_meeting(held, fact) {
                 return Ok(());
             }
             match join(held, fact) {
-                None => Err(FrameFault::Stands(to, x.parting(to))),
+                None => Err(FrameFault::Stands(to, x.depth_cause(to))),
                 Some(met) => put(facts, work, to, &met),
             }
         }
     }
 }
 
-/// Takes an edge of a place, where `fact` stands after it.
+/// Follows an edge of a place; `fact` is the fact after the instruction.
 #[tactic(auto, using(crate::proofs::Merging::taken_whole))]
-fn take(
-    x: &Framed,
+fn follow_edge(
+    x: &FramedFunction,
     facts: &mut Facts,
     work: &mut Vec<u32>,
     edge: &Edge,
     fact: &Fact,
 ) -> Result<(), FrameFault>
     requires { edge.now.to < length facts.old }
-    ensures { Merged (framed_of x.now) facts.old work.old.items edge.now.to (clobbered (listed edge.now.clobbers) fact.now) facts.new work.new.items result }
+    ensures { MergesFact (framed_view x.now) facts.old work.old.items edge.now.to (forget_registers (registers_of_list edge.now.clobbers) fact.now) facts.new work.new.items result }
 {
     if edge.clobbers == 0 {
         merge(x, facts, work, edge.to, fact)
@@ -104,19 +104,19 @@ fn take(
     }
 }
 
-/// Takes all edges of a place, where `fact` stands after it.
-fn spread(
-    x: &Framed,
+/// Follows all edges of a place; `fact` is the fact after the instruction.
+fn follow_edges(
+    x: &FramedFunction,
     facts: &mut Facts,
     work: &mut Vec<u32>,
     edges: &[Edge],
     fact: &Fact,
 ) -> Result<(), FrameFault>
-    requires { IsSound (framed_of x.now) facts.old work.old.items (map (along_edge fact.now) edges.now) }
-    ensures { Keeps (framed_of x.now) facts.old work.old.items facts.new work.new.items [] result }
+    requires { IsSound (framed_view x.now) facts.old work.old.items (map (along_edge fact.now) edges.now) }
+    ensures { Keeps (framed_view x.now) facts.old work.old.items facts.new work.new.items [] result }
 {
     for edge in edges {
-        match take(x, facts, work, edge, fact) {
+        match follow_edge(x, facts, work, edge, fact) {
             Ok(()) => {}
             Err(fault) => return Err(fault),
         }
@@ -124,32 +124,32 @@ fn spread(
     Ok(())
 }
 
-/// Visits a place that was taken from the end of the work list, by the stretch of its site. What `edges` and `next` hold doesn't matter;
-/// they are lent as room.
+/// Visits a place that was taken from the end of the work list. `stretch` is the answer for its site. The contents of `edges` and
+/// `next` don't matter; only their memory is used.
 fn visit(
-    x: &Framed,
+    x: &FramedFunction,
     facts: &mut Facts,
     work: &mut Vec<u32>,
     edges: &mut Vec<Edge>,
     next: &mut Fact,
-    stretch: &Stretch,
+    stretch: &SiteCache,
     place: u32,
 ) -> Result<(), FrameFault>
     requires short { x.now.flow_graph.end < 2 ^ 32 }
-    requires sound { IsSound (framed_of x.now) facts.old (work.old.items ++ place ∷ []) [] }
+    requires sound { IsSound (framed_view x.now) facts.old (work.old.items ++ place ∷ []) [] }
     requires tells { TellsOn x.now.flow_graph stretch.now place }
-    ensures { Keeps (framed_of x.now) facts.old work.old.items facts.new work.new.items [] result }
+    ensures { Keeps (framed_view x.now) facts.old work.old.items facts.new work.new.items [] result }
 {
     match facts.get(place) {
         None => Ok(()),
-        Some(fact) => match x.passed(stretch, place, fact, next) {
+        Some(fact) => match x.pass_place(stretch, place, fact, next) {
             Err(cause) => Err(FrameFault::Stands(place, cause)),
             Ok(leads) => {
                 if !leads {
                     return Ok(());
                 }
                 match x.flow_graph.put_edges(edges, stretch, place) {
-                    Ok(()) => spread(x, facts, work, edges, next),
+                    Ok(()) => follow_edges(x, facts, work, edges, next),
                     Err(_) => Err(FrameFault::OutOfMemory),
                 }
             }
@@ -157,28 +157,28 @@ fn visit(
     }
 }
 
-/// Finds the facts of a function whose entry lies below its end.
+/// Computes the facts of a function whose entry is below its end.
 ///
-/// `Ok` where it has valid facts, so that no cause stands at any place of it; `Stands` with a place and a cause that stands there, so that
-/// it has none. Only `OutOfMemory` leaves that open.
-pub fn solve(alloc: Global, x: &Framed) -> Result<(), FrameFault>
+/// `Ok` if it has valid facts, so that no cause stands at any of its places. Err `Stands` with a place and a cause that stands there,
+/// so that it has none. Only `OutOfMemory` leaves it open.
+pub fn solve(alloc: Global, x: &FramedFunction) -> Result<(), FrameFault>
     requires { x.now.flow_graph.start < x.now.flow_graph.end }
-    ensures accepted { IfOk result (λ _. HasFacts (framed_of x.now)) }
-    ensures clear { IfOk result (λ _. NoneStands (framed_of x.now)) }
-    ensures refused { IfErr result (FaultStands (framed_of x.now)) }
-    ensures lacks { IfErr result (LacksFacts (framed_of x.now)) }
+    ensures accepted { IfOk result (λ _. HasFacts (framed_view x.now)) }
+    ensures clear { IfOk result (λ _. NoneStands (framed_view x.now)) }
+    ensures refused { IfErr result (FaultStands (framed_view x.now)) }
+    ensures lacks { IfErr result (LacksFacts (framed_view x.now)) }
 {
     let mut room = SolveRoom::new(alloc);
     solve_in(alloc, &mut room, x)
 }
 
-/// The same in room that is lent.
-pub fn solve_in(alloc: Global, room: &mut SolveRoom, x: &Framed) -> Result<(), FrameFault>
+/// As `solve`, with memory that is reused.
+pub fn solve_in(alloc: Global, room: &mut SolveRoom, x: &FramedFunction) -> Result<(), FrameFault>
     requires { x.now.flow_graph.start < x.now.flow_graph.end }
-    ensures accepted { IfOk result (λ _. HasFacts (framed_of x.now)) }
-    ensures clear { IfOk result (λ _. NoneStands (framed_of x.now)) }
-    ensures refused { IfErr result (FaultStands (framed_of x.now)) }
-    ensures lacks { IfErr result (LacksFacts (framed_of x.now)) }
+    ensures accepted { IfOk result (λ _. HasFacts (framed_view x.now)) }
+    ensures clear { IfOk result (λ _. NoneStands (framed_view x.now)) }
+    ensures refused { IfErr result (FaultStands (framed_view x.now)) }
+    ensures lacks { IfErr result (LacksFacts (framed_view x.now)) }
 {
     let count = (x.flow_graph.end() - x.flow_graph.start()).div_ceil(2);
     match room.facts.blank(count) {
@@ -190,7 +190,7 @@ pub fn solve_in(alloc: Global, room: &mut SolveRoom, x: &Framed) -> Result<(), F
     let mut next = entry_fact();
     put(&mut room.facts, &mut room.work, 0, &next)?;
     while let Some(place) = room.work.pop() {
-        match x.flow_graph.turn_stretch(alloc, &mut room.stretch, place) {
+        match x.flow_graph.answer_place(alloc, &mut room.stretch, place) {
             Ok(()) => {}
             Err(_) => return Err(FrameFault::OutOfMemory),
         }

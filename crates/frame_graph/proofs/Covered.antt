@@ -3,10 +3,10 @@ use Rattle.std.proofs.Common.{ℕ, ◌≡◌, ◌≤◌, nat_le, Bool, true, fal
 use Rattle.std.proofs.lemmas.Bool.{le-leb}
 use Rattle.std.proofs.lemmas.Bool.Decides.{nat_tests}
 use Rattle.elf_image.specs.Image.{Image}
-use Rattle.unwind_codes.specs.declared.row.Entry.{Entry}
+use Rattle.eh_index.specs.eh_codes.declared.row.Entry.{Entry}
 use Rattle.eh_index.specs.Covering.{covering}
 use Rattle.eh_index.specs.Rows.{entries_of}
-use Rattle.frame_graph.specs.Cover.{CoversTo, IsBetween}
+use Rattle.frame_graph.specs.EntryCaching.{CoversTo, IsBetween}
 
 -- the search for the entry of an address, of which one was found
 abbrev found_from : ℕ → Option Entry → List Entry → Option Entry

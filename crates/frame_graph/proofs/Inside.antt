@@ -6,15 +6,17 @@ use Rattle.std.proofs.lemmas.Bool.{leb-true, ltb-true}
 use Rattle.std.proofs.lemmas.Option.{same_Some, none-some}
 use Rattle.elf_image.specs.Image.{is_code_in}
 use Rattle.std.specs.Prelude.{Ok, Err}
-use Rattle.frame_graph.specs.declared.places.Standing.{Standing}
-use Rattle.frame_graph.specs.declared.places.Standing.TheVariants.{Instruction, Udf, Nothing}
-use Rattle.frame_graph.specs.declared.unwinding.Unwinding.{Unwinding}
+use Rattle.frame_code.specs.declared.standing.Standing.{Standing}
+use Rattle.frame_code.specs.declared.standing.Standing.TheVariants.{Instruction, Udf, Nothing}
+use Rattle.frame_entries.specs.declared.unwinding.EntrySummary.{EntrySummary}
 use Rattle.frame_graph.specs.declared.edges.Edge.{Edge}
 use Rattle.frame_graph.specs.FlowGraph.{FlowGraph}
 use Rattle.frame_graph.specs.Places.{address_of, is_place, place_of, standing_at}
-use Rattle.frame_graph.specs.Edges.{reaches_next, branch_target, edges_to, onward, straight_by, straight_edges}
-use Rattle.frame_graph.specs.Unwinding.{landing_changes}
-use Rattle.frame_graph.specs.Sites.{Item, cleans, pad_for, pad_edges, edges_from, site_at, unwinding_at, items_at, edges_of}
+use Rattle.frame_code.specs.Branches.{reaches_next, branch_target}
+use Rattle.frame_graph.specs.Edges.{edges_to, fall_through_edges, straight_by, straight_edges}
+use Rattle.frame_entries.specs.Unwinding.{landing_changes}
+use Rattle.frame_entries.specs.Scopes.{Item, is_cleanup_at, pad_for}
+use Rattle.frame_graph.specs.Sites.{pad_edges, edges_from, site_at, unwinding_at, items_at, edges_of}
 use Rattle.frame_graph.specs.Reach.{IsReached, entry, along}
 use Rattle.frame_graph.specs.Laws.{EdgesStayInside, ReachedPlacesAreInside, PlacesHaveTheirAddress}
 
@@ -64,19 +66,19 @@ if_goes s false a w h = absurd (none w h)
 
 straight : (s : FlowGraph) (a : ℕ) (t : Standing) (w : Edge) → Contains (straight_by s a t) w → Inside s w
 straight s a (Instruction i size) w h = ⊎_elim
-    (λ (l : Contains (onward s a i size) w). if_goes s (reaches_next i) (a + size) w l)
+    (λ (l : Contains (fall_through_edges s a i size) w). if_goes s (reaches_next i) (a + size) w l)
     (λ (r : Contains (edges_to 0 (option_and_then (place_of s) (branch_target a i))) w). to_target s 0 (branch_target a i) w r)
-    (Contains-append_cases (onward s a i size) (edges_to 0 (option_and_then (place_of s) (branch_target a i))) w h)
+    (Contains-append_cases (fall_through_edges s a i size) (edges_to 0 (option_and_then (place_of s) (branch_target a i))) w h)
 straight s a Udf w h = absurd (none w h)
 straight s a Nothing w h = absurd (none w h)
 
-pads : (s : FlowGraph) (site : ℕ) (u : Unwinding) (resumed : Bool) (items : List Item) (w : Edge) → Contains (pad_edges s site u resumed items) w → Inside s w
+pads : (s : FlowGraph) (site : ℕ) (u : EntrySummary) (resumed : Bool) (items : List Item) (w : Edge) → Contains (pad_edges s site u resumed items) w → Inside s w
 pads s site u resumed [] w h = absurd (none w h)
 pads s site u resumed (Err fault ∷ more) w h = pads s site u resumed more w h
 pads s site u resumed (Ok d ∷ more) w h = ⊎_elim
     (λ (l : Contains (edges_to (landing_changes u resumed) (option_and_then (place_of s) (pad_for site d))) w). to_target s (landing_changes u resumed) (pad_for site d) w l)
-    (λ (r : Contains (pad_edges s site u (resumed || cleans site d) more) w). pads s site u (resumed || cleans site d) more w r)
-    (Contains-append_cases (edges_to (landing_changes u resumed) (option_and_then (place_of s) (pad_for site d))) (pad_edges s site u (resumed || cleans site d) more) w h)
+    (λ (r : Contains (pad_edges s site u (resumed || is_cleanup_at site d) more) w). pads s site u (resumed || is_cleanup_at site d) more w r)
+    (Contains-append_cases (edges_to (landing_changes u resumed) (option_and_then (place_of s) (pad_for site d))) (pad_edges s site u (resumed || is_cleanup_at site d) more) w h)
 
 from : (s : FlowGraph) (site : Option ℕ) (w : Edge) → Contains (edges_from s site) w → Inside s w
 from s None w h = absurd (none w h)

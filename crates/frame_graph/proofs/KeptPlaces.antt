@@ -4,22 +4,23 @@ use Rattle.std.proofs.Math.ListN.{get_or-append}
 use Rattle.std.proofs.Math.Seq.{get_or-append_seam}
 use borrow.Author.Count.{below_more}
 use Rattle.thumb_isa.specs.declared.profile.Profile.{Profile}
-use Rattle.image_memory.specs.Profiles.{profile_of}
-use Rattle.frame_graph.specs.declared.places.Standing.{Standing}
+use Rattle.run_images.specs.Profiles.{profile_of}
+use Rattle.frame_code.specs.declared.standing.Standing.{Standing}
 use Rattle.frame_graph.specs.declared.kept_places.KeptPlace.{KeptPlace}
 use Rattle.frame_graph.specs.FlowGraph.{FlowGraph}
-use Rattle.frame_graph.specs.Places.{is_code_of, is_place, halfword_of, standing_by, standing_at}
-use Rattle.frame_graph.specs.KeptPlaces.{ArePlaces, kept_of}
+use Rattle.frame_code.specs.Standing.{standing_by}
+use Rattle.frame_graph.specs.Places.{is_code_of, is_place, halfword_of, standing_at}
+use Rattle.frame_graph.specs.KeptPlaces.{ArePlaces, place_contents}
 
 -- nothing is kept
 pub none_kept : (s : FlowGraph) (places : List KeptPlace) → length places ≡ 0 → ArePlaces s places
 none_kept s places e = record { each = λ k d h. absurd (omega arith) }
 
 Stands : FlowGraph → List KeptPlace → ℕ → Type 0
-Stands s places k = (d : KeptPlace) → slice_index_or places k d ≡ kept_of s k
+Stands s places k = (d : KeptPlace) → slice_index_or places k d ≡ place_contents s k
 
 -- a place more
-one_more : (s : FlowGraph) (places : List KeptPlace) (p : KeptPlace) → ArePlaces s places → p ≡ kept_of s (length places) → ArePlaces s (places ++ p ∷ [])
+one_more : (s : FlowGraph) (places : List KeptPlace) (p : KeptPlace) → ArePlaces s places → p ≡ place_contents s (length places) → ArePlaces s (places ++ p ∷ [])
 unfolding Stands
 one_more s places p kept is = record {
   each = λ k d h.
@@ -42,7 +43,7 @@ unfolding standing_at
 read_more s places k code profile first second standing len kept is pr f g by =
     let at : standing ≡ standing_at s k =
     by ∙ (ap (λ (p : Profile). standing_by p first second) pr ∙ (ap (λ (o : Option ℕ). standing_by (profile_of s.image) o second) f ∙ ap (λ (o : Option ℕ). standing_by (profile_of s.image) (halfword_of s k) o) g)) in
-    one_more s places (held code standing) kept (subst (λ (n : ℕ). held code standing ≡ kept_of s n) (sym len) (same_held code (is_place s k) standing (standing_at s k) is at))
+    one_more s places (held code standing) kept (subst (λ (n : ℕ). held code standing ≡ place_contents s n) (sym len) (same_held code (is_place s k) standing (standing_at s k) is at))
 
 -- whether an address is code, by what is kept of its place
 pub code_kept : (s t : FlowGraph) (places : List KeptPlace) (a : ℕ) (d : KeptPlace) → t ≡ s → ArePlaces t places → t.start ≤ a → (a - t.start) % 2 ≡ 0

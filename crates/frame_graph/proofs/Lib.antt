@@ -1,6 +1,4 @@
 pub mod Covered
-pub mod Distinct
-pub mod Items
 pub mod Kept
 pub mod KeptPlaces
 pub mod Inside

@@ -4,11 +4,13 @@ use Rattle.std.proofs.lemmas.Bool.{eqb-true, eq-eqb}
 use Rattle.std.proofs.lemmas.Option.{same_Some, none-some}
 use Rattle.thumb_isa.specs.declared.instr.Instr.{Instr}
 use Rattle.thumb_isa.specs.declared.instr.Instr.TheVariants.{AddSubReg, MovHigh}
-use Rattle.frame_graph.specs.declared.places.Standing.{Standing}
+use Rattle.frame_code.specs.declared.standing.Standing.{Standing}
 use Rattle.frame_graph.specs.FlowGraph.{FlowGraph}
 use Rattle.frame_graph.specs.Places.{standing_at}
-use Rattle.frame_graph.specs.Edges.{instruction_of, instruction_at}
-use Rattle.frame_graph.specs.Lowering.{subtracts_into, sets_sp_from, same_register, lowers_by, is_lowering}
+use Rattle.frame_code.specs.Standing.{instruction_of}
+use Rattle.frame_graph.specs.Edges.{instruction_at}
+use Rattle.frame_code.specs.Lowering.{subtracts_into, sets_sp_from, same_register, lowers_by}
+use Rattle.frame_graph.specs.Lowering.{is_lowering}
 use Rattle.frame_graph.specs.Laws.{IsLoweredFrame, LoweringPlacesAreCopies}
 
 both_true : (a b : Bool) → (a && b) ≡ true → (a ≡ true) × (b ≡ true)

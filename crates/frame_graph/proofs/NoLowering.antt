@@ -3,11 +3,13 @@ use Rattle.std.proofs.Common.{ℕ, zero, suc, ◌≡◌, ◌&&◌, Bool, true, f
 use Rattle.std.proofs.lemmas.Bool.{true≢false, false≢true}
 use Rattle.thumb_isa.specs.declared.instr.Instr.{Instr}
 use Rattle.std.specs.Prelude.{option_and_then}
-use Rattle.frame_graph.specs.declared.places.Standing.{Standing}
+use Rattle.frame_code.specs.declared.standing.Standing.{Standing}
 use Rattle.frame_graph.specs.FlowGraph.{FlowGraph}
 use Rattle.frame_graph.specs.Places.{standing_at}
-use Rattle.frame_graph.specs.Edges.{instruction_of, instruction_at}
-use Rattle.frame_graph.specs.Lowering.{subtracts_into, sets_sp_from, same_register, lowers_by, is_lowering}
+use Rattle.frame_code.specs.Standing.{instruction_of}
+use Rattle.frame_graph.specs.Edges.{instruction_at}
+use Rattle.frame_code.specs.Lowering.{subtracts_into, sets_sp_from, same_register, lowers_by}
+use Rattle.frame_graph.specs.Lowering.{is_lowering}
 
 never : (a b c : Bool) → c ≡ false → false ≡ (a && b && c)
 never true true c h = sym h

@@ -7,29 +7,30 @@ use Rattle.std.specs.Prelude.{Ok, Err}
 use Rattle.std.specs.List.{Contains, AllByRecursion, filter, list_any}
 use Rattle.std.specs.Option.{option_map_or}
 use Rattle.elf_image.specs.Image.{Image}
-use Rattle.unwind_codes.specs.declared.row.Entry.{Entry}
+use Rattle.eh_index.specs.eh_codes.declared.row.Entry.{Entry}
 use Rattle.eh_index.specs.Places.{table_of}
 use Rattle.eh_desc.specs.declared.descriptor.Desc.{Desc}
 use Rattle.eh_desc.specs.Grammar.{items_of}
-use Rattle.frame_graph.specs.declared.unwinding.Unwinding.{Unwinding}
+use Rattle.frame_entries.specs.declared.unwinding.EntrySummary.{EntrySummary}
 use Rattle.frame_graph.specs.declared.edges.Edge.{Edge}
-use Rattle.frame_graph.specs.declared.stretch.Span.{Span}
-use Rattle.frame_graph.specs.declared.stretch.Stretch.{Stretch}
+use Rattle.frame_graph.specs.declared.site_cache.AddressRange.{AddressRange}
+use Rattle.frame_graph.specs.declared.site_cache.SiteCache.{SiteCache}
 use Rattle.frame_graph.specs.FlowGraph.{FlowGraph}
 use Rattle.frame_graph.specs.Places.{place_of, is_code_of}
 use Rattle.frame_graph.specs.Edges.{edges_to, straight_edges}
-use Rattle.frame_graph.specs.Unwinding.{of_body, landing_changes}
-use Rattle.frame_graph.specs.Sites.{Item, is_one, covers, entry_at, items_by, items_at, unwinding_by, unwinding_at, pad_of, is_cleanup, cleans, pad_for, lands_out, pad_edges, edges_from, edges_of, site_at}
-use Rattle.frame_graph.specs.Stretch.{IsIn, IsCut, AreCut, is_met, AreAtHand, ActSame, HaveSame, Tells, IsStretch, TellsOn}
+use Rattle.frame_entries.specs.Unwinding.{summary_of_body, landing_changes}
+use Rattle.frame_entries.specs.Scopes.{Item, is_one, is_scope_at, pad_of, is_cleanup, is_cleanup_at, pad_for}
+use Rattle.frame_graph.specs.Sites.{entry_at, items_by, items_at, unwinding_by, unwinding_at, lands_out, pad_edges, edges_from, edges_of, site_at}
+use Rattle.frame_graph.specs.SiteCaching.{IsIn, IsCut, AreCut, is_met, AreAtHand, ActSame, HaveSame, Tells, IsStretch, TellsOn}
 
 -- ---- items that cover two sites alike
 
 abbrev Alike : ℕ → ℕ → Item → Type 0
-Alike a b item = is_one (covers a) item ≡ is_one (covers b) item
+Alike a b item = is_one (is_scope_at a) item ≡ is_one (is_scope_at b) item
 
-any_alike : (a b : ℕ) (items : List Item) → AllByRecursion (Alike a b) items → list_any (is_one (covers a)) items ≡ list_any (is_one (covers b)) items
+any_alike : (a b : ℕ) (items : List Item) → AllByRecursion (Alike a b) items → list_any (is_one (is_scope_at a)) items ≡ list_any (is_one (is_scope_at b)) items
 any_alike a b [] h = refl
-any_alike a b (x ∷ more) (h, t) = ap (λ c. c || list_any (is_one (covers a)) more) h ∙ ap (λ c. is_one (covers b) x || c) (any_alike a b more t)
+any_alike a b (x ∷ more) (h, t) = ap (λ c. c || list_any (is_one (is_scope_at a)) more) h ∙ ap (λ c. is_one (is_scope_at b) x || c) (any_alike a b more t)
 
 out_alike : (s : FlowGraph) (a b : ℕ) (item : Item) → Alike a b item → is_one (lands_out s a) item ≡ is_one (lands_out s b) item
 out_alike s a b (Ok d) h = ap (λ c. option_map_or (λ pad. not (is_code_of s pad)) (if c then pad_of d.kind else None) false) h
@@ -40,16 +41,16 @@ any_out_alike s a b [] h = refl
 any_out_alike s a b (x ∷ more) (h, t) = ap (λ c. c || list_any (is_one (lands_out s a)) more) (out_alike s a b x h) ∙ ap (λ c. is_one (lands_out s b) x || c) (any_out_alike s a b more t)
 
 -- the edges of a descriptor that covers a site or doesn't, and of those after it
-abbrev led : FlowGraph → ℕ → Unwinding → Bool → Desc → List Item → Bool → List Edge
+abbrev led : FlowGraph → ℕ → EntrySummary → Bool → Desc → List Item → Bool → List Edge
 led s site u resumed d more covered =
     edges_to (landing_changes u resumed) (option_and_then (place_of s) (if covered then pad_of d.kind else None)) ++ pad_edges s site u (resumed || (covered && is_cleanup d.kind)) more
 
-edges_alike : (s : FlowGraph) (u : Unwinding) (a b : ℕ) (resumed : Bool) (items : List Item) → AllByRecursion (Alike a b) items → pad_edges s a u resumed items ≡ pad_edges s b u resumed items
+edges_alike : (s : FlowGraph) (u : EntrySummary) (a b : ℕ) (resumed : Bool) (items : List Item) → AllByRecursion (Alike a b) items → pad_edges s a u resumed items ≡ pad_edges s b u resumed items
 edges_alike s u a b resumed [] h = refl
 edges_alike s u a b resumed (Err fault ∷ more) (h, t) = edges_alike s u a b resumed more t
 edges_alike s u a b resumed (Ok d ∷ more) (h, t) =
     ap (led s a u resumed d more) h
-    ∙ ap (λ l. edges_to (landing_changes u resumed) (option_and_then (place_of s) (pad_for b d)) ++ l) (edges_alike s u a b (resumed || cleans b d) more t)
+    ∙ ap (λ l. edges_to (landing_changes u resumed) (option_and_then (place_of s) (pad_for b d)) ++ l) (edges_alike s u a b (resumed || is_cleanup_at b d) more t)
 
 -- ---- an item that is cut at its borders
 
@@ -72,7 +73,7 @@ less_from a b e same h =
     less_or zero (suc y) = inl (omega arith)
     less_or (suc x) (suc y) = ⊎_elim (λ (l : x < y). inl (omega (arith, l))) (λ (m : y ≤ x). inr (omega (arith, m))) (less_or x y)
 
-pub cut_at : (before middle after : Span) (site end : ℕ) (d : Desc) → end ≡ (d.start + d.size) % 2 ^ 32 → IsIn after site
+pub cut_at : (before middle after : AddressRange) (site end : ℕ) (d : Desc) → end ≡ (d.start + d.size) % 2 ^ 32 → IsIn after site
     → ((a : ℕ) → IsIn middle a → IsIn before a) → ((a : ℕ) → IsIn after a → IsIn middle a)
     → ((a : ℕ) → IsIn middle a → nat_le d.start a ≡ nat_le d.start site) → ((a : ℕ) → IsIn after a → nat_le end a ≡ nat_le end site)
     → IsCut before site (Ok d) after
@@ -86,7 +87,7 @@ cut_at before middle after site end d is h f g first last = record {
       ∙ ap (λ b. nat_le d.start site && b) (subst (λ (e : ℕ). nat_lt a e ≡ nat_lt site e) is less);
 }
 
-pub uncut : (span : Span) (site : ℕ) (item : Item) → IsIn span site → ((d : Desc) → item ≡ Ok d → ⊥) → IsCut span site item span
+pub uncut : (span : AddressRange) (site : ℕ) (item : Item) → IsIn span site → ((d : Desc) → item ≡ Ok d → ⊥) → IsCut span site item span
 uncut span site (Ok d) i h = absurd (h d refl)
 uncut span site (Err fault) i h = record { holds = i; within = λ a j. j; same = λ a j. refl }
 
@@ -122,20 +123,20 @@ met_by low last a start end l m h =
     both (nat_le start last) (nat_lt low end) (le-leb start last (omega arith)) (lt-ltb low end (omega arith))
 
 -- an item whose scope doesn't meet it covers none of its addresses
-uncovered : (span : Span) (a : ℕ) (item : Item) → IsIn span a → is_met span item ≡ false → is_one (covers a) item ≡ false
-uncovered span a (Ok d) i h = false_from (covers a d) (λ t. true≢false (sym (met_by span.low span.last a d.start ((d.start + d.size) % 2 ^ 32) i.low i.last t) ∙ h))
+uncovered : (span : AddressRange) (a : ℕ) (item : Item) → IsIn span a → is_met span item ≡ false → is_one (is_scope_at a) item ≡ false
+uncovered span a (Ok d) i h = false_from (is_scope_at a d) (λ t. true≢false (sym (met_by span.low span.last a d.start ((d.start + d.size) % 2 ^ 32) i.low i.last t) ∙ h))
 uncovered span a (Err fault) i h = refl
 
 or_false : (a b : Bool) → a ≡ false → b ≡ (a || b)
 or_false false b p = refl
 or_false true b p = cc
 
-one_met : (span : Span) (test : Item → Bool) (x : Item) (more : List Item) → (is_met span x ≡ false → test x ≡ false) → list_any test (filter (is_met span) more) ≡ list_any test more
+one_met : (span : AddressRange) (test : Item → Bool) (x : Item) (more : List Item) → (is_met span x ≡ false → test x ≡ false) → list_any test (filter (is_met span) more) ≡ list_any test more
     → (b : Bool) → is_met span x ≡ b → list_any test (cond b (x ∷ filter (is_met span) more) (filter (is_met span) more)) ≡ list_any test (x ∷ more)
 one_met span test x more f rest true e = ap (λ c. test x || c) rest
 one_met span test x more f rest false e = rest ∙ or_false (test x) (list_any test more) (f e)
 
-any_met : (span : Span) (test : Item → Bool) → ((item : Item) → is_met span item ≡ false → test item ≡ false) → (items : List Item) → list_any test (filter (is_met span) items) ≡ list_any test items
+any_met : (span : AddressRange) (test : Item → Bool) → ((item : Item) → is_met span item ≡ false → test item ≡ false) → (items : List Item) → list_any test (filter (is_met span) items) ≡ list_any test items
 any_met span test f [] = refl
 any_met span test f (x ∷ more) = one_met span test x more (f x) (any_met span test f more) (is_met span x) refl
 
@@ -143,35 +144,35 @@ or_none : (a : Bool) → (a || false) ≡ a
 or_none true = refl
 or_none false = refl
 
-edge_met : (s : FlowGraph) (span : Span) (a : ℕ) (u : Unwinding) (resumed : Bool) (d : Desc) (more : List Item) → (is_met span (Ok d) ≡ false → covers a d ≡ false)
+edge_met : (s : FlowGraph) (span : AddressRange) (a : ℕ) (u : EntrySummary) (resumed : Bool) (d : Desc) (more : List Item) → (is_met span (Ok d) ≡ false → is_scope_at a d ≡ false)
     → ((r : Bool) → pad_edges s a u r (filter (is_met span) more) ≡ pad_edges s a u r more)
     → (b : Bool) → is_met span (Ok d) ≡ b → pad_edges s a u resumed (cond b (Ok d ∷ filter (is_met span) more) (filter (is_met span) more)) ≡ pad_edges s a u resumed (Ok d ∷ more)
-edge_met s span a u resumed d more f rest true e = ap (λ l. edges_to (landing_changes u resumed) (option_and_then (place_of s) (pad_for a d)) ++ l) (rest (resumed || cleans a d))
+edge_met s span a u resumed d more f rest true e = ap (λ l. edges_to (landing_changes u resumed) (option_and_then (place_of s) (pad_for a d)) ++ l) (rest (resumed || is_cleanup_at a d))
 edge_met s span a u resumed d more f rest false e = rest resumed ∙ (ap (λ r. pad_edges s a u r more) (sym (or_none resumed)) ∙ ap (led s a u resumed d more) (sym (f e)))
 
-edges_met : (s : FlowGraph) (span : Span) (a : ℕ) (u : Unwinding) → IsIn span a → (resumed : Bool) (items : List Item) → pad_edges s a u resumed (filter (is_met span) items) ≡ pad_edges s a u resumed items
+edges_met : (s : FlowGraph) (span : AddressRange) (a : ℕ) (u : EntrySummary) → IsIn span a → (resumed : Bool) (items : List Item) → pad_edges s a u resumed (filter (is_met span) items) ≡ pad_edges s a u resumed items
 edges_met s span a u i resumed [] = refl
 edges_met s span a u i resumed (Err fault ∷ more) = edges_met s span a u i resumed more
 edges_met s span a u i resumed (Ok d ∷ more) = edge_met s span a u resumed d more (λ e. uncovered span a (Ok d) i e) (λ r. edges_met s span a u i r more) (is_met span (Ok d)) refl
 
-out_uncovered : (s : FlowGraph) (a : ℕ) (item : Item) → is_one (covers a) item ≡ false → is_one (lands_out s a) item ≡ false
+out_uncovered : (s : FlowGraph) (a : ℕ) (item : Item) → is_one (is_scope_at a) item ≡ false → is_one (lands_out s a) item ≡ false
 out_uncovered s a (Ok d) h = ap (λ c. option_map_or (λ pad. not (is_code_of s pad)) (if c then pad_of d.kind else None) false) h
 out_uncovered s a (Err fault) h = refl
 
 -- the descriptors at hand act as all of them do
-pub at_hand : (s : FlowGraph) (span : Span) (near all : List Item) → near ≡ filter (is_met span) all → (a : ℕ) → IsIn span a → ActSame s near all a
+pub at_hand : (s : FlowGraph) (span : AddressRange) (near all : List Item) → near ≡ filter (is_met span) all → (a : ℕ) → IsIn span a → ActSame s near all a
 at_hand s span near all e a i = rw (e) record {
-  scoped = any_met span (is_one (covers a)) (λ item h. uncovered span a item i h) all;
+  scoped = any_met span (is_one (is_scope_at a)) (λ item h. uncovered span a item i h) all;
   out = any_met span (is_one (lands_out s a)) (λ item h. out_uncovered s a item (uncovered span a item i h)) all;
   edges = λ u. edges_met s span a u i false all;
 }
 
-kept_near : (image : Image) (o : Option Entry) (e : Entry) (p : Option Span) (span : Span) (near : List Item) → o ≡ Some e → p ≡ Some span → AreAtHand image o p near
+kept_near : (image : Image) (o : Option Entry) (e : Entry) (p : Option AddressRange) (span : AddressRange) (near : List Item) → o ≡ Some e → p ≡ Some span → AreAtHand image o p near
     → near ≡ filter (is_met span) (items_of e (table_of image e))
 kept_near image o e p span near is chosen k =
-    subst (λ (q : Option Span). AreAtHand image (Some e) q near) chosen (subst (λ (q : Option Entry). AreAtHand image q p near) is k)
+    subst (λ (q : Option AddressRange). AreAtHand image (Some e) q near) chosen (subst (λ (q : Option Entry). AreAtHand image q p near) is k)
 
-pub at_hand_of : (s : FlowGraph) (image : Image) (o : Option Entry) (e : Entry) (p : Option Span) (span : Span) (near : List Item) → image ≡ s.image → o ≡ Some e → p ≡ Some span → AreAtHand image o p near
+pub at_hand_of : (s : FlowGraph) (image : Image) (o : Option Entry) (e : Entry) (p : Option AddressRange) (span : AddressRange) (near : List Item) → image ≡ s.image → o ≡ Some e → p ≡ Some span → AreAtHand image o p near
     → (a : ℕ) → IsIn span a → ActSame s near (items_of e (table_of s.image e)) a
 at_hand_of s image o e p span near same is chosen k =
     at_hand s span near (items_of e (table_of s.image e)) (subst (λ (i : Image). near ≡ filter (is_met span) (items_of e (table_of i e))) same (kept_near image o e p span near is chosen k))
@@ -193,10 +194,10 @@ pub via : (xs ys zs : List Edge) → HaveSame xs ys → HaveSame ys zs → HaveS
 via xs ys zs f g w = (λ c. (g w).0 ((f w).0 c), λ c. (f w).1 ((g w).1 c))
 
 -- what is gathered of items at a site is told of each address that they cover as they cover the site
-pub stretched : (s : FlowGraph) (t : Stretch) (e : Entry) (site : ℕ) (span : Span) (items : List Item) (full : List Edge) (u : Unwinding)
-    → t.entry ≡ Some e → u ≡ of_body e.body (table_of s.image e)
+pub stretched : (s : FlowGraph) (t : SiteCache) (e : Entry) (site : ℕ) (span : AddressRange) (items : List Item) (full : List Edge) (u : EntrySummary)
+    → t.entry ≡ Some e → u ≡ summary_of_body e.body (table_of s.image e)
     → ((a : ℕ) → IsIn span a → ActSame s items (items_of e (table_of s.image e)) a) → AreCut span site items t.span
-    → t.scoped ≡ list_any (is_one (covers site)) items → t.out ≡ list_any (is_one (lands_out s site)) items
+    → t.scoped ≡ list_any (is_one (is_scope_at site)) items → t.out ≡ list_any (is_one (lands_out s site)) items
     → full ≡ pad_edges s site u false items → HaveSame t.edges.items full
     → IsStretch s t
 stretched s t e site span items full u entry unwinding act cut scoped out edges same a i is =
@@ -207,18 +208,18 @@ stretched s t e site span items full u entry unwinding act cut scoped out edges 
     let alike = cut.same a i in
     let acts = act a (cut.within a i) in
     record {
-      scoped = scoped ∙ (sym (any_alike a site items alike) ∙ (acts.scoped ∙ ap (list_any (is_one (covers a))) (sym listed)));
+      scoped = scoped ∙ (sym (any_alike a site items alike) ∙ (acts.scoped ∙ ap (list_any (is_one (is_scope_at a))) (sym listed)));
       out = out ∙ (sym (any_out_alike s a site items alike) ∙ (acts.out ∙ ap (list_any (is_one (lands_out s a))) (sym listed)));
       edges = via t.edges.items full (edges_from s (Some a)) same (same_list full (edges_from s (Some a))
           (edges ∙ (sym (edges_alike s u a site false items alike) ∙ (acts.edges u ∙ (ap (pad_edges s a u false) (sym listed) ∙ ap (λ v. pad_edges s a v false (items_at s a)) (sym says))))));
     }
 
 -- where no entry covers a site nothing does
-pub untold : (s : FlowGraph) (t : Stretch) → t.scoped ≡ false → t.out ≡ false → t.edges.items ≡ [] → (a : ℕ) → entry_at s a ≡ None → Tells s t a
+pub untold : (s : FlowGraph) (t : SiteCache) → t.scoped ≡ false → t.out ≡ false → t.edges.items ≡ [] → (a : ℕ) → entry_at s a ≡ None → Tells s t a
 untold s t scoped out edges a is =
     let listed : items_at s a ≡ [] = items_here s a None is in
     record {
-      scoped = scoped ∙ ap (list_any (is_one (covers a))) (sym listed);
+      scoped = scoped ∙ ap (list_any (is_one (is_scope_at a))) (sym listed);
       out = out ∙ ap (list_any (is_one (lands_out s a))) (sym listed);
       edges = same_list t.edges.items (edges_from s (Some a)) (edges ∙ ap (pad_edges s a (unwinding_at s a) false) (sym listed));
     }
@@ -236,7 +237,7 @@ unfolding edges_of
 edges_here s place o e = ap (λ q. straight_edges s place ++ edges_from s q) (sym e)
 
 -- where a place leads that has a site, and one that has none
-pub leads_on : (s : FlowGraph) (t : Stretch) (place site : ℕ) (straight edges : List Edge) → TellsOn s t place → site_at s place ≡ Some site → straight ≡ straight_edges s place → edges ≡ straight ++ t.edges.items
+pub leads_on : (s : FlowGraph) (t : SiteCache) (place site : ℕ) (straight edges : List Edge) → TellsOn s t place → site_at s place ≡ Some site → straight ≡ straight_edges s place → edges ≡ straight ++ t.edges.items
     → HaveSame edges (edges_of s place)
 leads_on s t place site straight edges tells e is all =
     via edges (straight_edges s place ++ edges_from s (Some site)) (edges_of s place)

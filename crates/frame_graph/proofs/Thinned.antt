@@ -5,7 +5,7 @@ use Rattle.std.proofs.lemmas.List.Sorted.{Contains-permutation, IsPermutation-sy
 use Rattle.std.specs.List.{Contains}
 use Rattle.std.specs.List.Sorted.{IsPermutation}
 use Rattle.frame_graph.specs.declared.edges.Edge.{Edge}
-use Rattle.frame_graph.specs.Stretch.{HaveSame}
+use Rattle.frame_graph.specs.SiteCaching.{HaveSame}
 
 first : (x : Edge) (xs : List Edge) → Contains (x ∷ xs) x
 first x xs = (0, omega arith, refl)

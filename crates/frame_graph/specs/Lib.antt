@@ -2,10 +2,12 @@ pub mod FlowGraph
 pub mod Places
 pub mod KeptPlaces
 pub mod Edges
-pub mod Unwinding
 pub mod Sites
-pub mod Cover
-pub mod Stretch
+pub mod EntryCaching
+pub mod SiteCaching
 pub mod Laws
 pub mod Reach
 pub mod Lowering
+pub mod frame_code
+pub mod frame_entries
+pub mod run_images

@@ -1,33 +1,28 @@
 -- Sites, and what the exception index says of each (IHI 0038).
-use Rattle.std.specs.Prelude.{ℕ, ◌+◌, ◌%◌, ◌^◌, ◌&&◌, ◌||◌, not, nat_le, nat_lt, Bool, true, false, if◌then◌else◌, List, [], ◌∷◌, ◌++◌, Option, Some, None, Result, Ok, Err, option_and_then}
+use Rattle.std.specs.Prelude.{ℕ, ◌+◌, ◌%◌, ◌^◌, ◌||◌, not, nat_lt, Bool, false, List, [], ◌∷◌, ◌++◌, Option, Some, None, Ok, Err, option_and_then}
 use Rattle.std.specs.List.{list_any}
 use Rattle.std.specs.Option.{option_map_or}
 use Rattle.thumb_isa.specs.declared.instr.Instr.{Instr}
 use Rattle.thumb_isa.specs.declared.instr.Instr.TheVariants.{Bl, Blx, Svc}
-use Rattle.unwind_codes.specs.declared.row.Entry.{Entry}
+use Rattle.eh_index.specs.eh_codes.declared.row.Entry.{Entry}
 use Rattle.eh_index.specs.Covering.{covering}
 use Rattle.eh_index.specs.Places.{table_of}
 use Rattle.eh_index.specs.Rows.{entries_of}
 use Rattle.eh_desc.specs.declared.descriptor.Desc.{Desc}
-use Rattle.eh_desc.specs.declared.descriptor.DescFault.{DescFault}
-use Rattle.eh_desc.specs.declared.descriptor.DescKind.{DescKind}
-use Rattle.eh_desc.specs.declared.descriptor.DescKind.TheVariants.{Cleanup, Catch, Spec}
 use Rattle.eh_desc.specs.Grammar.{items_of}
-use Rattle.frame_graph.specs.declared.unwinding.Unwinding.{Unwinding}
-use Rattle.frame_graph.specs.declared.unwinding.Unwinding.TheVariants.{Refused}
+use Rattle.frame_entries.specs.declared.unwinding.EntrySummary.{EntrySummary}
+use Rattle.frame_entries.specs.declared.unwinding.EntrySummary.TheVariants.{Refused}
+use Rattle.frame_entries.specs.Scopes.{Item, is_scope_at, is_one, is_fault, is_cleanup_at, pad_for}
 use Rattle.frame_graph.specs.declared.edges.Edge.{Edge}
 use Rattle.frame_graph.specs.FlowGraph.{FlowGraph}
 use Rattle.frame_graph.specs.Places.{address_of, place_of, is_code_of}
 use Rattle.frame_graph.specs.Edges.{edges_to, straight_edges, instruction_at}
-use Rattle.frame_graph.specs.Unwinding.{of_body, landing_changes}
-
-abbrev pub Item : Type 0
-Item = Result Desc DescFault
+use Rattle.frame_entries.specs.Unwinding.{summary_of_body, landing_changes}
 
 -- ---- sites
 
--- a call or a gate at an address is a site: the address of the instruction, or of the second halfword of BL. So it lies two bytes below
--- where a call returns to
+-- The site of a call or a gate: its address, or for BL the address of its second halfword. So it is two bytes below the return address
+-- of a call.
 abbrev pub site_of : ℕ → Instr → Option ℕ
 site_of a (Bl off) = Some ((a + 2) % 2 ^ 32)
 site_of a (Blx m) = Some a
@@ -44,12 +39,12 @@ site_at s place = option_and_then (site_of (address_of s place)) (instruction_at
 abbrev pub entry_at : FlowGraph → ℕ → Option Entry
 entry_at s a = covering (entries_of s.image) a
 
-abbrev pub unwinding_by : FlowGraph → Option Entry → Unwinding
+abbrev pub unwinding_by : FlowGraph → Option Entry → EntrySummary
 unwinding_by s None = Refused
-unwinding_by s (Some e) = of_body e.body (table_of s.image e)
+unwinding_by s (Some e) = summary_of_body e.body (table_of s.image e)
 
--- what its codes say; where none covers the address nothing unwinds
-unfoldable pub unwinding_at : FlowGraph → ℕ → Unwinding
+-- how the entry that covers the address unwinds; Refused if none does
+unfoldable pub unwinding_at : FlowGraph → ℕ → EntrySummary
 unwinding_at s a = unwinding_by s (entry_at s a)
 
 abbrev pub items_by : FlowGraph → Option Entry → List Item
@@ -62,59 +57,27 @@ items_at s a = items_by s (entry_at s a)
 
 -- ---- descriptors in scope
 
--- the scope holds the site
-abbrev pub covers : ℕ → Desc → Bool
-covers site d = nat_le d.start site && nat_lt site ((d.start + d.size) % 2 ^ 32)
-
--- an item that is a descriptor of this kind
-abbrev pub is_one : (Desc → Bool) → Item → Bool
-is_one test (Ok d) = test d
-is_one test (Err fault) = false
-
 -- some descriptor has the site in its scope
 abbrev pub is_scoped : FlowGraph → ℕ → Bool
-is_scoped s site = list_any (is_one (covers site)) (items_at s site)
-
--- some descriptor can't be read
-abbrev pub is_fault : Item → Bool
-is_fault (Ok d) = false
-is_fault (Err fault) = true
+is_scoped s site = list_any (is_one (is_scope_at site)) (items_at s site)
 
 abbrev pub has_fault : FlowGraph → ℕ → Bool
 has_fault s a = list_any is_fault (items_at s a)
 
 -- ---- landing pads
 
-abbrev pub pad_of : DescKind → Option ℕ
-pad_of (Cleanup pad) = Some pad
-pad_of (Catch pad reference type) = Some pad
-pad_of (Spec types count pad) = pad
-
-abbrev pub is_cleanup : DescKind → Bool
-is_cleanup (Cleanup pad) = true
-is_cleanup (Catch pad reference type) = false
-is_cleanup (Spec types count pad) = false
-
--- a cleanup that has the site in its scope
-abbrev pub cleans : ℕ → Desc → Bool
-cleans site d = covers site d && is_cleanup d.kind
-
--- the landing pad of a descriptor that has the site in its scope
-abbrev pub pad_for : ℕ → Desc → Option ℕ
-pad_for site d = if covers site d then pad_of d.kind else None
-
--- the edges from a site to the pads of these descriptors, after others of which one cleans or none does
-abbrev pub pad_edges : FlowGraph → ℕ → Unwinding → Bool → List Item → List Edge
+-- the edges from a site to the pads of these descriptors; the flag says whether one before them is a cleanup in scope
+abbrev pub pad_edges : FlowGraph → ℕ → EntrySummary → Bool → List Item → List Edge
 pad_edges s site u resumed [] = []
 pad_edges s site u resumed (Err fault ∷ more) = pad_edges s site u resumed more
 pad_edges s site u resumed (Ok d ∷ more) =
-    edges_to (landing_changes u resumed) (option_and_then (place_of s) (pad_for site d)) ++ pad_edges s site u (resumed || cleans site d) more
+    edges_to (landing_changes u resumed) (option_and_then (place_of s) (pad_for site d)) ++ pad_edges s site u (resumed || is_cleanup_at site d) more
 
 abbrev pub edges_from : FlowGraph → Option ℕ → List Edge
 edges_from s None = []
 edges_from s (Some site) = pad_edges s site (unwinding_at s site) false (items_at s site)
 
--- where a place leads: straight on, and from a site to its landing pads
+-- the edges of a place: to the next instruction and the target of a branch, and from a site to its landing pads
 unfoldable pub edges_of : FlowGraph → ℕ → List Edge
 edges_of s place = straight_edges s place ++ edges_from s (site_at s place)
 

@@ -1,41 +1,44 @@
-//! What stands at the first places of a function, each read once. docs/flow-graphs.md, "Functions and places".
+//! The decoded first places of a function, each read once. docs/rules/acceptance.md, "Places".
 ghost use Rattle.std.specs.Prelude.{◌≡◌, ℕ, true, ◌+◌, ◌-◌, ◌*◌, ◌^◌, ◌<◌, ◌/◌, ◌==◌, ◌&&◌, [], length, min, OnOk, if◌then◌else◌};
-ghost use Rattle.image_memory.specs.Profiles.{profile_of};
+ghost use Rattle.run_images.specs.Profiles.{profile_of};
 ghost use Rattle.frame_graph.specs.declared.kept_places.TheConstants.{MOST_KEPT};
 ghost use Rattle.elf_image.specs.Image.{is_code_in};
 ghost use Rattle.frame_graph.specs.KeptPlaces.{ArePlaces};
 ghost use Rattle.frame_graph.specs.Places.{is_place, halfword_of};
 
 use crate::flow_graph::FlowGraph;
-use crate::places::{Fetched, Standing, halfword_at, standing_by};
+use crate::places::PlaceHalfword;
 use eh_index::Index;
+use frame_code::standing::{Standing, halfword_at, standing_by};
 use std::alloc::{AllocError, Global};
 use thumb_isa::profile::Profile;
 
-/// How many places of a function are kept at most. Those after them are read where they are asked of, so that a function whose end isn't
-/// told, and which goes on over all that lies behind it, costs little more than its code.
+/// The most places of a function that are cached. Later ones are decoded when asked for. A function without a known end may go on over
+/// all code after it, and should cost little more than the code that it reaches.
 pub const MOST_KEPT: u32 = 4_096;
 
-/// What is kept of a place.
+/// What is cached of a place.
 #[derive(Clone, Copy)]
 pub struct KeptPlace {
     /// Whether it is code of the function.
     pub code: bool,
-    /// What stands there.
+    /// The instruction at the place, if there is one.
     pub standing: Standing,
 }
 
-/// What is kept of the places of a function, by its first address and the first one above it: of its first places, one after the other,
-/// or of none.
+/// The decoded first places of a function; of no place if nothing is cached.
 #[derive(Drop)]
 pub struct KeptPlaces {
+    /// The first address of the function.
     pub(crate) start: u32,
+    /// The first address after the function.
     pub(crate) end: u32,
+    /// The places from the function's entry on, one a halfword.
     pub(crate) places: Vec<KeptPlace>,
 }
 
 impl KeptPlaces {
-    /// Nothing is kept.
+    /// An empty cache of places.
     pub(crate) fn none(alloc: Global, index: &Index) -> KeptPlaces
         ensures { ArePlaces (record { image = index.now; start = result.start; end = result.end }) result.places.items }
     {
@@ -46,8 +49,8 @@ impl KeptPlaces {
         }
     }
 
-    /// Keeps the first places of a function, by the profile of its image, in place of those that were kept. Each is read once, in their
-    /// order.
+    /// Decodes the first places of a function, each once and in order, in place of those cached before. `profile` must be that of the
+    /// image.
     pub(crate) fn turn(
         &mut self,
         index: &Index,
@@ -66,7 +69,7 @@ impl KeptPlaces {
         FlowGraph::new(index, profile, start, end).put_places(&mut self.places)
     }
 
-    /// What is kept of the places of this function; nothing where it is another one.
+    /// The cached places, if they are those of this function; else none.
     pub(crate) fn places_of(&self, index: &Index, start: u32, end: u32) -> &[KeptPlace]
         requires { ArePlaces (record { image = index.now; start = self.now.start; end = self.now.end }) self.now.places.items }
         ensures lent { result.now ≡ (if self.now.start == start && self.now.end == end then self.now.places.items else []) }
@@ -81,7 +84,7 @@ impl KeptPlaces {
 }
 
 impl<'s, 'i, 'a> FlowGraph<'s, 'i, 'a> {
-    /// Puts what stands at its first places into a list, in place of what it held. Each is read once, in their order.
+    /// Replaces the contents of a list by the decoded first places, each read once and in order.
     #[tactic(auto, using(crate::proofs::KeptPlaces::none_kept, crate::proofs::KeptPlaces::read_more))]
     fn put_places(&self, places: &mut Vec<KeptPlace>) -> Result<(), AllocError>
         ensures places { ArePlaces self.now places.new.items }
@@ -104,9 +107,9 @@ impl<'s, 'i, 'a> FlowGraph<'s, 'i, 'a> {
         Ok(())
     }
 
-    /// What is read of a place. Up to an address all of them are code, so that the image need not be asked of each.
+    /// Reads the halfword of a place. Below the address `until` all places are known to be code, so the image isn't asked.
     #[inline(always)]
-    fn fetch_below(&self, until: u32, place: u64) -> Fetched
+    fn fetch_below(&self, until: u32, place: u64) -> PlaceHalfword
         requires place { place < 2 ^ 33 }
         requires until { (k : ℕ) → self.now.start + 2 * k < until → is_code_in self.now.image (self.now.start + 2 * k) ≡ true }
         ensures code { result.code ≡ is_place self.now place }
@@ -114,7 +117,7 @@ impl<'s, 'i, 'a> FlowGraph<'s, 'i, 'a> {
     {
         let a = u64::from(self.start) + 2 * place;
         if a < u64::from(until) && a < u64::from(self.end) {
-            Fetched {
+            PlaceHalfword {
                 code: true,
                 halfword: halfword_at(self.index.image(), a as u32),
             }

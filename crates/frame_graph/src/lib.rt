@@ -1,21 +1,18 @@
-//! One function of an image as the frame checker sees it: its code, where each instruction leads, what the exception index says of its
-//! sites. docs/flow-graphs.md states the rules.
+//! One function of an image as the frame checker sees it: its code, where each instruction leads, and what the unwind entries tell of
+//! its sites. docs/rules/acceptance.md states the rules.
 #![tactic(auto)]
 
-pub mod cover;
 pub mod edges;
+pub mod entry_cache;
 pub mod flow_graph;
 pub mod kept_places;
 pub mod laws;
 pub mod lowering;
 pub mod places;
+pub mod site_cache;
 pub mod sites;
-pub mod stretch;
-pub mod unwinding;
 
-pub use cover::Cover;
 pub use edges::Edge;
+pub use entry_cache::EntryCache;
 pub use flow_graph::FlowGraph;
-pub use places::Standing;
-pub use stretch::Stretch;
-pub use unwinding::Unwinding;
+pub use site_cache::SiteCache;

@@ -1,25 +1,29 @@
-//! Sites, and what the exception index says of each: how it unwinds, which landing pads it leads to. docs/flow-graphs.md, "Sites".
+//! Sites, and what the unwind entries tell of each: how it unwinds, and its landing pads. docs/rules/acceptance.md, "Sites".
 ghost use Rattle.std.specs.Prelude.{◌≡◌, ◌+◌, ◌*◌, ◌<◌, ◌^◌, ◌++◌, ◌||◌, ◌∷◌, List, Some, false, IfOk, IfSome, OnOk, option_and_then};
 ghost use Rattle.std.specs.List.{list_any};
 ghost use Rattle.eh_index.specs.Places.{table_of};
 ghost use Rattle.eh_desc.specs.Grammar.{items_of};
 ghost use Rattle.frame_graph.specs.Places.{place_of, standing_at};
 ghost use Rattle.frame_graph.specs.Edges.{edges_to};
-ghost use Rattle.frame_graph.specs.Unwinding.{landing_changes, of_body};
-ghost use Rattle.frame_graph.specs.Sites.{Item, is_one, is_fault, site_of, site_at, entry_at, unwinding_at, items_at, covers, is_scoped, has_fault, pad_of, is_cleanup, cleans, pad_for, pad_edges, edges_from, edges_of, lands_out, pads_out, is_split};
+ghost use Rattle.frame_entries.specs.Unwinding.{landing_changes, summary_of_body};
+ghost use Rattle.frame_entries.specs.Scopes.{Item, is_one, is_fault, is_scope_at, pad_of, is_cleanup, is_cleanup_at, pad_for};
+ghost use Rattle.frame_graph.specs.Sites.{site_of, site_at, entry_at, unwinding_at, items_at, is_scoped, has_fault, pad_edges, edges_from, edges_of, lands_out, pads_out, is_split};
 
-use crate::cover::{is_between, is_entry, is_fault};
 use crate::edges::{Edge, add_edge};
+use crate::entry_cache::is_between;
 use crate::flow_graph::FlowGraph;
-use crate::places::Standing;
-use crate::unwinding::{Unwinding, of_entry};
 use eh_desc::{Desc, DescFault, DescKind, Descs};
 use eh_index::Entry;
+use frame_code::Standing;
+use frame_entries::scopes::{
+    any_covered, is_cleanup_at, is_entry, pad_for, some_covered, some_fault,
+};
+use frame_entries::unwinding::{EntrySummary, summary_of_entry};
 use std::alloc::{AllocError, Global};
 use thumb_isa::instr::Instr;
 
-/// The site of an instruction at an address: its own address, for BL that of its second halfword; None for one that is no call and no
-/// gate.
+/// The site of an instruction at an address: that address, or for a BL the address of its second halfword. None if it is neither a call
+/// nor a gate.
 fn site_of(a: u32, i: Instr) -> Option<u32>
     ensures { result ≡ site_of a i }
 {
@@ -35,91 +39,9 @@ fn site_of(a: u32, i: Instr) -> Option<u32>
     None
 }
 
-fn covers(site: u32, d: &Desc) -> bool
-    ensures { result ≡ covers site d.now }
-{
-    d.start <= site && site < d.start.wrapping_add(d.size)
-}
-
-fn pad_of(kind: &DescKind) -> Option<u32>
-    ensures { result ≡ pad_of kind.now }
-{
-    match *kind {
-        DescKind::Cleanup { pad } => Some(pad),
-        DescKind::Catch { pad, .. } => Some(pad),
-        DescKind::Spec { pad, .. } => pad,
-    }
-}
-
-fn is_cleanup(kind: &DescKind) -> bool
-    ensures { result ≡ is_cleanup kind.now }
-{
-    match kind {
-        DescKind::Cleanup { .. } => true,
-        DescKind::Catch { .. } | DescKind::Spec { .. } => false,
-    }
-}
-
-fn cleans(site: u32, d: &Desc) -> bool
-    ensures { result ≡ cleans site d.now }
-{
-    covers(site, d) && is_cleanup(&d.kind)
-}
-
-/// The landing pad of a descriptor that has the site in its scope.
-fn pad_for(site: u32, d: &Desc) -> Option<u32>
-    ensures { result ≡ pad_for site d.now }
-{
-    if covers(site, d) {
-        pad_of(&d.kind)
-    } else {
-        None
-    }
-}
-
-/// Whether an item is a descriptor that has the site in its scope.
-fn is_covered(site: u32, item: Result<Desc, DescFault>) -> bool
-    ensures { result ≡ is_one (covers site) item }
-{
-    match item {
-        Ok(d) => covers(site, &d),
-        Err(_) => false,
-    }
-}
-
-#[tactic(auto, using(crate::proofs::Items::any_past, crate::proofs::Items::any_here, crate::proofs::Items::any_none))]
-fn some_covered(site: u32, descs: Descs) -> bool
-    ensures { result ≡ list_any (is_one (covers site)) descs.entry }
-{
-    for item in descs {
-        if is_covered(site, item) {
-            return true;
-        }
-    }
-    false
-}
-
-/// The same of a list of items.
-pub(crate) fn any_covered(site: u32, items: &[Result<Desc, DescFault>]) -> bool
-    ensures { result ≡ list_any (is_one (covers site)) items.now }
-{
-    items.iter().any(|item| is_covered(site, *item))
-}
-
-#[tactic(auto, using(crate::proofs::Items::any_past, crate::proofs::Items::any_here, crate::proofs::Items::any_none))]
-fn some_fault(descs: Descs) -> bool
-    ensures { result ≡ list_any is_fault descs.entry }
-{
-    for item in descs {
-        if is_fault(item) {
-            return true;
-        }
-    }
-    false
-}
-
 impl<'s, 'i, 'a> FlowGraph<'s, 'i, 'a> {
-    /// The site of a place, an address in bytes, by what stands there; None exactly where it is no call and no gate.
+    /// The site of a place, an address in bytes; `standing` is what is at the place. None if and only if it is neither a call nor a
+    /// gate.
     pub fn site_by(&self, place: u32, standing: Standing) -> Option<u32>
         requires place { self.now.start + 2 * place < 2 ^ 32 }
         requires standing { standing ≡ standing_at self.now place }
@@ -131,7 +53,7 @@ impl<'s, 'i, 'a> FlowGraph<'s, 'i, 'a> {
         site_of(self.address_of(place), i)
     }
 
-    /// The site of a place, an address in bytes; None exactly where no call and no gate stands there.
+    /// The site of a place, an address in bytes. None if and only if the place has neither a call nor a gate.
     pub fn site_at(&self, place: u32) -> Option<u32>
         requires { self.now.start + 2 * place < 2 ^ 32 }
         ensures { result ≡ site_at self.now place }
@@ -139,7 +61,7 @@ impl<'s, 'i, 'a> FlowGraph<'s, 'i, 'a> {
         self.site_by(place, self.standing_at(place))
     }
 
-    /// The entry that covers an address. Where the one that is kept does, the index isn't searched.
+    /// The entry that covers an address; None if there is none. If it is the cached entry, the index isn't searched.
     pub(crate) fn entry_at(&self, a: u32) -> Option<Entry>
         ensures { result ≡ entry_at self.now a }
     {
@@ -150,9 +72,9 @@ impl<'s, 'i, 'a> FlowGraph<'s, 'i, 'a> {
         }
     }
 
-    /// What the codes of the entry that is kept say, where it covers an address. It is lent.
+    /// How the cached entry unwinds, if it covers the address; else None.
     #[tactic(auto, using(crate::proofs::Kept::kept_unwinding), unfolding(crate::specs::Sites::unwinding_at))]
-    pub fn kept_unwinding_at(&self, a: u32) -> Option<&Unwinding>
+    pub fn kept_unwinding_at(&self, a: u32) -> Option<&EntrySummary>
         ensures { IfSome result (λ u. u.now ≡ unwinding_at self.now a) }
     {
         let e = self.entry_at(a)?;
@@ -163,25 +85,25 @@ impl<'s, 'i, 'a> FlowGraph<'s, 'i, 'a> {
         }
     }
 
-    /// What the codes of an entry say.
+    /// How an entry unwinds.
     #[tactic(auto, using(crate::proofs::Kept::kept_unwinding))]
-    fn unwinding_by(&self, e: &Entry) -> Unwinding
-        ensures { result ≡ of_body e.now.body (table_of self.now.image e.now) }
+    fn unwinding_by(&self, e: &Entry) -> EntrySummary
+        ensures { result ≡ summary_of_body e.now.body (table_of self.now.image e.now) }
     {
         if is_entry(self.entry, e) {
             self.unwinding
         } else {
-            of_entry(self.index, e)
+            summary_of_entry(self.index, e)
         }
     }
 
-    /// What the codes of the entry say that covers an address.
+    /// How the entry that covers an address unwinds.
     #[tactic(auto, unfolding(crate::specs::Sites::unwinding_at))]
-    pub fn unwinding_at(&self, a: u32) -> Unwinding
+    pub fn unwinding_at(&self, a: u32) -> EntrySummary
         ensures { result ≡ unwinding_at self.now a }
     {
         match self.entry_at(a) {
-            None => Unwinding::Refused,
+            None => EntrySummary::Refused,
             Some(e) => self.unwinding_by(&e),
         }
     }
@@ -189,7 +111,7 @@ impl<'s, 'i, 'a> FlowGraph<'s, 'i, 'a> {
     /// Whether a descriptor of an entry has the site in its scope.
     #[tactic(auto, using(crate::proofs::Kept::kept_items))]
     fn is_scoped_by(&self, site: u32, e: &Entry) -> bool
-        ensures { result ≡ list_any (is_one (covers site)) (items_of e.now (table_of self.now.image e.now)) }
+        ensures { result ≡ list_any (is_one (is_scope_at site)) (items_of e.now (table_of self.now.image e.now)) }
     {
         if is_entry(self.entry, e) {
             any_covered(site, self.items)
@@ -232,7 +154,7 @@ impl<'s, 'i, 'a> FlowGraph<'s, 'i, 'a> {
         }
     }
 
-    /// Whether the pad of a descriptor in scope isn't code of the function.
+    /// Whether a descriptor has the site in its scope and a landing pad that isn't code of the function.
     fn lands_out(&self, site: u32, d: &Desc) -> bool
         ensures { result ≡ lands_out self.now site d.now }
     {
@@ -242,7 +164,7 @@ impl<'s, 'i, 'a> FlowGraph<'s, 'i, 'a> {
         }
     }
 
-    /// Whether an item is a descriptor in scope whose pad isn't.
+    /// As `lands_out`, for an item; false for a descriptor that can't be read.
     fn item_lands_out(&self, site: u32, item: Result<Desc, DescFault>) -> bool
         ensures { result ≡ is_one (lands_out self.now site) item }
     {
@@ -252,7 +174,7 @@ impl<'s, 'i, 'a> FlowGraph<'s, 'i, 'a> {
         }
     }
 
-    #[tactic(auto, using(crate::proofs::Items::any_past, crate::proofs::Items::any_here, crate::proofs::Items::any_none))]
+    #[tactic(auto, using(frame_entries::proofs::Items::any_past, frame_entries::proofs::Items::any_here, frame_entries::proofs::Items::any_none))]
     fn some_out(&self, site: u32, descs: Descs) -> bool
         ensures { result ≡ list_any (is_one (lands_out self.now site)) descs.entry }
     {
@@ -264,7 +186,7 @@ impl<'s, 'i, 'a> FlowGraph<'s, 'i, 'a> {
         false
     }
 
-    /// The same of a list of items.
+    /// As `lands_out`, for any item of a list.
     pub(crate) fn any_out(&self, site: u32, items: &[Result<Desc, DescFault>]) -> bool
         ensures { result ≡ list_any (is_one (lands_out self.now site)) items.now }
     {
@@ -310,12 +232,12 @@ impl<'s, 'i, 'a> FlowGraph<'s, 'i, 'a> {
         self.place_of(pad)
     }
 
-    /// Adds the edge to the landing pad of a descriptor, where it has one.
+    /// Adds the edge to the landing pad of a descriptor, if it has one and the site is in its scope.
     fn add_pad_of(
         &self,
         edges: &mut Vec<Edge>,
         site: u32,
-        unwinding: &Unwinding,
+        unwinding: &EntrySummary,
         resumed: bool,
         d: &Desc,
     ) -> Result<(), AllocError>
@@ -327,12 +249,12 @@ impl<'s, 'i, 'a> FlowGraph<'s, 'i, 'a> {
         }
     }
 
-    /// Adds the edge to the landing pad of an item, and answers whether it or one before it cleans.
+    /// Adds the edge to the landing pad of an item. Returns whether this item, or one before it, is a cleanup in scope.
     fn add_pad(
         &self,
         edges: &mut Vec<Edge>,
         site: u32,
-        unwinding: &Unwinding,
+        unwinding: &EntrySummary,
         resumed: bool,
         item: Result<Desc, DescFault>,
     ) -> Result<bool, AllocError>
@@ -341,7 +263,7 @@ impl<'s, 'i, 'a> FlowGraph<'s, 'i, 'a> {
         match item {
             Ok(d) => {
                 self.add_pad_of(edges, site, unwinding, resumed, &d)?;
-                Ok(resumed || cleans(site, &d))
+                Ok(resumed || is_cleanup_at(site, &d))
             }
             Err(_) => Ok(resumed),
         }
@@ -352,7 +274,7 @@ impl<'s, 'i, 'a> FlowGraph<'s, 'i, 'a> {
         &self,
         edges: &mut Vec<Edge>,
         site: u32,
-        unwinding: &Unwinding,
+        unwinding: &EntrySummary,
         descs: Descs,
     ) -> Result<(), AllocError>
         ensures { OnOk result (edges.new.items ≡ edges.old.items ++ pad_edges self.now site unwinding.now false descs.entry) }
@@ -364,12 +286,12 @@ impl<'s, 'i, 'a> FlowGraph<'s, 'i, 'a> {
         Ok(())
     }
 
-    /// The same of a list of items.
+    /// As `add_pads`, for a list of items.
     fn add_listed_pads(
         &self,
         edges: &mut Vec<Edge>,
         site: u32,
-        unwinding: &Unwinding,
+        unwinding: &EntrySummary,
         items: &[Result<Desc, DescFault>],
     ) -> Result<(), AllocError>
         ensures { OnOk result (edges.new.items ≡ edges.old.items ++ pad_edges self.now site unwinding.now false items.now) }
@@ -381,7 +303,7 @@ impl<'s, 'i, 'a> FlowGraph<'s, 'i, 'a> {
         Ok(())
     }
 
-    /// The same of a list of items, by what the codes of an entry say.
+    /// As `add_listed_pads`, for the descriptors `items` of the entry `e`.
     #[tactic(auto, using(crate::proofs::Kept::kept_unwinding))]
     pub(crate) fn add_pads_under(
         &self,
@@ -390,22 +312,22 @@ impl<'s, 'i, 'a> FlowGraph<'s, 'i, 'a> {
         e: &Entry,
         items: &[Result<Desc, DescFault>],
     ) -> Result<(), AllocError>
-        ensures { OnOk result (edges.new.items ≡ edges.old.items ++ pad_edges self.now site (of_body e.now.body (table_of self.now.image e.now)) false items.now) }
+        ensures { OnOk result (edges.new.items ≡ edges.old.items ++ pad_edges self.now site (summary_of_body e.now.body (table_of self.now.image e.now)) false items.now) }
     {
         if is_entry(self.entry, e) {
             self.add_listed_pads(edges, site, &self.unwinding, items)
         } else {
-            self.add_listed_pads(edges, site, &of_entry(self.index, e), items)
+            self.add_listed_pads(edges, site, &summary_of_entry(self.index, e), items)
         }
     }
 
-    /// The same of an entry's descriptors.
+    /// As `add_pads`, for all descriptors of an entry.
     #[tactic(auto, using(crate::proofs::Kept::kept_items))]
     fn add_pads_by(
         &self,
         edges: &mut Vec<Edge>,
         site: u32,
-        unwinding: &Unwinding,
+        unwinding: &EntrySummary,
         e: &Entry,
     ) -> Result<(), AllocError>
         ensures { OnOk result (edges.new.items ≡ edges.old.items ++ pad_edges self.now site unwinding.now false (items_of e.now (table_of self.now.image e.now))) }
@@ -417,7 +339,7 @@ impl<'s, 'i, 'a> FlowGraph<'s, 'i, 'a> {
         }
     }
 
-    /// Adds the edges from a site.
+    /// Adds the edges from a site to its landing pads.
     #[tactic(auto, unfolding(crate::specs::Sites::items_at))]
     fn add_landings(&self, edges: &mut Vec<Edge>, site: u32) -> Result<(), AllocError>
         ensures { OnOk result (edges.new.items ≡ edges.old.items ++ edges_from self.now (Some site)) }
@@ -429,7 +351,7 @@ impl<'s, 'i, 'a> FlowGraph<'s, 'i, 'a> {
         }
     }
 
-    /// The edges from the site of a place to its landing pads; none where no site stands there.
+    /// The edges from the site of a place to its landing pads; none if the place has no site. Err if memory runs out.
     pub fn landings(&self, alloc: Global, place: u32) -> Result<Vec<Edge>, AllocError>
         requires { self.now.start + 2 * place < 2 ^ 32 }
         ensures { IfOk result (λ edges. edges.items ≡ edges_from self.now (site_at self.now place)) }
@@ -441,7 +363,8 @@ impl<'s, 'i, 'a> FlowGraph<'s, 'i, 'a> {
         Ok(edges)
     }
 
-    /// Where a place leads: straight on, and from a site to the landing pads of the descriptors in scope.
+    /// The edges of a place: to the next instruction, to the target of a branch, and from a site to the landing pads of the descriptors
+    /// in scope. Err if memory runs out.
     #[tactic(auto, unfolding(crate::specs::Sites::edges_of))]
     pub fn edges_of(&self, alloc: Global, place: u32) -> Result<Vec<Edge>, AllocError>
         requires { self.now.start + 2 * place < 2 ^ 32 }

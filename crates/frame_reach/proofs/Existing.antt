@@ -5,15 +5,15 @@ use Rattle.std.specs.List.{Contains}
 use Rattle.std.specs.Option.{is_some}
 use Rattle.std.proofs.lemmas.Bool.{true≢false, eqb-true, eq-eqb, cases_eq}
 use Rattle.std.proofs.lemmas.Option.{same_Some, none-some}
-use Rattle.flow.specs.Flow.{Flow, IsState, at_entry, meeting, IsShownAt, met, apart, fact_at}
-use Rattle.flow.specs.Flow.{along as moves}
-use Rattle.flow.specs.Laws.{Laws, IsFinite}
-use Rattle.flow.proofs.Law.{below}
-use Rattle.flow.proofs.Ends.{solves}
-use Rattle.flow.proofs.Work.{contains_none, contains_head, contains_tail, contains_cons}
+use Rattle.frame_dataflow.specs.Flow.{Flow, IsState, at_entry, meeting, IsShownAt, met, apart, fact_at}
+use Rattle.frame_dataflow.specs.Flow.{along as moves}
+use Rattle.frame_dataflow.specs.Laws.{Laws, IsFinite}
+use Rattle.frame_dataflow.proofs.Law.{below}
+use Rattle.frame_dataflow.proofs.Ends.{solves}
+use Rattle.frame_dataflow.proofs.Work.{contains_none, contains_head, contains_tail, contains_cons}
 use Rattle.frame_graph.specs.declared.edges.Edge.{Edge}
 use Rattle.frame_graph.specs.FlowGraph.{FlowGraph}
-use Rattle.frame_graph.specs.Edges.{branched_to}
+use Rattle.frame_graph.specs.Edges.{branch_place}
 use Rattle.frame_graph.specs.Sites.{site_at, edges_from, edges_of}
 use Rattle.frame_graph.specs.Reach.{IsReached, entry, along}
 use Rattle.frame_graph.proofs.Inside.{edges_stay_inside}
@@ -185,7 +185,7 @@ there_edge (x ∷ more) q w c e = ⊎_elim
 
 module _ (s : FlowGraph) (test : ℕ → Bool) (t : Table s test) where
   abbrev branches : ℕ → ℕ → Bool
-  branches q p = test p && leads (branched_to s p) q
+  branches q p = test p && leads (branch_place s p) q
 
   abbrev lands : ℕ → ℕ → Bool
   lands q p = test p && some_edge (edges_from s (site_at s p)) q
@@ -205,10 +205,10 @@ module _ (s : FlowGraph) (test : ℕ → Bool) (t : Table s test) where
   branched q = (
     λ h.
         let p = some_holds (places s) (branches q) h in
-        let w = both (test p.0) (leads (branched_to s p.0) q) p.1 in
-        (p.0, (t p.0).0 w.0, leads_there (branched_to s p.0) q w.1),
+        let w = both (test p.0) (leads (branch_place s p.0) q) p.1 in
+        (p.0, (t p.0).0 w.0, leads_there (branch_place s p.0) q w.1),
     λ (b : IsBranched s q). some_found (places s) (branches q) b.0 (place_below s b.0 b.1)
-        (both_hold (test b.0) (leads (branched_to s b.0) q) ((t b.0).1 b.1) (there_leads (branched_to s b.0) q b.2)),
+        (both_hold (test b.0) (leads (branch_place s b.0) q) ((t b.0).1 b.1) (there_leads (branch_place s b.0) q b.2)),
   )
 
   pub marks : (m : Marks) × AreMarks s m

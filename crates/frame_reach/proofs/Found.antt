@@ -9,18 +9,20 @@ use Rattle.std.specs.Prelude.{nat_eq, slice_index, OnOk, is_ok}
 use Rattle.std.specs.List.{Contains, IsDistinct}
 use Rattle.frame_graph.specs.declared.edges.Edge.{Edge}
 use Rattle.frame_graph.specs.FlowGraph.{FlowGraph}
-use Rattle.frame_graph.specs.declared.places.Standing.{Standing}
-use Rattle.frame_graph.specs.declared.places.Standing.TheVariants.{Instruction, Udf, Nothing}
+use Rattle.frame_code.specs.declared.standing.Standing.{Standing}
+use Rattle.frame_code.specs.declared.standing.Standing.TheVariants.{Instruction, Udf, Nothing}
 use Rattle.frame_graph.specs.Places.{address_of, place_of, standing_at}
-use Rattle.frame_graph.specs.Edges.{branch_target, edges_to, onward, straight_by, straight_edges, instruction_of, branched_to}
+use Rattle.frame_code.specs.Branches.{branch_target}
+use Rattle.frame_code.specs.Standing.{instruction_of}
+use Rattle.frame_graph.specs.Edges.{edges_to, fall_through_edges, straight_by, straight_edges, branch_place}
 use Rattle.std.proofs.lemmas.Option.{none-some}
 use Rattle.std.specs.Prelude.{option_and_then}
-use Rattle.flow.proofs.Work.{contains_head}
+use Rattle.frame_dataflow.proofs.Work.{contains_head}
 use Rattle.frame_graph.specs.Sites.{site_at, edges_from, edges_of, is_split}
 use Rattle.frame_graph.specs.Reach.{IsReached, entry, along}
 use Rattle.frame_graph.proofs.Inside.{edges_stay_inside}
 use Rattle.frame_reach.specs.Marks.{IsPad, IsBranched, IsTarget, IsTooLong, IsSplit, Marks, AreMarks, AreThePlaces}
-use Rattle.frame_reach.specs.Held.{Held, is_set, marks_of, splits_at}
+use Rattle.frame_reach.specs.Held.{SearchView, is_set, marks_of, splits_at}
 use Rattle.frame_reach.specs.Prologue.{places}
 use Rattle.frame_reach.specs.Laws.{TargetsAreReached}
 use Rattle.frame_reach.specs.Search.{AreSound, Grow, AreFollowed, IsPutIn, IsLandedIn}
@@ -59,7 +61,7 @@ pad_reached s q d = subst (λ (x : ℕ). IsReached s x) d.4 (landing_reached s d
 
 -- ---- all edges are followed
 
-module _ (s : FlowGraph) (h : Held) (a : AreSound s h) (begins : is_set h.reached 0 ≡ true)
+module _ (s : FlowGraph) (h : SearchView) (a : AreSound s h) (begins : is_set h.reached 0 ≡ true)
     (followed : (k : ℕ) → k < length h.places → AreFollowed s h (slice_index h.places k)) where
   follow : (p : ℕ) → is_set h.reached p ≡ true → AreFollowed s h p
   follow p e =
@@ -99,7 +101,7 @@ branch_edge : (s : FlowGraph) (a : ℕ) (t : Standing) (q : ℕ) → option_and_
 branch_edge s a (Instruction i size) q e =
     let w : Edge = record { to = q; clobbers = 0 } in
     let to = option_and_then (place_of s) (branch_target a i) in
-    Contains-append_right (onward s a i size) (edges_to 0 to) w (subst (λ (o : Option ℕ). Contains (edges_to 0 o) w) (sym e) (contains_head w []))
+    Contains-append_right (fall_through_edges s a i size) (edges_to 0 to) w (subst (λ (o : Option ℕ). Contains (edges_to 0 o) w) (sym e) (contains_head w []))
 branch_edge s a Udf q e = absurd (none-some q e)
 branch_edge s a Nothing q e = absurd (none-some q e)
 
@@ -169,14 +171,14 @@ unmarked_anew before marks n m (Err fault) e z is = tt
 -- ---- the edges of one place
 
 -- what is followed stays so
-pub followed_grow : (s : FlowGraph) (h g : Held) (p : ℕ) → Grow h g → AreFollowed s h p → AreFollowed s g p
+pub followed_grow : (s : FlowGraph) (h g : SearchView) (p : ℕ) → Grow h g → AreFollowed s h p → AreFollowed s g p
 followed_grow s h g p more f = record {
   straight = λ w c. more.reached w.to (f.straight w c);
   landings = λ w c. let l = f.landings w c in (more.reached w.to l.0, more.target w.to l.1, more.pad w.to l.2);
   branch = λ q e. more.target q (f.branch q e);
 }
 
-pub followed : (s : FlowGraph) (a b c : Held) (p : ℕ) (edges : List Edge) (target : Option ℕ) → edges ≡ straight_edges s p → target ≡ branched_to s p
+pub followed : (s : FlowGraph) (a b c : SearchView) (p : ℕ) (edges : List Edge) (target : Option ℕ) → edges ≡ straight_edges s p → target ≡ branch_place s p
     → Grow a b → Grow b c → ((w : Edge) → Contains edges w → IsPutIn a w.to) → ((w : Edge) → Contains (edges_from s (site_at s p)) w → IsLandedIn b w.to) → ((q : ℕ) → target ≡ Some q → is_set c.target q ≡ true) → AreFollowed s c p
 followed s a b c p edges target is_edges is_target g h put landed aimed = record {
   straight = λ w e. h.reached w.to (g.reached w.to (put w (subst (λ (ws : List Edge). Contains ws w) (sym is_edges) e)));
@@ -188,7 +190,7 @@ pub straight_all : (s : FlowGraph) (p : ℕ) (edges : List Edge) → IsReached s
 straight_all s p edges r e w c = straight_reached s p w r (subst (λ (ws : List Edge). Contains ws w) e c)
 
 -- a place more is followed
-pub followed_more : (s : FlowGraph) (h g : Held) (n p : ℕ) → Grow h g → n < length h.places → p ≡ slice_index h.places n → ((k : ℕ) → k < n → AreFollowed s h (slice_index h.places k)) → AreFollowed s g p
+pub followed_more : (s : FlowGraph) (h g : SearchView) (n p : ℕ) → Grow h g → n < length h.places → p ≡ slice_index h.places n → ((k : ℕ) → k < n → AreFollowed s h (slice_index h.places k)) → AreFollowed s g p
     → (k : ℕ) → k < n + 1 → AreFollowed s g (slice_index g.places k)
 followed_more s h g n p more l is before now k m = ⊎_elim
     (λ (e : k ≡ n). subst (λ (x : ℕ). AreFollowed s g x) (is ∙ (sym (more.kept n l) ∙ ap (λ (x : ℕ). slice_index g.places x) (sym e))) now)
@@ -203,7 +205,7 @@ followed_more s h g n p more l is before now k m = ⊎_elim
 pub at_index : (s : FlowGraph) (places : List ℕ) (n p : ℕ) → n < length places → p ≡ get_or places n p → p ≡ slice_index places n
 at_index s places n p l e = e ∙ get_or_default_zero places n p l
 
-pub listed_reached : (s : FlowGraph) (h : Held) (n : ℕ) → AreSound s h → n < length h.places → IsReached s (slice_index h.places n)
+pub listed_reached : (s : FlowGraph) (h : SearchView) (n : ℕ) → AreSound s h → n < length h.places → IsReached s (slice_index h.places n)
 listed_reached s h n a l = a.reached (slice_index h.places n) ((a.listed.all (slice_index h.places n)).0 (Contains-get_or h.places n 0 l))
 
 -- ---- whether a function is split

@@ -5,8 +5,8 @@ use Rattle.std.proofs.lemmas.Bool.{and_parts}
 use Rattle.thumb_isa.specs.declared.instr.Instr.{Instr}
 use Rattle.thumb_isa.specs.declared.instr.Instr.TheVariants.{MovHigh}
 use Rattle.frame_facts.specs.Prologues.{may_stand}
-use Rattle.frame_graph.specs.Edges.{instruction_of}
-use Rattle.frame_graph.specs.Lowering.{sets_sp_from}
+use Rattle.frame_code.specs.Standing.{instruction_of}
+use Rattle.frame_code.specs.Lowering.{sets_sp_from}
 use Rattle.frame_graph.proofs.NoLowering.{lowers_nowhere}
 use Rattle.frame_reach.specs.Laws.{NoLoweringInThePrologue}
 use Rattle.frame_reach.proofs.Runs.{taken_well}

@@ -13,7 +13,7 @@ use Rattle.frame_graph.specs.FlowGraph.{FlowGraph}
 use Rattle.frame_graph.specs.Reach.{IsReached}
 use Rattle.frame_reach.specs.declared.marks.TheConstants.{MOST_REACHED}
 use Rattle.frame_reach.specs.Marks.{IsPad, IsTarget, IsTooLong}
-use Rattle.frame_reach.specs.Held.{Held, is_set}
+use Rattle.frame_reach.specs.Held.{SearchView, is_set}
 use Rattle.frame_reach.specs.Prologue.{places}
 use Rattle.frame_reach.specs.Search.{AreSound, Grow, IsPutIn}
 
@@ -33,10 +33,10 @@ no_more xs ys d all = length-le_from_is_member nat_eq_equiv xs ys d (λ q h. (is
 
 -- ---- one step after the other
 
-pub same : (h : Held) → Grow h h
+pub same : (h : SearchView) → Grow h h
 same h = record { reached = λ p e. e; target = λ p e. e; pad = λ p e. e; longer = le_refl (length h.places); kept = λ k l. refl }
 
-pub then : (a b c : Held) → Grow a b → Grow b c → Grow a c
+pub then : (a b c : SearchView) → Grow a b → Grow b c → Grow a c
 then a b c g h = record {
   reached = λ p e. h.reached p (g.reached p e);
   target = λ p e. h.target p (g.target p e);
@@ -63,10 +63,10 @@ back xs p P here before q h = ⊎_elim
     (λ (n : q ≡ p → ⊥). before q (sym (get_or-set_other xs p q true false n) ∙ h))
     (cases_eq q p)
 
-module _ (s : FlowGraph) (h : Held) (p : ℕ) (a : AreSound s h) where
+module _ (s : FlowGraph) (h : SearchView) (p : ℕ) (a : AreSound s h) where
   -- ---- a place is put on the list
 
-  abbrev pub with_place : List ℕ → Held
+  abbrev pub with_place : List ℕ → SearchView
   with_place ps = record h { reached = set h.reached p true; places = ps }
 
   unlisted : is_set h.reached p ≡ false → Contains h.places p → ⊥
@@ -123,7 +123,7 @@ module _ (s : FlowGraph) (h : Held) (p : ℕ) (a : AreSound s h) where
 
   -- ---- a place is marked as a target
 
-  abbrev pub with_target : Held
+  abbrev pub with_target : SearchView
   with_target = record h { target = set h.target p true }
 
   pub aimed : p < places s → IsTarget s p → AreSound s with_target
@@ -149,7 +149,7 @@ module _ (s : FlowGraph) (h : Held) (p : ℕ) (a : AreSound s h) where
 
   -- ---- and as a landing pad
 
-  abbrev pub with_pad : Held
+  abbrev pub with_pad : SearchView
   with_pad = record h { target = set h.target p true; pad = set h.pad p true }
 
   pub landed : p < places s → IsPad s p → AreSound s with_pad

@@ -5,12 +5,14 @@ use Rattle.std.specs.List.{Contains}
 use Rattle.std.proofs.lemmas.List.Elements.{Contains-append_cases}
 use Rattle.std.proofs.lemmas.Option.{same_Some, none-some}
 use Rattle.thumb_isa.specs.declared.instr.Instr.{Instr}
-use Rattle.frame_graph.specs.declared.places.Standing.{Standing}
-use Rattle.frame_graph.specs.declared.places.Standing.TheVariants.{Instruction, Udf, Nothing}
+use Rattle.frame_code.specs.declared.standing.Standing.{Standing}
+use Rattle.frame_code.specs.declared.standing.Standing.TheVariants.{Instruction, Udf, Nothing}
 use Rattle.frame_graph.specs.declared.edges.Edge.{Edge}
 use Rattle.frame_graph.specs.FlowGraph.{FlowGraph}
 use Rattle.frame_graph.specs.Places.{is_code_of, address_of, place_of, standing_at}
-use Rattle.frame_graph.specs.Edges.{reaches_next, branch_target, edges_to, onward, straight_by, straight_edges, instruction_of}
+use Rattle.frame_code.specs.Branches.{reaches_next, branch_target}
+use Rattle.frame_code.specs.Standing.{instruction_of}
+use Rattle.frame_graph.specs.Edges.{edges_to, fall_through_edges, straight_by, straight_edges}
 use Rattle.frame_graph.specs.Sites.{site_at, edges_from, edges_of}
 use Rattle.frame_graph.specs.Reach.{entry, along}
 use Rattle.frame_reach.specs.Laws.{OthersAreAfter}
@@ -48,9 +50,9 @@ Comes s p q t =
 comes : (s : FlowGraph) (p : ℕ) (t : Standing) (w : Edge) → Contains (straight_by s (address_of s p) t) w → Comes s p w.to t
 comes s p (Instruction i size) w c =
     let a = address_of s p in ⊎_elim
-    (λ (l : Contains (onward s a i size) w). let o = on_edge s a i size w (reaches_next i) l in inl (i, size, refl, o.0, o.1))
+    (λ (l : Contains (fall_through_edges s a i size) w). let o = on_edge s a i size w (reaches_next i) l in inl (i, size, refl, o.0, o.1))
     (λ (r : Contains (edges_to 0 (option_and_then (place_of s) (branch_target a i))) w). inr (edge_to 0 (option_and_then (place_of s) (branch_target a i)) w r))
-    (Contains-append_cases (onward s a i size) (edges_to 0 (option_and_then (place_of s) (branch_target a i))) w c)
+    (Contains-append_cases (fall_through_edges s a i size) (edges_to 0 (option_and_then (place_of s) (branch_target a i))) w c)
 comes s p Udf w c = absurd (none w c)
 comes s p Nothing w c = absurd (none w c)
 

@@ -13,17 +13,18 @@ use Rattle.frame_facts.specs.declared.facts.TheConstants.{DEEPEST}
 use Rattle.frame_facts.specs.declared.saves.Prologue.{Prologue}
 use Rattle.frame_facts.specs.declared.straight.Straight.{Straight}
 use Rattle.frame_facts.specs.After.{effect}
-use Rattle.frame_facts.specs.Prologues.{is_callers, nature_may_stand, may_stand, pushed_by, ended, taken, begun, run_on}
-use Rattle.frame_graph.specs.declared.places.Standing.{Standing}
-use Rattle.frame_graph.specs.declared.places.Standing.TheVariants.{Instruction, Udf, Nothing}
+use Rattle.frame_facts.specs.Prologues.{is_callers, nature_may_stand, may_stand, prologue_after, run_with_end, with_instruction, empty_run, run_on}
+use Rattle.frame_code.specs.declared.standing.Standing.{Standing}
+use Rattle.frame_code.specs.declared.standing.Standing.TheVariants.{Instruction, Udf, Nothing}
 use Rattle.frame_graph.specs.declared.edges.Edge.{Edge}
 use Rattle.frame_graph.specs.FlowGraph.{FlowGraph}
 use Rattle.frame_graph.specs.Places.{address_of, place_of, is_place, standing_at}
-use Rattle.frame_graph.specs.Edges.{nature_reaches_next, reaches_next, branch_target, edges_to, onward, straight_by, straight_edges}
+use Rattle.frame_code.specs.Branches.{nature_reaches_next, reaches_next, branch_target}
+use Rattle.frame_graph.specs.Edges.{edges_to, fall_through_edges, straight_by, straight_edges}
 use Rattle.frame_graph.specs.Sites.{site_at, edges_from, edges_of}
 use Rattle.frame_graph.specs.Reach.{IsReached, entry, along}
 use Rattle.frame_graph.proofs.Inside.{places_have_their_address}
-use Rattle.flow.proofs.Work.{contains_head}
+use Rattle.frame_dataflow.proofs.Work.{contains_head}
 use Rattle.frame_reach.specs.Marks.{Marks}
 use Rattle.frame_reach.specs.Prologue.{places, is_led_to, line_by, line_at, lines, prologue}
 use Rattle.frame_reach.specs.Laws.{IsRun, begins, takes, Continues, PrologueIsTheLongestRun, RunsAreReached, NoTargetInThePrologue}
@@ -62,7 +63,7 @@ if_some : {X : Type 0} (b : Bool) (o : Option X) (x : X) → (if b then o else N
 if_some true o x e = (refl, e)
 if_some false o x e = absurd (none-some x e)
 
-ended_by : (r next : Straight) (i : Instr) (size : ℕ) (p : Prologue) → ended r i size p ≡ Some next → next.prologue.end ≡ (r.prologue.end + size) % 2 ^ 32
+ended_by : (r next : Straight) (i : Instr) (size : ℕ) (p : Prologue) → run_with_end r i size p ≡ Some next → next.prologue.end ≡ (r.prologue.end + size) % 2 ^ 32
 ended_by r next i size p e =
     let q : Prologue = record p { end = (r.prologue.end + size) % 2 ^ 32 } in by_effect q (effect q false r.prologue.end i r.fact) e
   where
@@ -70,19 +71,19 @@ ended_by r next i size p e =
     by_effect q None e = absurd (none-some next e)
     by_effect q (Some f) e = ap (λ (x : Straight). x.prologue.end) (sym (same_Some (record { fact = f; prologue = q }) next e))
 
-pushed_ended : (r next : Straight) (i : Instr) (size : ℕ) (o : Option Prologue) → option_and_then (ended r i size) o ≡ Some next → next.prologue.end ≡ (r.prologue.end + size) % 2 ^ 32
+pushed_ended : (r next : Straight) (i : Instr) (size : ℕ) (o : Option Prologue) → option_and_then (run_with_end r i size) o ≡ Some next → next.prologue.end ≡ (r.prologue.end + size) % 2 ^ 32
 pushed_ended r next i size None e = absurd (none-some next e)
 pushed_ended r next i size (Some p) e = ended_by r next i size p e
 
 -- it may stand there, and the run ends after it
-pub taken_well : (r next : Straight) (i : Instr) (size : ℕ) → taken r i size ≡ Some next → (may_stand i ≡ true) × (next.prologue.end ≡ (r.prologue.end + size) % 2 ^ 32)
+pub taken_well : (r next : Straight) (i : Instr) (size : ℕ) → with_instruction r i size ≡ Some next → (may_stand i ≡ true) × (next.prologue.end ≡ (r.prologue.end + size) % 2 ^ 32)
 taken_well r next i size e =
-    let w = if_some (nat_le r.fact.depth DEEPEST && may_stand i) (option_and_then (ended r i size) (pushed_by r i)) next e in
-    ((both (nat_le r.fact.depth DEEPEST) (may_stand i) w.0).1, pushed_ended r next i size (pushed_by r i) w.1)
+    let w = if_some (nat_le r.fact.depth DEEPEST && may_stand i) (option_and_then (run_with_end r i size) (prologue_after r i)) next e in
+    ((both (nat_le r.fact.depth DEEPEST) (may_stand i) w.0).1, pushed_ended r next i size (prologue_after r i) w.1)
 
 -- ---- each is reached
 
-pub onward_edge : (s : FlowGraph) (a : ℕ) (i : Instr) (size q : ℕ) → reaches_next i ≡ true → place_of s (a + size) ≡ Some q → Contains (onward s a i size) (record { to = q; clobbers = 0 })
+pub onward_edge : (s : FlowGraph) (a : ℕ) (i : Instr) (size q : ℕ) → reaches_next i ≡ true → place_of s (a + size) ≡ Some q → Contains (fall_through_edges s a i size) (record { to = q; clobbers = 0 })
 onward_edge s a i size q g e =
     let w : Edge = record { to = q; clobbers = 0 } in
     subst (λ (b : Bool). Contains (if b then edges_to 0 (place_of s (a + size)) else []) w) (sym g)
@@ -97,7 +98,7 @@ next_reached s p i size r e g h =
     let w : Edge = record { to = q; clobbers = 0 } in
     let a : s.start + 2 * q ≡ address_of s p + size = ⊎_elim (λ (two : size ≡ 2). omega (arith, two)) (λ (four : size ≡ 4). omega (arith, four)) (stands_size s p i size e) in
     let to : place_of s (address_of s p + size) ≡ Some q = subst (λ (x : ℕ). place_of s x ≡ Some q) a (places_have_their_address s q h) in
-    let on = Contains-append_left (onward s (address_of s p) i size) (edges_to 0 (option_and_then (place_of s) (branch_target (address_of s p) i))) w (onward_edge s (address_of s p) i size q g to) in
+    let on = Contains-append_left (fall_through_edges s (address_of s p) i size) (edges_to 0 (option_and_then (place_of s) (branch_target (address_of s p) i))) w (onward_edge s (address_of s p) i size q g to) in
     let straight : Contains (straight_edges s p) w = subst (λ (t : Standing). Contains (straight_by s (address_of s p) t) w) (sym e) on in
     along r (Contains-append_left (straight_edges s p) (edges_from s (site_at s p)) w straight)
 
@@ -200,7 +201,7 @@ walk s m (suc fuel) p run r l = ⊎_elim
     let is : lines s m.target (suc fuel) p ≡ x ∷ more = ap (λ (o : Option (Instr × ℕ)). option_map_or (λ (line : Instr × ℕ). line ∷ lines s m.target fuel (p + line.1 / 2)) o []) some.1 in
     subst (λ (ls : List (Instr × ℕ)). Longest s m (run_on run ls)) (sym is)
     (⊎_elim
-    (λ (none : taken run x.0 x.1 ≡ None).
+    (λ (none : with_instruction run x.0 x.1 ≡ None).
     let stays : run_on run (x ∷ more) ≡ run = ap (λ (o : Option Straight). option_map_or (λ (t : Straight). run_on t more) o run) none in
     subst (λ (last : Straight). Longest s m last) (sym stays) (
       p,
@@ -208,19 +209,19 @@ walk s m (suc fuel) p run r l = ⊎_elim
       r,
       λ c.
           let same = same_Some x (c.0, c.1) (sym some.1 ∙ stands_line m.target p (standing_at s p) c.0 c.1 c.3 c.4) in
-          none-some c.2 (sym none ∙ (ap (λ (y : Instr × ℕ). taken run y.0 y.1) same ∙ c.5)),
+          none-some c.2 (sym none ∙ (ap (λ (y : Instr × ℕ). with_instruction run y.0 y.1) same ∙ c.5)),
       refl,
     ))
-    (λ (next : (next : Straight) × (taken run x.0 x.1 ≡ Some next)).
+    (λ (next : (next : Straight) × (with_instruction run x.0 x.1 ≡ Some next)).
     let goes : run_on run (x ∷ more) ≡ run_on next.0 more = ap (λ (o : Option Straight). option_map_or (λ (t : Straight). run_on t more) o run) next.1 in
     let far : places s ≤ (p + x.1 / 2) + fuel = ⊎_elim (λ (two : x.1 ≡ 2). omega (arith, two, l)) (λ (four : x.1 ≡ 4). omega (arith, four, l)) (stands_size s p x.0 x.1 w.0) in
     subst (λ (last : Straight). Longest s m last) (sym goes) (walk s m fuel (p + x.1 / 2) next.0 (takes r w.0 w.1 next.1) far))
-    (some_or_none (taken run x.0 x.1))))
+    (some_or_none (with_instruction run x.0 x.1))))
     (some_or_none (line_at s m.target p))
 
 pub prologue_is_the_longest_run : PrologueIsTheLongestRun
 unfolding prologue
-prologue_is_the_longest_run s m = walk s m (places s) 0 (begun s.start) begins (omega arith)
+prologue_is_the_longest_run s m = walk s m (places s) 0 (empty_run s.start) begins (omega arith)
 
 pub no_target_in_the_prologue : NoTargetInThePrologue
 no_target_in_the_prologue s m small marks q t l =
@@ -234,14 +235,14 @@ no_target_in_the_prologue s m small marks q t l =
 
 -- ---- the run of the code
 
-pub walk_start : (s : FlowGraph) (m : Marks) (run : Straight) → run ≡ begun s.start → (run_on run (lines s m.target (places s - 0) 0)).prologue ≡ prologue s m
+pub walk_start : (s : FlowGraph) (m : Marks) (run : Straight) → run ≡ empty_run s.start → (run_on run (lines s m.target (places s - 0) 0)).prologue ≡ prologue s m
 unfolding prologue
 walk_start s m run e =
     let all : places s - 0 ≡ places s = omega arith in
     ap (λ (n : ℕ). (run_on run (lines s m.target n 0)).prologue) all ∙ ap (λ (x : Straight). (run_on x (lines s m.target (places s) 0)).prologue) e
 
 -- an instruction more
-pub walk_next : (s : FlowGraph) (m : Marks) (run next : Straight) (k p : ℕ) (i : Instr) (size : ℕ) (all : Prologue) → k < places s → line_at s m.target p ≡ Some (i, size) → taken run i size ≡ Some next
+pub walk_next : (s : FlowGraph) (m : Marks) (run next : Straight) (k p : ℕ) (i : Instr) (size : ℕ) (all : Prologue) → k < places s → line_at s m.target p ≡ Some (i, size) → with_instruction run i size ≡ Some next
     → (run_on run (lines s m.target (places s - k) p)).prologue ≡ all → (run_on next (lines s m.target (places s - (k + 1)) (p + size / 2))).prologue ≡ all
 walk_next s m run next k p i size all l line t e =
     let fuel = places s - (k + 1) in

@@ -9,13 +9,14 @@ use Rattle.thumb_isa.specs.declared.instr.Decoded.TheVariants.{Is, Undefined, Un
 use Rattle.thumb_isa.specs.Range.{size_of, IsOfSize}
 use Rattle.thumb_isa.specs.declared.profile.Profile.{Profile}
 use Rattle.thumb_isa.specs.declared.profile.Profile.TheVariants.{One, Two}
-use Rattle.thumb_isa.specs.Rows.{Row, fits, rows, late_rows, first_fit, decoded_of, late_decoded_of, decoded_for}
+use Rattle.thumb_isa.specs.Rows.{Row, fits_row, rows, late_rows, first_fit, decode_result, late_decode_result, decode_result_for}
 use Rattle.thumb_isa.proofs.BothProfiles.{sized_for}
-use Rattle.elf_image.specs.Image.{is_code_in}
-use Rattle.image_memory.specs.Profiles.{profile_of}
-use Rattle.frame_graph.specs.declared.places.Standing.TheVariants.{Instruction, Udf}
+use Rattle.frame_code.specs.elf_image.Image.{is_code_in}
+use Rattle.frame_graph.specs.run_images.Profiles.{profile_of}
+use Rattle.frame_code.specs.declared.standing.Standing.TheVariants.{Instruction, Udf}
 use Rattle.frame_graph.specs.FlowGraph.{FlowGraph}
-use Rattle.frame_graph.specs.Places.{address_of, is_place, halfword_at, is_udf, of_decoded, wide_of, standing_by, standing_at}
+use Rattle.frame_code.specs.Standing.{halfword_at, is_udf, standing_of_decoded, wide_of, standing_by}
+use Rattle.frame_graph.specs.Places.{address_of, is_place, standing_at}
 use Rattle.frame_reach.specs.Prologue.{places}
 
 both : (a b : Bool) → (a && b) ≡ true → (a ≡ true) × (b ≡ true)
@@ -38,17 +39,17 @@ fit_sized : (rs : List Row) (first second : ℕ) → list_all (λ row. is_sized 
 fit_sized [] first second h = refl
 fit_sized (row ∷ more) first second h =
     let two = both (is_sized (row.means first second)) (list_all (λ row. is_sized (row.means first second)) more) h in
-    either (fits row first second) (row.means first second) (first_fit more first second) two.0 (fit_sized more first second two.1)
+    either (fits_row row first second) (row.means first second) (first_fit more first second) two.0 (fit_sized more first second two.1)
 
-decoded_sized : (first second : ℕ) → is_sized (decoded_of first second) ≡ true
-unfolding decoded_of
+decoded_sized : (first second : ℕ) → is_sized (decode_result first second) ≡ true
+unfolding decode_result
 decoded_sized first second = fit_sized rows first second refl
 
-late_sized : (first second : ℕ) → is_sized (late_decoded_of first second) ≡ true
-unfolding late_decoded_of
+late_sized : (first second : ℕ) → is_sized (late_decode_result first second) ≡ true
+unfolding late_decode_result
 late_sized first second = fit_sized (late_rows ++ rows) first second refl
 
-all_sized : (p : Profile) (first second : ℕ) → is_sized (decoded_for p first second) ≡ true
+all_sized : (p : Profile) (first second : ℕ) → is_sized (decode_result_for p first second) ≡ true
 all_sized One first second = decoded_sized first second
 all_sized Two first second = late_sized first second
 
@@ -59,7 +60,7 @@ two_or_four size h = by_test (size == 2) refl h
     by_test true e h = inl (eqb-true size 2 e)
     by_test false e h = inr (eqb-true size 4 h)
 
-is_size : (d : Decoded) (i : Instr) (size : ℕ) → is_sized d ≡ true → of_decoded d ≡ Instruction i size → (size ≡ 2) ⊎ (size ≡ 4)
+is_size : (d : Decoded) (i : Instr) (size : ℕ) → is_sized d ≡ true → standing_of_decoded d ≡ Instruction i size → (size ≡ 2) ⊎ (size ≡ 4)
 is_size (Is j n) i size h e = two_or_four size (subst (λ x. ((x == 2) || (x == 4)) ≡ true) (sizes j i n size e) h)
   where
     sizes : (j i : Instr) (n size : ℕ) → Instruction j n ≡ Instruction i size → n ≡ size
@@ -74,7 +75,7 @@ is_size NotInProfile i size h e = absurd cc
 abbrev pub IsWhole : ℕ → Bool → Type 0
 IsWhole size second = (size ≡ 2) ⊎ ((size ≡ 4) × (second ≡ true))
 
-of_size : (n : ℕ) (d : Decoded) (i : Instr) (size : ℕ) → IsOfSize n d → of_decoded d ≡ Instruction i size → size ≡ n
+of_size : (n : ℕ) (d : Decoded) (i : Instr) (size : ℕ) → IsOfSize n d → standing_of_decoded d ≡ Instruction i size → size ≡ n
 of_size n (Is j m) i size h e = cc
 of_size n Undefined i size h e = absurd cc
 of_size n Unpredictable i size h e = absurd cc
@@ -86,19 +87,19 @@ is_low first h = elim (cases_lt first 0xe800) [
   | inr high ↦ absurd (true≢false (sym h ∙ ap (λ b. cond b 4 2 == 2) (le-leb 0xe800 first high)))
 ]
 
-narrow : (p : Profile) (first : ℕ) (i : Instr) (size : ℕ) → (size_of first == 2) ≡ true → of_decoded (decoded_for p first 0) ≡ Instruction i size → size ≡ 2
+narrow : (p : Profile) (first : ℕ) (i : Instr) (size : ℕ) → (size_of first == 2) ≡ true → standing_of_decoded (decode_result_for p first 0) ≡ Instruction i size → size ≡ 2
 narrow p first i size h e =
     let low = is_low first h in
-    of_size (size_of first) (decoded_for p first 0) i size (sized_for p first 0 (omega (arith, low))) e ∙ eqb-true (size_of first) 2 h
+    of_size (size_of first) (decode_result_for p first 0) i size (sized_for p first 0 (omega (arith, low))) e ∙ eqb-true (size_of first) 2 h
 
-wide : (p : Profile) (first second : ℕ) (i : Instr) (size : ℕ) → of_decoded (decoded_for p first second) ≡ Instruction i size → IsWhole size true
+wide : (p : Profile) (first second : ℕ) (i : Instr) (size : ℕ) → standing_of_decoded (decode_result_for p first second) ≡ Instruction i size → IsWhole size true
 wide p first second i size e = ⊎_elim
     (λ (two : size ≡ 2). inl two)
     (λ (four : size ≡ 4). inr (four, refl))
-    (is_size (decoded_for p first second) i size (all_sized p first second) e)
+    (is_size (decode_result_for p first second) i size (all_sized p first second) e)
 
 by_size : (p : Profile) (udf short : Bool) (first : ℕ) (second : Bool) (h : Option ℕ) (i : Instr) (size : ℕ) → (size_of first == 2) ≡ short
-    → (if udf then Udf else (if short then of_decoded (decoded_for p first 0) else wide_of p first (if second then h else None))) ≡ Instruction i size → IsWhole size second
+    → (if udf then Udf else (if short then standing_of_decoded (decode_result_for p first 0) else wide_of p first (if second then h else None))) ≡ Instruction i size → IsWhole size second
 by_size p true short first second h i size is e = absurd cc
 by_size p false true first second h i size is e = inl (narrow p first i size is e)
 by_size p false false first false h i size is e = absurd cc

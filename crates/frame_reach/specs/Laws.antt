@@ -2,11 +2,11 @@
 use Rattle.std.specs.Prelude.{ℕ, ◌≡◌, ◌↔◌, ◌+◌, ◌*◌, ◌/◌, ◌^◌, ◌<◌, ◌⊎◌, true, false, List, length, Some}
 use Rattle.thumb_isa.specs.declared.instr.Instr.{Instr}
 use Rattle.frame_facts.specs.declared.straight.Straight.{Straight}
-use Rattle.frame_facts.specs.Prologues.{begun, taken}
-use Rattle.frame_graph.specs.declared.places.Standing.TheVariants.{Instruction}
+use Rattle.frame_facts.specs.Prologues.{empty_run, with_instruction}
+use Rattle.frame_code.specs.declared.standing.Standing.TheVariants.{Instruction}
 use Rattle.frame_graph.specs.FlowGraph.{FlowGraph}
 use Rattle.frame_graph.specs.Places.{standing_at}
-use Rattle.frame_graph.specs.Edges.{reaches_next}
+use Rattle.frame_code.specs.Branches.{reaches_next}
 use Rattle.frame_graph.specs.Lowering.{is_lowering}
 use Rattle.frame_graph.specs.Reach.{IsReached}
 use Rattle.frame_reach.specs.declared.marks.TheConstants.{MOST_REACHED}
@@ -33,34 +33,34 @@ PlacesAreCounted = (s : FlowGraph) (m : Marks) (ps : List ℕ) → AreMarks s m 
 abbrev pub TargetsAreReached : Type 0
 TargetsAreReached = (s : FlowGraph) (q : ℕ) → IsTarget s q → IsReached s q
 
--- the place stands after an instruction that is reached and goes on
+-- the place follows a reached instruction that can go on to it
 abbrev pub IsAfter : FlowGraph → ℕ → Type 0
 IsAfter s q = (p : ℕ) × (i : Instr) × (size : ℕ) × IsReached s p × (standing_at s p ≡ Instruction i size) × (reaches_next i ≡ true) × (q ≡ p + size / 2)
 
--- and what else is reached is the entry, or stands after an instruction
+-- any other reached place is the entry, or follows an instruction
 abbrev pub OthersAreAfter : Type 0
 OthersAreAfter = (s : FlowGraph) (q : ℕ) → IsReached s q → (q ≡ 0) ⊎ (IsTarget s q ⊎ IsAfter s q)
 
 -- ---- the prologue
 
--- A run has come to a place: at the entry it has no instruction, and then it has taken one after the other, of which no halfword is a
+-- The run has come to a place. At the entry it has no instruction; then it takes one after the other, none of whose halfwords is a
 -- target.
 pub data IsRun (s : FlowGraph) (m : Marks) : ℕ → Straight → Type 0 where
-  begins : IsRun s m 0 (begun s.start)
+  begins : IsRun s m 0 (empty_run s.start)
   takes : {p : ℕ} {run next : Straight} {i : Instr} {size : ℕ} → IsRun s m p run → standing_at s p ≡ Instruction i size → is_led_to m.target p size ≡ false
-      → taken run i size ≡ Some next → IsRun s m (p + size / 2) next
+      → with_instruction run i size ≡ Some next → IsRun s m (p + size / 2) next
 
 -- it takes the instruction at this place too
 abbrev pub Continues : FlowGraph → Marks → ℕ → Straight → Type 0
 Continues s m p run =
-    (i : Instr) × (size : ℕ) × (next : Straight) × (standing_at s p ≡ Instruction i size) × (is_led_to m.target p size ≡ false) × (taken run i size ≡ Some next)
+    (i : Instr) × (size : ℕ) × (next : Straight) × (standing_at s p ≡ Instruction i size) × (is_led_to m.target p size ≡ false) × (with_instruction run i size ≡ Some next)
 
 -- the prologue is a run that takes no instruction more
 abbrev pub PrologueIsTheLongestRun : Type 0
 PrologueIsTheLongestRun =
     (s : FlowGraph) (m : Marks) → (p : ℕ) × (run : Straight) × IsRun s m p run × (Continues s m p run → ⊥) × (prologue s m ≡ run.prologue)
 
--- each instruction that a run takes stands at a place that is reached
+-- each instruction that a run takes is reached
 abbrev pub RunsAreReached : Type 0
 RunsAreReached = (s : FlowGraph) (m : Marks) (p : ℕ) (run : Straight) → IsRun s m p run → Continues s m p run → IsReached s p
 

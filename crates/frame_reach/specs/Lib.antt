@@ -4,3 +4,4 @@ pub mod Prologue
 pub mod Search
 pub mod Landed
 pub mod Laws
+pub mod frame_graph

@@ -1,9 +1,9 @@
--- Which places of a function are reached, and to which of them a branch or a landing pad leads. docs/flow-graphs.md, "Reached places".
+-- Which places of a function are reached, and which are targets of branches or landing pads. docs/rules/acceptance.md, "Reached places".
 use Rattle.std.specs.Prelude.{ℕ, ◌≡◌, ◌↔◌, ◌⊎◌, ◌<◌, nat_eq, Bool, true, List, length, Some}
 use Rattle.std.specs.List.{Contains, IsDistinct}
 use Rattle.frame_graph.specs.declared.edges.Edge.{Edge}
 use Rattle.frame_graph.specs.FlowGraph.{FlowGraph}
-use Rattle.frame_graph.specs.Edges.{branched_to}
+use Rattle.frame_graph.specs.Edges.{branch_place}
 use Rattle.frame_graph.specs.Sites.{site_at, edges_from, is_split}
 use Rattle.frame_graph.specs.Reach.{IsReached}
 use Rattle.frame_reach.specs.declared.marks.TheConstants.{MOST_REACHED}
@@ -14,9 +14,9 @@ IsPad s q = (p : ℕ) × (w : Edge) × IsReached s p × Contains (edges_from s (
 
 -- a branch that is reached leads there
 abbrev pub IsBranched : FlowGraph → ℕ → Type 0
-IsBranched s q = (p : ℕ) × IsReached s p × (branched_to s p ≡ Some q)
+IsBranched s q = (p : ℕ) × IsReached s p × (branch_place s p ≡ Some q)
 
--- a target: a branch that is reached leads there, or it is a landing pad. What a call leads to is none
+-- a target: a reached branch leads to the place, or it is a landing pad. The target of a call isn't one
 abbrev pub IsTarget : FlowGraph → ℕ → Type 0
 IsTarget s q = IsBranched s q ⊎ IsPad s q
 
@@ -26,7 +26,7 @@ pub record Marks : Type 0 where
   pub target : ℕ → Bool
   pub pad : ℕ → Bool
 
--- marks of a function: each is true exactly where it says what is so
+-- the marks of a function: each is true if and only if what it means holds
 pub record AreMarks (s : FlowGraph) (m : Marks) : Type 0 where
   pub reached : (p : ℕ) → (m.reached p ≡ true) ↔ IsReached s p
   pub target : (p : ℕ) → (m.target p ≡ true) ↔ IsTarget s p

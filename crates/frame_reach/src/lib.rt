@@ -1,5 +1,5 @@
-//! Which places of a function are reached, which of them are targets of branches or landing pads, and the prologue. docs/flow-graphs.md,
-//! "Reached places", and docs/acceptance.md, "The prologue", state the rules.
+//! Which places of a function are reached, which are targets of branches or landing pads, and the prologue.
+//! docs/rules/acceptance.md, "Reached places", and docs/rules/acceptance.md, "The prologue", state the rules.
 #![tactic(auto)]
 
 pub mod laws;
@@ -7,5 +7,5 @@ pub mod marks;
 pub mod prologue;
 pub mod search;
 
-pub use marks::{MOST_REACHED, Reached};
+pub use marks::{MOST_REACHED, ReachMarks};
 pub use search::{ReachFault, ReachRoom, reach, reach_in};

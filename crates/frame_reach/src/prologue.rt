@@ -1,14 +1,15 @@
-//! The prologue of a function of an image. docs/acceptance.md, "The prologue".
+//! The prologue of a function of an image. docs/rules/acceptance.md, "The prologue".
 ghost use Rattle.std.specs.Prelude.{◌≡◌, ◌^◌, ◌≤◌};
 ghost use Rattle.frame_reach.specs.Held.{marks_of};
 ghost use Rattle.frame_reach.specs.Prologue.{places, is_led_to, line_at, prologue};
 
-use crate::marks::{Reached, is_set};
+use crate::marks::{ReachMarks, is_set};
+use frame_code::Standing;
 use frame_facts::{Prologue, Straight};
-use frame_graph::{FlowGraph, Standing};
+use frame_graph::FlowGraph;
 use thumb_isa::instr::Instr;
 
-/// How many places there are from the entry to the function's end; the entry is one always.
+/// The number of places from the entry to the function's end; at least the entry is one.
 pub fn places(flow_graph: &FlowGraph) -> u32
     ensures count { result ≡ places flow_graph.now }
     ensures few { result ≤ 2 ^ 31 }
@@ -17,14 +18,14 @@ pub fn places(flow_graph: &FlowGraph) -> u32
     (size / 2 + size % 2).max(1)
 }
 
-impl Reached {
+impl ReachMarks {
     fn target_at(&self, place: usize) -> bool
         ensures { result ≡ (marks_of self.now).target place }
     {
         is_set(&self.targets, place)
     }
 
-    /// Whether a halfword of an instruction at a place is a target.
+    /// Whether one of the halfwords of an instruction at a place is a target.
     fn is_led_to(&self, place: u32, size: u32) -> bool
         ensures { result ≡ is_led_to (marks_of self.now).target place size }
     {
@@ -32,7 +33,7 @@ impl Reached {
         self.target_at(place) || (size == 4 && self.target_at(place + 1))
     }
 
-    /// The instruction at a place with its size, where no halfword of it is a target.
+    /// The instruction at a place with its size in bytes. None if there is no instruction, or one of its halfwords is a target.
     pub fn line_at(&self, flow_graph: &FlowGraph, place: u32) -> Option<(Instr, u32)>
         ensures { result ≡ line_at flow_graph.now (marks_of self.now).target place }
     {
@@ -48,8 +49,7 @@ impl Reached {
         }
     }
 
-    /// The prologue: the run of instructions from the entry on that ends before the first which is a target, or isn't one of a
-    /// prologue.
+    /// The prologue: the run of instructions from the entry up to the first that is a target or isn't allowed in a prologue.
     pub fn prologue(&self, flow_graph: &FlowGraph) -> Prologue
         ensures { result ≡ prologue flow_graph.now (marks_of self.now) }
     {

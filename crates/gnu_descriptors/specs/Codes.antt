@@ -1,13 +1,13 @@
--- The codes of a generic entry as a table of personality index 2 has them (IHI 0038, "The compact model", "The generic model";
--- docs/gnu-tables.md).
+-- The unwind instructions of a generic entry, in the form of a table of personality index 2 (IHI 0038, "The compact model", "The
+-- generic model"; docs/rules/gnu-tables.md).
 use Rattle.std.specs.Prelude.{ℕ, List, [], ◌∷◌, ◌++◌, drop, Option, Some, None}
-use Rattle.eh_bytecode.specs.Codes.{turned}
-use Rattle.unwind_codes.specs.declared.code.TheConstants.{FINISH}
-use Rattle.gnu_tables.specs.Entries.{Form, words_of}
+use Rattle.eh_bytecode.specs.Codes.{swap_word_bytes}
+use Rattle.eh_codes.specs.declared.code.TheConstants.{FINISH}
+use Rattle.gnu_lsda.specs.Entries.{Form, words_of}
 
--- the bytes of words, the top one of each first, without that of the first word, which counts the others
+-- the bytes of words, the top one of each first, without that of the first word, which is the number of further words
 abbrev pub without_count : List ℕ → List ℕ
-without_count words = drop 1 (turned words)
+without_count words = drop 1 (swap_word_bytes words)
 
 -- so many times "finish" fill the last word
 abbrev pub codes_in : List ℕ → List ℕ

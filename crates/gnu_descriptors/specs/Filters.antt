@@ -1,14 +1,14 @@
--- The filters of catches by the addresses of their descriptors (docs/gnu-tables.md).
+-- The filters of catches by the addresses of their descriptors (docs/rules/gnu-tables.md).
 use Rattle.std.specs.Prelude.{ℕ, ◌+◌, ◌==◌, if◌then◌else◌, List, [], ◌∷◌, Option, Some, None}
-use Rattle.descriptor_bytes.specs.Descriptors.{kind_size}
-use Rattle.gnu_descriptors.specs.declared.scopes.Scoped.{Scoped}
+use Rattle.gnu_compact.specs.Descriptors.{kind_size}
+use Rattle.gnu_descriptors.specs.declared.scopes.GnuDescriptor.{GnuDescriptor}
 
 abbrev pub with_filter : ℕ → Option ℕ → List (ℕ × ℕ) → List (ℕ × ℕ)
 with_filter place None more = more
 with_filter place (Some filter) more = (place, filter) ∷ more
 
 -- of descriptors that stand one after the other from a place on
-abbrev pub filters_at : ℕ → List Scoped → List (ℕ × ℕ)
+abbrev pub filters_at : ℕ → List GnuDescriptor → List (ℕ × ℕ)
 filters_at place [] = []
 filters_at place (s ∷ more) = with_filter place s.filter (filters_at (place + kind_size s.descriptor.kind) more)
 

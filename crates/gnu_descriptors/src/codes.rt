@@ -1,27 +1,27 @@
-//! The codes of a generic entry, as a table of personality index 2 has them. docs/gnu-tables.md states the rule.
+//! The unwind instructions of a generic entry, in the form of a table of personality index 2. docs/rules/gnu-tables.md states the rule.
 ghost use Rattle.std.specs.Prelude.{◌≡◌, ◌++◌, OnOk, IfOk};
-ghost use Rattle.gnu_tables.specs.Entries.{words_of};
+ghost use Rattle.gnu_lsda.specs.Entries.{words_of};
 ghost use Rattle.gnu_descriptors.specs.Codes.{without_count, codes_in, codes_of};
 
-use descriptor_bytes::codes::push_turned;
-use gnu_tables::Generic;
+use eh_codes::code::FINISH;
+use gnu_compact::codes::push_swapped_words;
+use gnu_lsda::Generic;
 use std::alloc::{AllocError, Global};
-use unwind_codes::code::FINISH;
 
-/// Adds the codes of words at the end: their bytes with the top one first, without the top byte of the first word.
+/// Appends the unwind instructions in words: the bytes of each word, the top one first, without the top byte of the first word.
 fn push_without_count(out: &mut Vec<u8>, words: &[u8]) -> Result<(), AllocError>
     ensures { OnOk result (out.new.items ≡ out.old.items ++ without_count words.now) }
 {
     match words {
         [third, second, first, _count, rest @ ..] => {
             out.extend_from_slice(&[*first, *second, *third])?;
-            push_turned(out, rest)
+            push_swapped_words(out, rest)
         }
         _ => Ok(()),
     }
 }
 
-/// The codes of words, and what fills the last word of a table.
+/// The unwind instructions in words, followed by the bytes that fill the last word of a table.
 fn codes_in(alloc: Global, words: &[u8]) -> Result<Vec<u8>, AllocError>
     ensures { IfOk result (λ v. v.items ≡ codes_in words.now) }
 {
@@ -31,8 +31,8 @@ fn codes_in(alloc: Global, words: &[u8]) -> Result<Vec<u8>, AllocError>
     Ok(out)
 }
 
-/// The codes of an entry, with three times "finish" after them, so that with the two bytes in front of them they fill words. None where
-/// its words aren't there.
+/// The unwind instructions of an entry, followed by three times "finish". With the two bytes before them they fill whole words. None if
+/// the entry's words aren't there.
 pub fn codes_of(alloc: Global, entry: &Generic) -> Result<Vec<u8>, AllocError>
     ensures { IfOk result (λ v. v.items ≡ codes_of entry.now) }
 {

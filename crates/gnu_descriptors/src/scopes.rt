@@ -1,31 +1,33 @@
-//! The descriptors of a generic entry of GNU's tables: for each part of its function's range what a throw meets there. docs/gnu-tables.md
+//! The descriptors of a generic entry of GNU's tables: what a throw finds in each part of its function's range. docs/rules/gnu-tables.md
 //! states the rules.
 ghost use Rattle.std.specs.Prelude.{◌≡◌, ◌+◌, ◌^◌, ◌<◌, [], ◌++◌, flat_map, OnOk, IfOk};
 ghost use Rattle.std.specs.List.{list_any};
-ghost use Rattle.gnu_tables.specs.Sites.{records_of};
-ghost use Rattle.gnu_tables.specs.Chains.{actions_of};
-ghost use Rattle.gnu_descriptors.specs.Scopes.{gap, takes_of, pad_of, caught, catches_of, cleans, is_cleanup, cleanup_of, landing_of, told_of, end_after, item_told, scopes_from, scopes_of};
+ghost use Rattle.gnu_lsda.specs.Sites.{records_of};
+ghost use Rattle.gnu_lsda.specs.Chains.{actions_of};
+ghost use Rattle.gnu_descriptors.specs.Scopes.{uncovered_part, takes_of, pad_of, catch_descriptor, catches_of, is_cleaning, is_cleanup, cleanup_of, landing_of, record_descriptors, end_after, item_descriptors, scopes_from, scopes_of};
 
-use descriptor_bytes::{OwnDescriptor, OwnKind};
 use eh_desc::CatchType;
-use gnu_tables::{Action, ActionFault, Caught, Generic, Lsda, Record, RecordFault};
+use gnu_compact::{OwnDescriptor, OwnKind};
+use gnu_lsda::{Action, ActionFault, CatchFilter, Generic, Lsda, Record, RecordFault};
 use std::alloc::{AllocError, Global};
 
-/// A descriptor that stands for a part of a generic entry.
+/// A descriptor for a part of a generic entry's range.
 #[derive(Clone, Copy)]
-pub struct Scoped {
+pub struct GnuDescriptor {
+    /// The descriptor, as it is to be written.
     pub descriptor: OwnDescriptor,
-    /// Of a catch its filter, which the handler is given; else None.
+    /// For a catch, the filter that its handler is given; else None.
     pub filter: Option<u32>,
 }
 
-/// Adds what stands for a part that no record covers, from one offset to another: nothing passes it. Nothing where it is empty.
-fn push_gap(out: &mut Vec<Scoped>, from: u64, to: u32) -> Result<(), AllocError>
-    ensures { OnOk result (out.new.items ≡ out.old.items ++ gap from to) }
+/// Adds the descriptor of a part that no record covers: a specification that stops every exception. `from` and `to` are offsets in
+/// bytes; adds nothing if the part is empty.
+fn push_gap(out: &mut Vec<GnuDescriptor>, from: u64, to: u32) -> Result<(), AllocError>
+    ensures { OnOk result (out.new.items ≡ out.old.items ++ uncovered_part from to) }
 {
     if from < u64::from(to) {
         let offset = from as u32;
-        out.push(Scoped {
+        out.push(GnuDescriptor {
             descriptor: OwnDescriptor {
                 offset,
                 size: to - offset,
@@ -37,13 +39,13 @@ fn push_gap(out: &mut Vec<Scoped>, from: u64, to: u32) -> Result<(), AllocError>
     Ok(())
 }
 
-/// What a catch of a filter takes.
-fn takes_of(takes: Caught) -> CatchType
+/// What the catch of a filter catches.
+fn takes_of(takes: CatchFilter) -> CatchType
     ensures { result ≡ takes_of takes }
 {
     match takes {
-        Caught::All => CatchType::All,
-        Caught::OfType(address) => CatchType::One(address),
+        CatchFilter::All => CatchType::All,
+        CatchFilter::OfType(address) => CatchType::One(address),
     }
 }
 
@@ -54,11 +56,11 @@ fn pad_of(start: u32, site: &Record) -> u32
     start.wrapping_add(site.pad)
 }
 
-/// A catch of a filter, of all of a record's part.
-fn caught(start: u32, site: &Record, filter: u64, takes: Caught) -> Scoped
-    ensures { result ≡ caught start site.now filter takes }
+/// The catch of a filter, with all of a record's part as its scope.
+fn catch_descriptor(start: u32, site: &Record, filter: u64, takes: CatchFilter) -> GnuDescriptor
+    ensures { result ≡ catch_descriptor start site.now filter takes }
 {
-    Scoped {
+    GnuDescriptor {
         descriptor: OwnDescriptor {
             offset: site.start,
             size: site.size,
@@ -71,9 +73,9 @@ fn caught(start: u32, site: &Record, filter: u64, takes: Caught) -> Scoped
     }
 }
 
-/// Adds the catch that an action is, if it is one.
+/// Adds the catch of an action; nothing if the action isn't a catch.
 fn push_catch(
-    out: &mut Vec<Scoped>,
+    out: &mut Vec<GnuDescriptor>,
     start: u32,
     site: &Record,
     item: Result<Action, ActionFault>,
@@ -81,7 +83,7 @@ fn push_catch(
     ensures { OnOk result (out.new.items ≡ out.old.items ++ catches_of start site.now item) }
 {
     if let Ok(Action::Catch { filter, takes }) = item {
-        out.push(caught(start, site, filter, takes))?;
+        out.push(catch_descriptor(start, site, filter, takes))?;
     }
     Ok(())
 }
@@ -96,7 +98,7 @@ fn is_cleanup(item: Result<Action, ActionFault>) -> bool
     }
 }
 
-/// Whether a cleanup is in a chain.
+/// Whether a chain has a cleanup.
 fn has_cleanup(area: &Lsda, action: u32) -> bool
     ensures { result ≡ list_any is_cleanup (actions_of area.now action) }
 {
@@ -108,18 +110,18 @@ fn has_cleanup(area: &Lsda, action: u32) -> bool
     false
 }
 
-/// Whether a throw that a record's actions don't take runs its cleanup.
-fn cleans(area: &Lsda, action: u32) -> bool
-    ensures { result ≡ cleans area.now action }
+/// Whether a record's cleanup runs for a throw that none of its actions catches.
+fn is_cleaning(area: &Lsda, action: u32) -> bool
+    ensures { result ≡ is_cleaning area.now action }
 {
     action == 0 || has_cleanup(area, action)
 }
 
 /// Adds the cleanup of a record.
-fn push_cleanup(out: &mut Vec<Scoped>, start: u32, site: &Record) -> Result<(), AllocError>
+fn push_cleanup(out: &mut Vec<GnuDescriptor>, start: u32, site: &Record) -> Result<(), AllocError>
     ensures { OnOk result (out.new.items ≡ out.old.items ++ cleanup_of start site.now) }
 {
-    out.push(Scoped {
+    out.push(GnuDescriptor {
         descriptor: OwnDescriptor {
             offset: site.start,
             size: site.size,
@@ -134,7 +136,7 @@ fn push_cleanup(out: &mut Vec<Scoped>, start: u32, site: &Record) -> Result<(), 
 
 /// Adds the catches of a record, in the order of its chain.
 fn push_catches(
-    out: &mut Vec<Scoped>,
+    out: &mut Vec<GnuDescriptor>,
     start: u32,
     area: &Lsda,
     site: &Record,
@@ -147,9 +149,9 @@ fn push_catches(
     Ok(())
 }
 
-/// Adds what a record with a landing pad says: its catches, and then its cleanup, if it has one.
+/// Adds the descriptors of a record with a landing pad: its catches, and then its cleanup, if it has one.
 fn push_landing(
-    out: &mut Vec<Scoped>,
+    out: &mut Vec<GnuDescriptor>,
     start: u32,
     area: &Lsda,
     site: &Record,
@@ -157,20 +159,20 @@ fn push_landing(
     ensures { OnOk result (out.new.items ≡ out.old.items ++ landing_of start area.now site.now) }
 {
     push_catches(out, start, area, site)?;
-    if cleans(area, site.action) {
+    if is_cleaning(area, site.action) {
         push_cleanup(out, start, site)?;
     }
     Ok(())
 }
 
-/// Adds what a record says: nothing without a landing pad.
-fn push_told(
-    out: &mut Vec<Scoped>,
+/// Adds the descriptors of a record: none without a landing pad.
+fn push_record_descriptors(
+    out: &mut Vec<GnuDescriptor>,
     start: u32,
     area: &Lsda,
     site: &Record,
 ) -> Result<(), AllocError>
-    ensures { OnOk result (out.new.items ≡ out.old.items ++ told_of start area.now site.now) }
+    ensures { OnOk result (out.new.items ≡ out.old.items ++ record_descriptors start area.now site.now) }
 {
     if site.pad == 0 {
         Ok(())
@@ -179,7 +181,7 @@ fn push_told(
     }
 }
 
-/// Where a record ends, after one that ends at an offset; one without bytes ends nowhere.
+/// The end of the range up to a record, in bytes; a record of size 0 doesn't change it.
 fn end_after(at: u64, item: Result<Record, RecordFault>) -> u64
     ensures { result ≡ end_after at item }
 {
@@ -195,15 +197,15 @@ fn end_after(at: u64, item: Result<Record, RecordFault>) -> u64
     }
 }
 
-/// Adds the part in front of a record, after one that ends at an offset, and what the record says. Nothing of one without bytes.
+/// Adds the descriptors of the gap before a record and of the record; none for a record of size 0.
 fn push_record(
-    out: &mut Vec<Scoped>,
+    out: &mut Vec<GnuDescriptor>,
     start: u32,
     area: &Lsda,
     at: u64,
     item: Result<Record, RecordFault>,
 ) -> Result<(), AllocError>
-    ensures { OnOk result (out.new.items ≡ out.old.items ++ item_told start area.now at item) }
+    ensures { OnOk result (out.new.items ≡ out.old.items ++ item_descriptors start area.now at item) }
 {
     match item {
         Ok(site) => {
@@ -211,15 +213,20 @@ fn push_record(
                 return Ok(());
             }
             push_gap(out, at, site.start)?;
-            push_told(out, start, area, &site)
+            push_record_descriptors(out, start, area, &site)
         }
         Err(RecordFault::Short) => Ok(()),
     }
 }
 
-/// The descriptors of an entry with its area, along its function's range: of each part that no record covers a specification that
-/// nothing passes; of a record the catches of its chain in their order, and then its cleanup. Linear in records and actions.
-pub fn scopes_of(alloc: Global, entry: &Generic, area: &Lsda) -> Result<Vec<Scoped>, AllocError>
+/// The descriptors of an entry with its data area, in the order of its function's range. A part that no record covers has a
+/// specification that stops every exception. A record has the catches of its chain in their order, and then its cleanup. Linear in
+/// records and actions. Err if memory runs out.
+pub fn scopes_of(
+    alloc: Global,
+    entry: &Generic,
+    area: &Lsda,
+) -> Result<Vec<GnuDescriptor>, AllocError>
     ensures { IfOk result (λ v. v.items ≡ scopes_of entry.now area.now) }
 {
     let mut out = Vec::new(alloc);

@@ -1,23 +1,23 @@
 -- One event of GNU's code, and its runs, in both machines: the same, and kept.
 use Rattle.std.proofs.Common.{◌≡◌, ℕ, List, refl, sym, ap, subst, ◌∙◌}
-use Rattle.eh_machine.specs.event_runs.Runs.{Event, Goes, Ends}
+use Rattle.run_events.specs.Runs.{Event, Goes, Ends}
 use Rattle.eh_gates.specs.State.{State}
 use Rattle.frame_check.specs.Accepts.{Accepted}
-use Rattle.eh_machine.proofs.machines_agree.RunsOn.{AlikeOn, same_on}
-use Rattle.eh_machine.proofs.machines_agree.WholeRuns.{alike}
-use Rattle.eh_machine.specs.machines_agree.Turned.{AreBytes}
-use Rattle.eh_machine.proofs.stands_for.First.{starts_stand}
-use Rattle.eh_machine.specs.stands_for.Stands.{Keeps, IsProgram, OnEvent, StandsFor}
-use Rattle.state_laws.specs.Barriers.{FreeBarriers}
+use Rattle.eh_machine.proofs.sim_runs.RunsOn.{AlikeOn, same_on}
+use Rattle.eh_machine.proofs.sim_runs.WholeRuns.{alike}
+use Rattle.eh_machine.specs.sim_runs.Turned.{AreBytes}
+use Rattle.sim_relation.proofs.First.{starts_stand}
+use Rattle.sim_relation.specs.Stands.{Keeps, IsProgram, OnEvent, StandsFor}
+use Rattle.sim_changes.specs.Barriers.{FreeBarriers}
 use Rattle.thumb_core.specs.declared.ends.End.{End}
 use Rattle.thumb_core.specs.declared.ends.End.TheVariants.{Budget}
-use Rattle.eh_machine.specs.two_machines.ActivationLaws.{Matches}
-use Rattle.eh_machine.specs.two_machines.ActivationMachine.{recorded_event}
-use Rattle.eh_machine.specs.two_machines.Activations.{Recorded, bytes_of, recorded_start}
-use Rattle.eh_machine.specs.two_machines.Checked.{program_of}
-use Rattle.eh_machine.specs.two_machines.Machine.{machine_event}
-use Rattle.eh_machine.specs.two_machines.Start.{start_of}
-use Rattle.gnu_machine.specs.GnuMachine.{on_goes, given_after, recorded_given_after, gnu_event, recorded_gnu_event}
+use Rattle.sim_machines.specs.ActivationLaws.{Matches}
+use Rattle.sim_machines.specs.ActivationMachine.{recorded_event}
+use Rattle.sim_machines.specs.Activations.{Recorded, bytes_of, recorded_start}
+use Rattle.sim_machines.specs.Checked.{program_of}
+use Rattle.sim_machines.specs.Machine.{machine_event}
+use Rattle.sim_machines.specs.Start.{start_of}
+use Rattle.gnu_machine.specs.GnuMachine.{map_goes, with_arguments_after, recorded_with_arguments_after, gnu_event, recorded_gnu_event}
 use Rattle.gnu_machine.specs.Laws.{AreFilters, CatchesHaveLanded, PadsAreFree, LeavesBytes, GnuTurnsSame, GoesOnSame, GnuRunsSame}
 use Rattle.gnu_machine.proofs.GivenAlike.{given_alike}
 
@@ -29,10 +29,10 @@ module _ (filters : List (ℕ × ℕ)) (are : AreFilters filters) (have_landed :
   Told e d = Matches e d × OnEvent x d × LeavesBytes d
 
   together : (e : Event State End) (d : Event Recorded End) → recorded_event (program_of x) s input ≡ d → AlikeOn State Recorded End AreBytes (StandsFor x) e d
-      → Told (on_goes (given_after x.types filters (bytes_of s)) e) (on_goes (recorded_given_after x.types filters s) d)
+      → Told (map_goes (with_arguments_after x.types filters (bytes_of s)) e) (map_goes (recorded_with_arguments_after x.types filters s) d)
   together (Goes u text left) (Goes v said rest) q a =
       let h = given_alike x filters are s v input said rest (record { program = is; keeps = k; bytes = fits; goes = q }) a.0.keeps have_landed pads_free barriers in
-      ((ap (given_after x.types filters (bytes_of s)) a.0.same ∙ h.0, a.1, a.2), h.1, subst AreBytes a.2 a.3)
+      ((ap (with_arguments_after x.types filters (bytes_of s)) a.0.same ∙ h.0, a.1, a.2), h.1, subst AreBytes a.2 a.3)
   together (Ends end u) (Ends why v) q a = ((a.0, a.1.same), a.1.keeps, tt)
   together (Goes u text left) (Ends why v) q a = absurd a
   together (Ends end u) (Goes v said rest) q a = absurd a

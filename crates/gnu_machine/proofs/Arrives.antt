@@ -1,24 +1,23 @@
 -- An event that counts a catch or a cleanup has landed at a pad.
 use Rattle.std.proofs.Common.{◌≡◌, ℕ, ◌<◌, ◌⊎◌, inl, inr, List, refl, sym, ap, subst, ◌∙◌, arith}
 use Rattle.std.proofs.lemmas.Bool.{cases_eq}
-use Rattle.eh_machine.specs.event_runs.Runs.{Event, Goes}
+use Rattle.run_events.specs.Runs.{Event, Goes}
 use Rattle.eh_gates.specs.State.{Tables}
 use Rattle.eh_gates.specs.declared.gates.TheConstants.{THROW_GATE, RETHROW_GATE, END_CLEANUP_GATE}
 use Rattle.eh_gates.specs.declared.state.Turned.TheVariants.{Went}
 use Rattle.eh_trace.specs.Trace.{Trace}
 use Rattle.frame_check.specs.Accepts.{Accepted}
-use Rattle.resumes_keep.specs.ResumeLaws.{CleanupsAreOutside}
-use Rattle.eh_machine.specs.stands_for.Stands.{Keeps, DoesAt}
-use Rattle.eh_machine.proofs.machines_agree.OneEvent.{turns}
-use Rattle.eh_machine.specs.stands_for.Stands.{OnEvent}
-use Rattle.eh_machine.specs.thumb_isa.declared.instr.Instr.TheVariants.{Svc}
+use Rattle.sim_resumes.specs.ResumeLaws.{CleanupsAreOutside}
+use Rattle.sim_relation.specs.Stands.{Keeps, DoesAt, OnEvent}
+use Rattle.eh_machine.proofs.sim_runs.OneEvent.{turns}
+use Rattle.thumb_isa.specs.declared.instr.Instr.TheVariants.{Svc}
 use Rattle.thumb_core.specs.declared.ends.End.{End}
-use Rattle.eh_machine.specs.two_machines.Activations.{Recorded}
-use Rattle.eh_machine.specs.two_machines.ActivationMachine as machine
-use Rattle.eh_machine.specs.two_machines.Checked.{program_of}
-use Rattle.eh_machine.specs.two_machines.Program.{program_tables}
-use Rattle.state_laws.specs.FactLaws.{FactsAreThere}
-use Rattle.state_laws.specs.Free.{FreeRegisters, FreeAnywhere}
+use Rattle.sim_machines.specs.Activations.{Recorded}
+use Rattle.sim_machines.specs.ActivationMachine as machine
+use Rattle.sim_machines.specs.Checked.{program_of}
+use Rattle.sim_machines.specs.Program.{program_tables}
+use Rattle.sim_changes.specs.FactLaws.{FactsAreThere}
+use Rattle.sim_changes.specs.Free.{FreeRegisters, FreeAnywhere}
 use Rattle.gnu_machine.specs.Laws.{Goings, CatchesHaveLanded, PadsAreFree}
 use Rattle.gnu_machine.proofs.Events.{ByGate, By, event_by, gate_same}
 use Rattle.gnu_machine.proofs.Gate.{gate_there}

@@ -2,7 +2,7 @@
 -- that walk no frames.
 use Rattle.std.proofs.Common.{◌≡◌, ℕ, ◌==◌, ◌⊎◌, inl, inr, nat_lt, Bool, true, false, cond, List, [], ◌∷◌, Option, Some, None, Result, Ok, Err, refl, sym, ap, ◌∙◌}
 use Rattle.std.proofs.lemmas.Bool.{eqb-true}
-use Rattle.eh_machine.specs.event_runs.Runs.{Event, Goes, Ends}
+use Rattle.run_events.specs.Runs.{Event, Goes, Ends}
 use Rattle.eh_bus.specs.Memory.{Memory}
 use Rattle.eh_cxa.specs.Allocate.{allocate_of, free_of}
 use Rattle.eh_cxa.specs.Catch.{begin_catch_of, end_catch_of}
@@ -14,18 +14,18 @@ use Rattle.eh_gates.specs.State.{Tables}
 use Rattle.eh_gates.specs.declared.gates.TheConstants.{ALLOCATE_GATE, FREE_GATE, THROW_GATE, BEGIN_CATCH_GATE, END_CATCH_GATE, RETHROW_GATE, END_CLEANUP_GATE, UNEXPECTED_GATE, TERMINATE_GATE, UNCAUGHT_GATE}
 use Rattle.eh_gates.specs.declared.state.Turned.{Turned}
 use Rattle.eh_gates.specs.declared.state.Turned.TheVariants.{Went, Ended}
-use Rattle.guest_gates.specs.Gates.{gate_event}
-use Rattle.guest_gates.specs.declared.gates.TheConstants.{INPUT_GATE}
+use Rattle.run_gates.specs.Gates.{gate_event}
+use Rattle.run_gates.specs.declared.gates.TheConstants.{INPUT_GATE}
 use Rattle.thumb_core.specs.Outcome.{Outcome as Stepping}
 use Rattle.thumb_core.specs.Step.{step_for}
 use Rattle.thumb_core.specs.declared.ends.End.{End}
 use Rattle.thumb_core.specs.declared.regs.Regs.{Regs}
 use Rattle.thumb_core.specs.declared.regs.Stepped.{Stepped}
 use Rattle.thumb_core.specs.declared.regs.Stepped.TheVariants.{Done, Call, Return, Gate, Trap}
-use Rattle.eh_machine.specs.two_machines.Activations.{Activation, Recorded, reg_in, memory_of, words_in, heads, with_lists, lists_of}
-use Rattle.eh_machine.specs.two_machines.ActivationMachine as machine
-use Rattle.eh_machine.specs.two_machines.Corresponds.{WalksNone}
-use Rattle.eh_machine.specs.two_machines.Program.{Program, program_tables, profile_in}
+use Rattle.sim_machines.specs.Activations.{Activation, Recorded, reg_in, memory_of, words_in, heads, with_lists, lists_of}
+use Rattle.sim_machines.specs.ActivationMachine as machine
+use Rattle.sim_machines.specs.Corresponds.{WalksNone}
+use Rattle.sim_machines.specs.Program.{Program, program_tables, profile_in}
 
 pub not_went : (end : End) (s t : Recorded) → ◌≡◌ {A = machine.Outcome} (Ended end, s) (Went, t) → ⊥
 not_went end s t e = let f : ◌≡◌ {A = Turned} (Ended end) Went = ap (λ (o : machine.Outcome). o.0) e in cc
@@ -47,12 +47,12 @@ module _ (p : Program) (s : Recorded) (input : List ℕ) where
   in_state_by (Goes regs text left) = inl refl
   in_state_by (Ends end regs) = tt
 
-  left_same : (acts : List Activation) (u : Recorded) → (machine.left_by acts u).events ≡ u.events
+  left_same : (acts : List Activation) (u : Recorded) → (machine.with_remaining acts u).events ≡ u.events
   left_same [] u = refl
   left_same (a ∷ more) u = refl
 
   module _ (reached : (p.look s.regs.pc).is_instr ≡ true) where
-    gated_by : (number : ℕ) (regs : Regs) → (step_for (profile_in p) s.regs (memory_of s)).0 ≡ Gate number → By (machine.gated p number s regs input)
+    gated_by : (number : ℕ) (regs : Regs) → (step_for (profile_in p) s.regs (memory_of s)).0 ≡ Gate number → By (machine.event_at_gate p number s regs input)
     gated_by number regs step = go (nat_lt INPUT_GATE number)
       where
         by_outcome : (q : machine.Outcome) → machine.gate_of (program_tables p) number regs.pc s ≡ q → By (machine.event_of q input)
@@ -64,7 +64,7 @@ module _ (p : Program) (s : Recorded) (input : List ℕ) where
         go false = in_state_by (gate_event number s.regs regs input)
 
     tested_by : (what : Stepped) → ((number : ℕ) → what ≡ Gate number → (step_for (profile_in p) s.regs (memory_of s)).0 ≡ Gate number) → (regs : Regs) (m : Memory) (o : Option End)
-        → By (machine.onward p s (machine.tested p s what regs m o) input)
+        → By (machine.event_after_pass p s (machine.pass_tests p s what regs m o) input)
     tested_by what h regs m (Some end) = tt
     tested_by Done h regs m None = inl refl
     tested_by (Call target ret) h regs m None = inl refl
@@ -72,14 +72,14 @@ module _ (p : Program) (s : Recorded) (input : List ℕ) where
     tested_by (Gate number) h regs m None = gated_by number regs (h number refl)
     tested_by (Trap trap) h regs m None = inl refl
 
-    stepped_by : (o : Stepping) → step_for (profile_in p) s.regs (memory_of s) ≡ o → By (machine.onward p s (machine.stepped p s o) input)
+    stepped_by : (o : Stepping) → step_for (profile_in p) s.regs (memory_of s) ≡ o → By (machine.event_after_pass p s (machine.pass_step p s o) input)
     stepped_by (Trap trap, regs, m) e = go (machine.pops_back p s)
       where
-        go : (o : Option Regs) → By (machine.onward p s (machine.trapped_by p s trap o) input)
+        go : (o : Option Regs) → By (machine.event_after_pass p s (machine.trap_or_return p s trap o) input)
         go None = tt
         go (Some after) =
-            tested_by (Return s.first.caller.back) (λ number f. absurd cc) (machine.returned s.first.caller after) (memory_of s)
-            (machine.tests p s (Return s.first.caller.back) (machine.returned s.first.caller after))
+            tested_by (Return s.first.caller.back) (λ number f. absurd cc) (machine.caller_registers s.first.caller after) (memory_of s)
+            (machine.tests p s (Return s.first.caller.back) (machine.caller_registers s.first.caller after))
     stepped_by (Done, regs, m) e = tested_by Done (λ number f. absurd cc) regs m (machine.tests p s Done regs)
     stepped_by (Call target ret, regs, m) e = tested_by (Call target ret) (λ number f. absurd cc) regs m (machine.tests p s (Call target ret) regs)
     stepped_by (Return to, regs, m) e =
@@ -88,12 +88,12 @@ module _ (p : Program) (s : Recorded) (input : List ℕ) where
     stepped_by (Gate number, regs, m) e =
         tested_by (Gate number) (λ n f. ap (λ (o : Stepping). o.0) e ∙ f) regs m (machine.tests p s (Gate number) regs)
 
-  checked_by : (b : Bool) → (p.look s.regs.pc).is_instr ≡ b → By (machine.onward p s (machine.checked p s b) input)
+  checked_by : (b : Bool) → (p.look s.regs.pc).is_instr ≡ b → By (machine.event_after_pass p s (machine.pass_if_checked p s b) input)
   checked_by true e = stepped_by e (step_for (profile_in p) s.regs (memory_of s)) refl
   checked_by false e = tt
 
   pub event_by : By (machine.recorded_event p s input)
-  unfolding machine.recorded_event machine.passed
+  unfolding machine.recorded_event machine.pass_instruction
   event_by = checked_by (p.look s.regs.pc).is_instr refl
 
 -- ---- gates that walk no frames
@@ -106,19 +106,19 @@ module _ (s : Recorded) (next : ℕ) where
   abbrev l : Lists
   l = lists_of s
 
-  allocated : (new : Lists) (ws : List Write) (r : Result ℕ CxaFault) → Quiet (machine.allocated next s (with_lists new ws s) r)
+  allocated : (new : Lists) (ws : List Write) (r : Result ℕ CxaFault) → Quiet (machine.allocate_outcome next s (with_lists new ws s) r)
   allocated new ws (Ok object) = refl
   allocated new ws (Err why) = tt
 
-  freed : (new : Lists) (ws : List Write) (r : Result (Unit {0}) CxaFault) → Quiet (machine.freed next s (with_lists new ws s) r)
+  freed : (new : Lists) (ws : List Write) (r : Result (Unit {0}) CxaFault) → Quiet (machine.free_outcome next s (with_lists new ws s) r)
   freed new ws (Ok done) = refl
   freed new ws (Err why) = tt
 
-  caught : (new : Lists) (ws : List Write) (r : Result ℕ CxaFault) → Quiet (machine.caught next s (with_lists new ws s) r)
+  caught : (new : Lists) (ws : List Write) (r : Result ℕ CxaFault) → Quiet (machine.begin_catch_outcome next s (with_lists new ws s) r)
   caught new ws (Ok object) = refl
   caught new ws (Err why) = tt
 
-  dropped : (new : Lists) (ws : List Write) (r : Result (ℕ × ℕ) CxaFault) → Quiet (machine.dropped next s (with_lists new ws s) r)
+  dropped : (new : Lists) (ws : List Write) (r : Result (ℕ × ℕ) CxaFault) → Quiet (machine.end_catch_outcome next s (with_lists new ws s) r)
   dropped new ws (Ok (object, destructor)) = refl
   dropped new ws (Err why) = tt
 

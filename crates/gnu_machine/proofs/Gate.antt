@@ -5,37 +5,38 @@ use Rattle.std.proofs.lemmas.Bool.{and_parts, cases_eq, eqb-true, lt-leb}
 use Rattle.std.proofs.lemmas.List.Elements.{Contains-append_left}
 use Rattle.std.proofs.lemmas.Option.{same_Some}
 use Rattle.eh_bus.specs.Memory.{fetch}
-use Rattle.flow.proofs.Work.{contains_head}
+use Rattle.frame_dataflow.proofs.Work.{contains_head}
 use Rattle.frame_check.specs.Accepts.{Accepted}
 use Rattle.frame_check.specs.Roles.{look}
 use Rattle.frame_check.specs.Roots.{flow_graph_of}
-use Rattle.eh_machine.specs.frame_facts.declared.cause.FrameCause.TheVariants.{Undecodable}
-use Rattle.frame_flow.specs.Causes.{shown, causes_at}
-use Rattle.eh_machine.specs.frame_graph.declared.places.Standing.{Standing}
-use Rattle.eh_machine.specs.frame_graph.declared.places.Standing.TheVariants.{Instruction, Udf, Nothing}
-use Rattle.eh_machine.specs.frame_graph.Edges.{is_undecodable, is_nothing}
-use Rattle.eh_machine.specs.frame_graph.Places.{is_udf, standing_at, standing_by, halfword_of, of_decoded, wide_of}
-use Rattle.eh_machine.specs.thumb_isa.declared.instr.Decoded.{Decoded}
-use Rattle.eh_machine.specs.thumb_isa.declared.instr.Decoded.TheVariants.{Is, Undefined, Unpredictable, NotInProfile}
-use Rattle.eh_machine.specs.thumb_isa.declared.instr.Instr.{Instr}
-use Rattle.eh_machine.specs.thumb_isa.declared.instr.Instr.TheVariants.{Svc}
-use Rattle.eh_machine.specs.thumb_isa.Rows.{decoded_of, late_decoded_of, decoded_for}
-use Rattle.eh_machine.specs.thumb_isa.declared.profile.Profile.{Profile}
-use Rattle.eh_machine.specs.thumb_isa.declared.profile.Profile.TheVariants.{One, Two}
+use Rattle.frame_facts.specs.declared.cause.FrameCause.TheVariants.{Undecodable}
+use Rattle.frame_flow.specs.Causes.{cause_if, causes_at}
+use Rattle.frame_code.specs.declared.standing.Standing.{Standing}
+use Rattle.frame_code.specs.declared.standing.Standing.TheVariants.{Instruction, Udf, Nothing}
+use Rattle.frame_code.specs.Standing.{is_nothing, is_udf, standing_by, standing_of_decoded, wide_of}
+use Rattle.frame_graph.specs.Edges.{is_undecodable}
+use Rattle.frame_graph.specs.Places.{standing_at, halfword_of}
+use Rattle.thumb_isa.specs.declared.instr.Decoded.{Decoded}
+use Rattle.thumb_isa.specs.declared.instr.Decoded.TheVariants.{Is, Undefined, Unpredictable, NotInProfile}
+use Rattle.thumb_isa.specs.declared.instr.Instr.{Instr}
+use Rattle.thumb_isa.specs.declared.instr.Instr.TheVariants.{Svc}
+use Rattle.thumb_isa.specs.Rows.{decode_result, late_decode_result, decode_result_for}
+use Rattle.thumb_isa.specs.declared.profile.Profile.{Profile}
+use Rattle.thumb_isa.specs.declared.profile.Profile.TheVariants.{One, Two}
 use Rattle.thumb_core.specs.Laws.{Leaves}
 use Rattle.thumb_core.specs.Step.{step_for, instr_for, instr_of}
 use Rattle.thumb_core.specs.declared.regs.Stepped.{Stepped}
 use Rattle.thumb_core.specs.declared.regs.Stepped.TheVariants.{Gate}
 use Rattle.thumb_core.proofs.Acts.{step_acts}
-use Rattle.eh_machine.specs.two_machines.Program.{profile_in}
-use Rattle.eh_machine.specs.two_machines.Checked.{program_of}
-use Rattle.eh_machine.specs.two_machines.Activations.{Recorded, memory_of}
-use Rattle.eh_machine.proofs.accepted_code.Fetch.{code_fetch}
-use Rattle.eh_machine.specs.stands_for.Chain.{StandsAt, code}
-use Rattle.eh_machine.specs.stands_for.Stands.{Keeps, IsProgram, DoesAt}
-use Rattle.eh_machine.proofs.stands_for.Flows.{none_stands}
-use Rattle.eh_machine.proofs.stands_for.SimpleTurns.{fetch as fetched_at}
-use Rattle.eh_machine.proofs.steps_keep.Jumps.{not_found}
+use Rattle.sim_machines.specs.Program.{profile_in}
+use Rattle.sim_machines.specs.Checked.{program_of}
+use Rattle.sim_machines.specs.Activations.{Recorded, memory_of}
+use Rattle.sim_relation.proofs.sim_code.Fetch.{code_fetch}
+use Rattle.sim_relation.specs.Chain.{StandsAt, code}
+use Rattle.sim_relation.specs.Stands.{Keeps, IsProgram, DoesAt}
+use Rattle.sim_relation.proofs.Flows.{none_stands}
+use Rattle.sim_relation.proofs.SimpleTurns.{fetch as fetched_at}
+use Rattle.sim_resumes.proofs.sim_steps.Jumps.{not_found}
 
 -- ---- what stands at pc is an instruction
 
@@ -47,20 +48,20 @@ undefined NotInProfile = false
 
 all_undefined : Profile → ℕ → Bool
 all_undefined p zero = true
-all_undefined p (suc n) = undefined (decoded_for p (0xde00 + n) 0) && all_undefined p n
+all_undefined p (suc n) = undefined (decode_result_for p (0xde00 + n) 0) && all_undefined p n
 
 all : (p : Profile) → all_undefined p 256 ≡ true
-unfolding decoded_of late_decoded_of all_undefined
+unfolding decode_result late_decode_result all_undefined
 all One = refl
 all Two = refl
 
-among : (p : Profile) (n k : ℕ) → all_undefined p n ≡ true → k < n → undefined (decoded_for p (0xde00 + k) 0) ≡ true
+among : (p : Profile) (n k : ℕ) → all_undefined p n ≡ true → k < n → undefined (decode_result_for p (0xde00 + k) 0) ≡ true
 unfolding all_undefined
 among p zero k e h = absurd (omega (arith, h))
 among p (suc n) k e h =
-    let w = and_parts (undefined (decoded_for p (0xde00 + n) 0)) (all_undefined p n) e in
+    let w = and_parts (undefined (decode_result_for p (0xde00 + n) 0)) (all_undefined p n) e in
     elim (cases_eq k n) [
-      | inl same ↦ subst (λ j. undefined (decoded_for p (0xde00 + j) 0) ≡ true) (sym same) w.0
+      | inl same ↦ subst (λ j. undefined (decode_result_for p (0xde00 + j) 0) ≡ true) (sym same) w.0
       | inr other ↦ among p n k w.1 (omega (arith, h, other))
     ]
 
@@ -82,9 +83,9 @@ module _ (x : Accepted) (is : IsProgram x) (s : Recorded) (k : Keeps x s) (numbe
   not_nothing e =
       let c = code x at.function at.marks in
       let yes : is_undecodable c.flow_graph at.place ≡ true = ap is_nothing e in
-      let first : Contains (shown (is_undecodable c.flow_graph at.place) Undecodable) Undecodable = rw yes (contains_head Undecodable []) in
+      let first : Contains (cause_if (is_undecodable c.flow_graph at.place) Undecodable) Undecodable = rw yes (contains_head Undecodable []) in
       not_found c at.place at.fact (none_stands x at.function at.marks is.sound at.of.among at.of.are) at.state Undecodable
-      (Contains-append_left (shown (is_undecodable c.flow_graph at.place) Undecodable) _ Undecodable first)
+      (Contains-append_left (cause_if (is_undecodable c.flow_graph at.place) Undecodable) _ Undecodable first)
 
   none_gate : ◌≡◌ {A = Option (Instr × ℕ)} None (Some (Svc number, size)) → ⊥
   none_gate e = cc
@@ -99,11 +100,11 @@ module _ (x : Accepted) (is : IsProgram x) (s : Recorded) (k : Keeps x s) (numbe
           let same : 0xde00 + (first - 0xde00) ≡ first = omega (arith, top) in
           let fetches : fetch (memory_of s) s.regs.pc ≡ Ok first = rw at.address (code_fetch x.image at.function s.segments is.image at.of.among k.image at.place first h) in
           let narrow : nat_le 0xe800 first ≡ false = lt-leb 0xe800 first (omega (arith, top)) in
-          let none : instr_of (decoded_for profile first 0) ≡ None =
-          subst (λ n. instr_of (decoded_for profile n 0) ≡ None) same (is_none (decoded_for profile (0xde00 + (first - 0xde00)) 0) (among profile 256 (first - 0xde00) (all profile) (omega (arith, top)))) in
+          let none : instr_of (decode_result_for profile first 0) ≡ None =
+          subst (λ n. instr_of (decode_result_for profile n 0) ≡ None) same (is_none (decode_result_for profile (0xde00 + (first - 0xde00)) 0) (among profile 256 (first - 0xde00) (all profile) (omega (arith, top)))) in
           rw (fetches, narrow) none
 
-      of_decoded_not : (d : Decoded) → of_decoded d ≡ Udf → ⊥
+      of_decoded_not : (d : Decoded) → standing_of_decoded d ≡ Udf → ⊥
       of_decoded_not (Is i size) h = absurd cc
       of_decoded_not Undefined h = absurd cc
       of_decoded_not Unpredictable h = absurd cc
@@ -111,12 +112,12 @@ module _ (x : Accepted) (is : IsProgram x) (s : Recorded) (k : Keeps x s) (numbe
 
       wide_not : (first : ℕ) (w : Option ℕ) → wide_of profile first w ≡ Udf → ⊥
       wide_not first None h = absurd cc
-      wide_not first (Some second) h = of_decoded_not (decoded_for profile first second) h
+      wide_not first (Some second) h = of_decoded_not (decode_result_for profile first second) h
 
       by_udf : (u b : Bool) (first : ℕ) (w : Option ℕ) → halfword_of (flow_graph_of x.image at.function) at.place ≡ Some first → is_udf first ≡ u
-          → cond u Udf (cond b (of_decoded (decoded_for profile first 0)) (wide_of profile first w)) ≡ Udf → ⊥
+          → cond u Udf (cond b (standing_of_decoded (decode_result_for profile first 0)) (wide_of profile first w)) ≡ Udf → ⊥
       by_udf true b first w h u g = none_gate (sym (none_at first h u) ∙ gate)
-      by_udf false true first w h u g = of_decoded_not (decoded_for profile first 0) g
+      by_udf false true first w h u g = of_decoded_not (decode_result_for profile first 0) g
       by_udf false false first w h u g = wide_not first w g
 
       by_halves : (o w : Option ℕ) → halfword_of (flow_graph_of x.image at.function) at.place ≡ o → standing_by profile o w ≡ Udf → ⊥

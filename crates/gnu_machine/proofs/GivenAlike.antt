@@ -5,7 +5,7 @@ use Rattle.std.proofs.lemmas.Bool.{ltb-true, cases_lt}
 use Rattle.std.proofs.lemmas.List.{get_or_past}
 use Rattle.std.proofs.lemmas.List.Elements.{All-head, All-tail}
 use Rattle.std.proofs.lemmas.Option.{same_Some, none-some}
-use Rattle.eh_bus.specs.Memory.{Memory, loads, load_fault, fault_in, or_fault, number_in}
+use Rattle.eh_bus.specs.Memory.{Memory, load_number, load_fault, fault_in, or_fault, number_in}
 use Rattle.eh_bus.specs.Segment.{Segment, AreBytes, holds, number_at}
 use Rattle.eh_bus.specs.declared.fault.BusFault.{BusFault}
 use Rattle.eh_cxa.proofs.Looking.{Look, live, free, lost, look}
@@ -24,18 +24,18 @@ use Rattle.eh_types.specs.declared.kind.TypeKind.{TypeKind}
 use Rattle.eh_types.specs.declared.kind.TypeKind.TheVariants.{Other, Fundamental, Class, Si, Vmi, Pointer}
 use Rattle.frame_check.specs.Accepts.{Accepted}
 use Rattle.gnu_descriptors.specs.Filters.{filter_in}
-use Rattle.guest_gates.specs.Gates.{r0, with_r0}
-use Rattle.eh_machine.specs.stands_for.Stands.{Keeps}
-use Rattle.state_laws.specs.Barriers.{AreWords, FreeBarriers}
-use Rattle.eh_machine.proofs.steps_keep.Gated.{set_words, set_others}
-use Rattle.eh_machine.proofs.two_machines.FirstEvent.{segments_alone}
-use Rattle.eh_machine.specs.two_machines.Activations.{Recorded, memory_of, head_of, heads, bytes_of, lists_of, cleanups_in}
-use Rattle.eh_machine.specs.two_machines.ActivationMachine.{type_in}
-use Rattle.gnu_machine.specs.GnuMachine.{found_in, given, given_after, recorded_found_in, recorded_given, recorded_given_after}
-use Rattle.gnu_machine.specs.Handed.{totals_of, landing_after, or_address, by_value, caught_by, by_filter, barrier_in, at_catch, handed}
+use Rattle.run_gates.specs.Gates.{r0, with_r0}
+use Rattle.sim_relation.specs.Stands.{Keeps}
+use Rattle.sim_changes.specs.Barriers.{AreWords, FreeBarriers}
+use Rattle.sim_resumes.proofs.sim_steps.Gated.{set_words, set_others}
+use Rattle.sim_machines.proofs.FirstEvent.{segments_alone}
+use Rattle.sim_machines.specs.Activations.{Recorded, memory_of, head_of, heads, bytes_of, lists_of, cleanups_in}
+use Rattle.sim_machines.specs.ActivationMachine.{type_in}
+use Rattle.gnu_machine.specs.GnuMachine.{state_view, with_arguments, with_arguments_after, recorded_found_in, recorded_with_arguments, recorded_with_arguments_after}
+use Rattle.gnu_machine.specs.Handed.{totals_of, landing_after, or_address, by_value, catch_arguments, by_filter, barrier_in, at_catch, pad_arguments}
 use Rattle.gnu_machine.specs.Laws.{AreFilters, Goings, HasLanded, CatchesHaveLanded, DiffersLow, PadsAreFree}
-use Rattle.gnu_machine.specs.declared.handing.Landing.{Landing}
-use Rattle.gnu_machine.specs.declared.handing.Landing.TheVariants as landing
+use Rattle.gnu_machine.specs.declared.handing.PadKind.{PadKind}
+use Rattle.gnu_machine.specs.declared.handing.PadKind.TheVariants as landing
 use Rattle.gnu_machine.specs.declared.handing.Totals.{Totals}
 
 -- ---- words that are read
@@ -58,7 +58,7 @@ number_small (s ∷ more) h a = go (holds s a 4) (number_small more (All-tail (�
     go false later = later
 
 module _ (ss : List Segment) (bytes : All (λ (s : Segment). AreBytes s.bytes) ss) (a : ℕ) (small : a < 2 ^ 32) where
-  loaded_small : or_address a (loads 4 ss a) < 2 ^ 32
+  loaded_small : or_address a (load_number 4 ss a) < 2 ^ 32
   loaded_small = go (fault_in (λ s. load_fault 4 a) 4 ss a)
     where
       go : (o : Option BusFault) → or_address a (or_fault o (number_in 4 ss a)) < 2 ^ 32
@@ -119,7 +119,7 @@ module _ (x : Accepted) (filters : List (ℕ × ℕ)) (are : AreFilters filters)
       go [] k = omega arith
       go (u ∷ rest) k = let h = slot_small (block u) u k.0 in omega (arith, h)
 
-  in_cleanup : s.events.cleanups < t.events.cleanups → Alike (given (bytes_of t) (handed x.types filters (found_in (bytes_of t)) (Some landing.Cleanup))) (recorded_given t (handed x.types filters (recorded_found_in t) (Some landing.Cleanup)))
+  in_cleanup : s.events.cleanups < t.events.cleanups → Alike (with_arguments (bytes_of t) (pad_arguments x.types filters (state_view (bytes_of t)) (Some landing.Cleanup))) (recorded_with_arguments t (pad_arguments x.types filters (recorded_found_in t) (Some landing.Cleanup)))
   in_cleanup rose = (refl, pads_free x s t input text left w (inr rose) (with_r0 (heads (lists_of t)).cleanup t.regs) (differs 0 (heads (lists_of t)).cleanup (omega arith) small_head))
 
   -- at a catch
@@ -160,11 +160,11 @@ module _ (x : Accepted) (filters : List (ℕ × ℕ)) (are : AreFilters filters)
         let value_is = value_small t.segments kt.corresponds.map.segments.bytes b.object (small landed.slot BARRIER_OBJECT landed.small (omega arith)) (kind_of x.types (type_in (entry (lists_of t) landed.slot))) in
         record { sp = small landed.slot BARRIER_SP landed.small (omega arith); object = value_is; desc = small landed.slot BARRIER_DESCRIPTOR landed.small (omega arith); pointer = value_is }
 
-    by_filter_same : (o : Option ℕ) → filter_in filters b.desc ≡ o → Alike (given (bytes_of t) (by_filter x.types (found_in (bytes_of t)) landed.slot b o)) (recorded_given t (by_filter x.types (recorded_found_in t) landed.slot b o))
+    by_filter_same : (o : Option ℕ) → filter_in filters b.desc ≡ o → Alike (with_arguments (bytes_of t) (by_filter x.types (state_view (bytes_of t)) landed.slot b o)) (recorded_with_arguments t (by_filter x.types (recorded_found_in t) landed.slot b o))
     by_filter_same None e = (refl, kt)
     by_filter_same (Some f) e =
         let writes : List Write = set_barrier_of (Some landed.slot) handed_words in
-        let with_type : ℕ → State = λ n. given (bytes_of t) (caught_by (found_in (bytes_of t)) landed.slot b f (by_value t.segments (kind_of x.types n) b.object)) in
+        let with_type : ℕ → State = λ n. with_arguments (bytes_of t) (catch_arguments (state_view (bytes_of t)) landed.slot b f (by_value t.segments (kind_of x.types n) b.object)) in
         let with_memory : Memory → State = λ m. record (bytes_of t) { regs = with_r1 f t.regs; memory = m } in
         let moved : Keeps x (record t { regs = with_r1 f t.regs }) =
         pads_free x s t input text left w (inl rose) (with_r1 f t.regs) (differs 1 f (omega arith) (filter_small filters b.desc f are e)) in (
@@ -172,16 +172,16 @@ module _ (x : Accepted) (filters : List (ℕ × ℕ)) (are : AreFilters filters)
           (barriers x (record t { regs = with_r1 f t.regs }) moved).landed landed.slot handed_words landed.small landed.landed words_small,
         )
 
-    in_catch : Alike (given (bytes_of t) (handed x.types filters (found_in (bytes_of t)) (Some landing.Catch))) (recorded_given t (handed x.types filters (recorded_found_in t) (Some landing.Catch)))
+    in_catch : Alike (with_arguments (bytes_of t) (pad_arguments x.types filters (state_view (bytes_of t)) (Some landing.Catch))) (recorded_with_arguments t (pad_arguments x.types filters (recorded_found_in t) (Some landing.Catch)))
     in_catch =
-        subst (λ (o : Option ℕ). Alike (given (bytes_of t) (at_catch x.types filters (found_in (bytes_of t)) o)) (recorded_given t (at_catch x.types filters (recorded_found_in t) o))) (sym is_slot)
+        subst (λ (o : Option ℕ). Alike (with_arguments (bytes_of t) (at_catch x.types filters (state_view (bytes_of t)) o)) (recorded_with_arguments t (at_catch x.types filters (recorded_found_in t) o))) (sym is_slot)
         (by_filter_same (filter_in filters b.desc) refl)
 
-  by_landing : (o : Option Landing) → landing_after (totals_of s.events) (totals_of t.events) ≡ o
-      → Alike (given (bytes_of t) (handed x.types filters (found_in (bytes_of t)) o)) (recorded_given t (handed x.types filters (recorded_found_in t) o))
+  by_landing : (o : Option PadKind) → landing_after (totals_of s.events) (totals_of t.events) ≡ o
+      → Alike (with_arguments (bytes_of t) (pad_arguments x.types filters (state_view (bytes_of t)) o)) (recorded_with_arguments t (pad_arguments x.types filters (recorded_found_in t) o))
   by_landing None e = (refl, kt)
   by_landing (Some landing.Catch) e = in_catch (catch_rose (totals_of s.events) (totals_of t.events) e)
   by_landing (Some landing.Cleanup) e = in_cleanup (cleanup_rose (totals_of s.events) (totals_of t.events) e)
 
-  pub given_alike : Alike (given_after x.types filters (bytes_of s) (bytes_of t)) (recorded_given_after x.types filters s t)
+  pub given_alike : Alike (with_arguments_after x.types filters (bytes_of s) (bytes_of t)) (recorded_with_arguments_after x.types filters s t)
   given_alike = by_landing (landing_after (totals_of s.events) (totals_of t.events)) refl

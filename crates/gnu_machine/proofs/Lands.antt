@@ -15,29 +15,29 @@ use Rattle.eh_cxa.specs.declared.state.State.TheVariants.{Flying, Landed}
 use Rattle.eh_gates.specs.Landing.{pad_event, words_of}
 use Rattle.eh_gates.specs.declared.state.Turned.TheVariants.{Went}
 use Rattle.eh_phase.specs.Firsts.{first_some}
-use Rattle.eh_phase.specs.Phases.{Frame, Frames, entered_at, places, phase2}
+use Rattle.eh_phase.specs.Phases.{Frame, Frames, enter_at_place, places, phase2}
 use Rattle.eh_phase.specs.declared.phase2.Entered.{Entered}
 use Rattle.eh_phase.specs.declared.phase2.Entered.TheVariants as enters
 use Rattle.eh_phase.specs.declared.phase2.Goal.{Goal}
 use Rattle.eh_trace.specs.declared.event.Event.{Event}
 use Rattle.eh_trace.specs.declared.event.EventKind.TheVariants as event
 use Rattle.frame_check.specs.Accepts.{Accepted}
-use Rattle.eh_machine.specs.frame_graph.Sites.{pad_of}
-use Rattle.eh_machine.proofs.frames_same.Landing.{lands_in}
-use Rattle.eh_machine.proofs.frames_same.Located.{Sides, side_at, located}
-use Rattle.eh_machine.specs.frames_same.Landings.{Offers, OfFrame, Fit, Rise, LandsIn, Located, AtFirst, AtCall}
-use Rattle.eh_machine.proofs.frames_same.Agreement.{called_site}
-use Rattle.eh_machine.proofs.frames_same.CodeBytes.{codes_are_recipes}
-use Rattle.eh_machine.proofs.stands_for.Flows.{stands_instruction}
+use Rattle.frame_entries.specs.Scopes.{pad_of}
+use Rattle.sim_frames.proofs.Landing.{lands_in}
+use Rattle.sim_frames.proofs.Located.{Sides, side_at, located}
+use Rattle.sim_frames.specs.Landings.{Offers, OfFrame, Fit, Rise, LandsIn, IsLocated, AtFirst, AtCall}
+use Rattle.sim_frames.proofs.Agreement.{called_site}
+use Rattle.sim_frames.proofs.CodeBytes.{codes_are_recipes}
+use Rattle.sim_relation.proofs.Flows.{stands_instruction}
 use Rattle.eh_bus.specs.Map.{AreSegments}
 use Rattle.frame_check.specs.Roots.{flow_graph_of}
-use Rattle.eh_machine.specs.stands_for.Chain.{Chain}
-use Rattle.eh_machine.specs.stands_for.Holds.{IsWhole}
-use Rattle.eh_machine.specs.stands_for.Stands.{IsProgram}
+use Rattle.sim_relation.specs.Chain.{Chain}
+use Rattle.sim_relation.specs.Holds.{IsWhole}
+use Rattle.sim_relation.specs.Stands.{IsProgram}
 use Rattle.thumb_core.specs.Registers.{even}
 use Rattle.thumb_core.specs.declared.regs.TheConstants.{SP}
-use Rattle.eh_machine.specs.two_machines.Activations.{Activation, Recorded, frames_at, lists_of}
-use Rattle.eh_machine.specs.two_machines.ActivationMachine as machine
+use Rattle.sim_machines.specs.Activations.{Activation, Recorded, frames_at, lists_of}
+use Rattle.sim_machines.specs.ActivationMachine as machine
 use Rattle.gnu_machine.specs.Laws.{HasLanded}
 use Rattle.gnu_machine.proofs.Events.{not_went}
 use Rattle.gnu_machine.proofs.PadStates.{SiteState, PadState, pad_state}
@@ -75,7 +75,7 @@ module _ (x : Accepted) (is : IsProgram x) (s t u : Recorded) (slot : ℕ) (smal
   is_slot = slot_of_block_is slot small
 
   -- the pads of a frame that is located
-  pads_of : (f : Frame) (b : Activation) (pad : ℕ) → Located x segments site r a f b → Offers f pad → PadState x b.function (even pad)
+  pads_of : (f : Frame) (b : Activation) (pad : ℕ) → IsLocated x segments site r a f b → Offers f pad → PadState x b.function (even pad)
   pads_of f b pad l o = elim l.1 [
     | inl one ↦ at_first one
     | inr two ↦ at_call two
@@ -101,16 +101,16 @@ module _ (x : Accepted) (is : IsProgram x) (s t u : Recorded) (slot : ℕ) (smal
           pad_state x is b.function f.site there f l.0 refl pad o
 
   module _ (e : Entered) (phase : phase2 g from fs ≡ e) (l : LandsIn g from home.1 low fs.frames (a ∷ outer) e) where
-    there : Located x segments site r a l.frame l.first
+    there : IsLocated x segments site r a l.frame l.first
     there =
-        side_at (Located x segments site r a) l.inner l.frame l.outer l.cut l.first l.more l.beside
-        (subst (λ (acts : List Activation). Sides (Located x segments site r a) (l.inner ++ l.frame ∷ l.outer) acts) l.all
-        (subst (λ (gs : List Frame). Sides (Located x segments site r a) gs (a ∷ outer)) l.frames (located x segments home None site r a outer whole chain)))
+        side_at (IsLocated x segments site r a) l.inner l.frame l.outer l.cut l.first l.more l.beside
+        (subst (λ (acts : List Activation). Sides (IsLocated x segments site r a) (l.inner ++ l.frame ∷ l.outer) acts) l.all
+        (subst (λ (gs : List Frame). Sides (IsLocated x segments site r a) gs (a ∷ outer)) l.frames (located x segments home None site r a outer whole chain)))
 
-    left : machine.entered u (l.first ∷ l.more) (block slot) object e ≡ (Went, t)
+    left : machine.enter_landing u (l.first ∷ l.more) (block slot) object e ≡ (Went, t)
     left =
-        sym (ap (λ (acts : List Activation). machine.entered u acts (block slot) object e) l.passed)
-        ∙ sym (ap (machine.entered u (drop (machine.passed_by g from fs.frames) (a ∷ outer)) (block slot) object) phase) ∙ went
+        sym (ap (λ (acts : List Activation). machine.enter_landing u acts (block slot) object e) l.passed)
+        ∙ sym (ap (machine.enter_landing u (drop (machine.passed_frame_count g from fs.frames) (a ∷ outer)) (block slot) object) phase) ∙ went
 
     in_cleanup : (pad : ℕ) (rs : List ℕ) (w : CleanupWords) → Offers l.frame pad → Arrived x s (machine.enter_cleanup u (l.first ∷ l.more) (block slot) rs pad w)
     in_cleanup pad rs w o = record { pad = pads_of l.frame l.first pad there o; landed = inr (same (block_slot (block slot)) ∙ catches) }
@@ -127,12 +127,12 @@ module _ (x : Accepted) (is : IsProgram x) (s t u : Recorded) (slot : ℕ) (smal
         small = small;
         control = refl;
         landed =
-            ap (λ (k : Option ℕ). state_in (entry (lists_of (machine.flown u k)) slot)) is_slot
+            ap (λ (k : Option ℕ). state_in (entry (lists_of (machine.land_exception u k)) slot)) is_slot
             ∙ lands_landed (lists_of u) slot (let z = sized in omega (arith, z, small)) flies;
       });
     }
 
-    by_entered : (d : Entered) → OfFrame g l.frame d → machine.entered u (l.first ∷ l.more) (block slot) object d ≡ (Went, t) → Arrived x s t
+    by_entered : (d : Entered) → OfFrame g l.frame d → machine.enter_landing u (l.first ∷ l.more) (block slot) object d ≡ (Went, t) → Arrived x s t
     by_entered (enters.Cleanup vrs pad next at) of q =
         let c = of.2 in
         subst (Arrived x s) (ap (λ (o : machine.Outcome). o.1) q)
@@ -147,15 +147,15 @@ module _ (x : Accepted) (is : IsProgram x) (s t u : Recorded) (slot : ℕ) (smal
     arrives_in : Arrived x s t
     arrives_in = by_entered e l.of left
 
-  phase_is : (o : Option Entered) → first_some (entered_at g) (places from fs.frames) ≡ o → phase2 g from fs ≡ unwrap_or o (enters.Terminate fs.last)
+  phase_is : (o : Option Entered) → first_some (enter_at_place g) (places from fs.frames) ≡ o → phase2 g from fs ≡ unwrap_or o (enters.Terminate fs.last)
   unfolding phase2
   phase_is o e = ap (λ (v : Option Entered). unwrap_or v (enters.Terminate fs.last)) e
 
   pub arrives : Arrived x s t
-  arrives = by (first_some (entered_at g) (places from fs.frames)) refl
+  arrives = by (first_some (enter_at_place g) (places from fs.frames)) refl
     where
-      by : (o : Option Entered) → first_some (entered_at g) (places from fs.frames) ≡ o → Arrived x s t
+      by : (o : Option Entered) → first_some (enter_at_place g) (places from fs.frames) ≡ o → Arrived x s t
       by None e =
           absurd (not_went _ u t
-          (sym (ap (machine.entered u (drop (machine.passed_by g from fs.frames) (a ∷ outer)) (block slot) object) (phase_is None e)) ∙ went))
+          (sym (ap (machine.enter_landing u (drop (machine.passed_frame_count g from fs.frames) (a ∷ outer)) (block slot) object) (phase_is None e)) ∙ went))
       by (Some d) e = arrives_in d (phase_is (Some d) e) (lands_in g from home.1 low fs.frames (a ∷ outer) d within fit rise e)

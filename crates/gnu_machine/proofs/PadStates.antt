@@ -2,42 +2,42 @@
 -- the pad's place does not tell them.
 use Rattle.std.proofs.Common.{◌≡◌, ℕ, ◌≤◌, ◌<◌, ◌⊎◌, inl, inr, Bool, true, false, ◌∷◌, ◌++◌, Some, Ok, refl, sym, ap, subst, ◌∙◌, arith}
 use Rattle.std.proofs.lemmas.Bool.{cases_lt}
-use Rattle.eh_machine.proofs.accepted_code.Places.{apart}
+use Rattle.sim_relation.proofs.sim_code.Places.{apart}
 use Rattle.eh_phase.specs.Phases.{Frame}
 use Rattle.elf_image.specs.Functions.{Function}
-use Rattle.flow.proofs.Law.{bounds}
+use Rattle.frame_dataflow.proofs.Law.{bounds}
 use Rattle.frame_check.specs.Accepts.{Accepted}
 use Rattle.frame_check.specs.Judged.{IsPlaced}
 use Rattle.frame_check.specs.Roles.{look}
 use Rattle.frame_check.specs.Roots.{flow_graph_of}
 use Rattle.frame_check.proofs.Wells.{placed_at}
-use Rattle.eh_machine.specs.frame_facts.Facts.{IsAtMost, slot, source}
-use Rattle.eh_machine.specs.frame_facts.declared.cause.FrameCause.{FrameCause}
-use Rattle.eh_machine.specs.frame_facts.declared.facts.Fact.{Fact}
-use Rattle.eh_machine.specs.frame_facts.declared.facts.Source.TheVariants.{Other}
+use Rattle.frame_facts.specs.Facts.{IsAtMost, slot, source}
+use Rattle.frame_facts.specs.declared.cause.FrameCause.{FrameCause}
+use Rattle.frame_facts.specs.declared.facts.Fact.{Fact}
+use Rattle.frame_facts.specs.declared.facts.Source.TheVariants.{Other}
 use Rattle.frame_flow.proofs.Instance.{laws}
 use Rattle.frame_flow.specs.Flows.{flow_of, IsStateOf}
-use Rattle.eh_machine.specs.frame_graph.Edges.{instruction_at}
-use Rattle.eh_machine.specs.frame_graph.Places.{address_of}
-use Rattle.eh_machine.specs.frame_graph.Sites.{site_at, items_at}
-use Rattle.eh_machine.specs.frame_graph.declared.unwinding.Unwinding.{Unwinding}
+use Rattle.frame_graph.specs.Edges.{instruction_at}
+use Rattle.frame_graph.specs.Places.{address_of}
+use Rattle.frame_graph.specs.Sites.{site_at, items_at}
+use Rattle.frame_entries.specs.declared.unwinding.EntrySummary.{EntrySummary}
 use Rattle.frame_reach.proofs.Existing.{marks_agree}
 use Rattle.frame_reach.specs.Marks.{Marks}
-use Rattle.eh_machine.proofs.frames_same.Clobbers.{landing_clobbers}
-use Rattle.eh_machine.proofs.frames_same.Located.{covered_items}
-use Rattle.eh_machine.proofs.frames_same.Pads as pads
-use Rattle.eh_machine.specs.frames_same.Landings.{Offers, Reads}
-use Rattle.eh_machine.proofs.stands_for.Flows.{none_stands, goes_along}
-use Rattle.eh_machine.proofs.stands_for.Moves.{clobbered_here}
-use Rattle.eh_machine.specs.stands_for.Chain.{IsOf, code, StandsAt}
-use Rattle.eh_machine.specs.stands_for.Stands.{Keeps, IsProgram}
-use Rattle.state_laws.specs.FactLaws.{FactsAreThere}
-use Rattle.state_laws.specs.Free.{OtherRegisters, FreeRegisters, FreeAnywhere}
+use Rattle.sim_frames.proofs.Clobbers.{landing_clobbers}
+use Rattle.sim_frames.proofs.Located.{covered_items}
+use Rattle.sim_frames.proofs.Pads as pads
+use Rattle.sim_frames.specs.Landings.{Offers, Reads}
+use Rattle.sim_relation.proofs.Flows.{none_stands, goes_along}
+use Rattle.sim_relation.proofs.Moves.{clobbered_here}
+use Rattle.sim_relation.specs.Chain.{IsOf, code, StandsAt}
+use Rattle.sim_relation.specs.Stands.{Keeps, IsProgram}
+use Rattle.sim_changes.specs.FactLaws.{FactsAreThere}
+use Rattle.sim_changes.specs.Free.{OtherRegisters, FreeRegisters, FreeAnywhere}
 use Rattle.thumb_core.specs.Registers.{even, reg}
 use Rattle.thumb_core.specs.declared.regs.TheConstants.{SP}
 use Rattle.thumb_core.specs.declared.regs.Regs.{Regs}
-use Rattle.eh_machine.specs.thumb_isa.declared.instr.Instr.{Instr}
-use Rattle.eh_machine.specs.two_machines.Activations.{Recorded}
+use Rattle.thumb_isa.specs.declared.instr.Instr.{Instr}
+use Rattle.sim_machines.specs.Activations.{Recorded}
 use Rattle.gnu_machine.specs.Laws.{DiffersLow}
 
 -- a site of the function that begins at an address, where a state of facts is
@@ -78,7 +78,7 @@ module _ (x : Accepted) (is : IsProgram x) (start site : ℕ) (s : SiteState x s
   abbrev left : Fact
   left = (pads.leaves x is s.function s.marks start s.of s.place s.fact s.state s.instr s.at f.site there).fact_after
 
-  abbrev u : Unwinding
+  abbrev u : EntrySummary
   u = pads.u x is s.function s.marks start s.of s.place s.fact s.state s.instr s.at f.site there o.before o.desc o.after items o.scope pad o.kind
 
   abbrev resumed : Bool

@@ -3,7 +3,7 @@ use Rattle.std.proofs.Common.{◌≡◌, ℕ, ◌^◌, ◌<◌, ◌≤◌, ◌==
 use Rattle.std.specs.Prelude.{slice_set}
 use Rattle.std.proofs.lemmas.Bool.{lt-ltb, le-ltb}
 use Rattle.std.proofs.lemmas.List.{get_or-set_same, get_or-set_other}
-use Rattle.eh_machine.specs.event_runs.Runs.{Goes, Ends}
+use Rattle.run_events.specs.Runs.{Goes, Ends}
 use Rattle.eh_cxa.proofs.Looking.{self}
 use Rattle.eh_cxa.proofs.Pools.{AllFit, slot_small, all_agree}
 use Rattle.eh_cxa.specs.Throw.{set_barrier_of}
@@ -17,23 +17,23 @@ use Rattle.eh_types.specs.declared.kind.TypeKind.{TypeKind}
 use Rattle.eh_types.specs.declared.kind.TypeKind.TheVariants.{Other, Fundamental, Class, Si, Vmi, Pointer}
 use Rattle.gnu_descriptors.specs.Filters.{filter_in}
 use Rattle.thumb_core.specs.declared.ends.End.{End}
-use Rattle.eh_machine.specs.two_machines.Machine.{machine_event}
-use Rattle.eh_machine.specs.two_machines.Program.{Program}
-use Rattle.gnu_machine.specs.GnuMachine.{on_goes, found_in, given, given_after, gnu_event}
-use Rattle.gnu_machine.specs.Handed.{totals_of, landing_after, or_address, by_value, by_filter, barrier_in, at_catch, handed}
-use Rattle.gnu_machine.specs.PadLaws.{Switched, LandsAtCatch, CatchesGetTheirFilter, CatchesWithoutFilterGetNothing, CleanupsGetTheirBlock, OthersGetNothing, EndsAreTheMachines}
+use Rattle.sim_machines.specs.Machine.{machine_event}
+use Rattle.sim_machines.specs.Program.{Program}
+use Rattle.gnu_machine.specs.GnuMachine.{map_goes, state_view, with_arguments, with_arguments_after, gnu_event}
+use Rattle.gnu_machine.specs.Handed.{totals_of, landing_after, or_address, by_value, by_filter, barrier_in, at_catch, pad_arguments}
+use Rattle.gnu_machine.specs.PadLaws.{GivesFilter, LandsAtCatch, CatchesGetTheirFilter, CatchesWithoutFilterGetNothing, CleanupsGetTheirBlock, OthersGetNothing, EndsAreTheMachines}
 use Rattle.gnu_machine.proofs.GivenAlike.{number_small, value_small}
-use Rattle.gnu_machine.specs.declared.handing.Landing.{Landing}
-use Rattle.gnu_machine.specs.declared.handing.Landing.TheVariants as landing
+use Rattle.gnu_machine.specs.declared.handing.PadKind.{PadKind}
+use Rattle.gnu_machine.specs.declared.handing.PadKind.TheVariants as landing
 
 module _ (p : Program) (filters : List (ℕ × ℕ)) (s : State) (input : List ℕ) where
-  is_goes : (t : State) (text left : List ℕ) → machine_event p s input ≡ Goes t text left → gnu_event p filters s input ≡ Goes (given_after p.types filters s t) text left
+  is_goes : (t : State) (text left : List ℕ) → machine_event p s input ≡ Goes t text left → gnu_event p filters s input ≡ Goes (with_arguments_after p.types filters s t) text left
   unfolding gnu_event
-  is_goes t text left e = ap (on_goes (given_after p.types filters s)) e
+  is_goes t text left e = ap (map_goes (with_arguments_after p.types filters s)) e
 
   is_ends : (t : State) (end : End) → machine_event p s input ≡ Ends end t → gnu_event p filters s input ≡ Ends end t
   unfolding gnu_event
-  is_ends t end e = ap (on_goes (given_after p.types filters s)) e
+  is_ends t end e = ap (map_goes (with_arguments_after p.types filters s)) e
 
 -- ---- by the totals
 
@@ -53,7 +53,7 @@ landed_nowhere a b h i =
 pub others : OthersGetNothing
 others p filters s t input text left e h i =
     is_goes p filters s input t text left e
-    ∙ ap (λ (o : Option Landing). Goes (given t (handed p.types filters (found_in t) o)) text left) (landed_nowhere s.events t.events h i)
+    ∙ ap (λ (o : Option PadKind). Goes (with_arguments t (pad_arguments p.types filters (state_view t) o)) text left) (landed_nowhere s.events t.events h i)
 
 pub ends : EndsAreTheMachines
 ends p filters s t input end e = is_ends p filters s input t end e
@@ -68,9 +68,9 @@ set_other r k j v differ = get_or-set_other r k j v 0 differ
 
 pub cleanups : CleanupsGetTheirBlock
 cleanups p filters s t input text left e h i count = (
-  given t (handed p.types filters (found_in t) (Some landing.Cleanup)),
+  with_arguments t (pad_arguments p.types filters (state_view t) (Some landing.Cleanup)),
   is_goes p filters s input t text left e
-      ∙ ap (λ (o : Option Landing). Goes (given t (handed p.types filters (found_in t) o)) text left) (landed_cleanup s.events t.events h i),
+      ∙ ap (λ (o : Option PadKind). Goes (with_arguments t (pad_arguments p.types filters (state_view t) o)) text left) (landed_cleanup s.events t.events h i),
   record {
     block = set_same t.regs.r 0 t.globals.cleanup count (omega arith);
     same = record { others = λ j differ. set_other t.regs.r 0 j t.globals.cleanup differ; pc = refl; n = refl; z = refl; c = refl; v = refl; globals = refl; events = refl };
@@ -79,13 +79,13 @@ cleanups p filters s t input text left e h i count = (
 )
 
 module _ (p : Program) (filters : List (ℕ × ℕ)) (s t : State) (input text left : List ℕ) (slot : ℕ) (w : LandsAtCatch p s t input text left slot) where
-  at_slot : (o : Option ℕ) → filter_in filters (barrier_in (found_in t) slot).desc ≡ o
-      → gnu_event p filters s input ≡ Goes (given t (by_filter p.types (found_in t) slot (barrier_in (found_in t) slot) o)) text left
+  at_slot : (o : Option ℕ) → filter_in filters (barrier_in (state_view t) slot).desc ≡ o
+      → gnu_event p filters s input ≡ Goes (with_arguments t (by_filter p.types (state_view t) slot (barrier_in (state_view t) slot) o)) text left
   at_slot o e =
       is_goes p filters s input t text left w.goes
-      ∙ ap (λ (o : Option Landing). Goes (given t (handed p.types filters (found_in t) o)) text left) (landed_catch s.events t.events w.rose)
-      ∙ ap (λ (o : Option ℕ). Goes (given t (at_catch p.types filters (found_in t) o)) text left) w.control
-      ∙ ap (λ (o : Option ℕ). Goes (given t (by_filter p.types (found_in t) slot (barrier_in (found_in t) slot) o)) text left) e
+      ∙ ap (λ (o : Option PadKind). Goes (with_arguments t (pad_arguments p.types filters (state_view t) o)) text left) (landed_catch s.events t.events w.rose)
+      ∙ ap (λ (o : Option ℕ). Goes (with_arguments t (at_catch p.types filters (state_view t) o)) text left) w.control
+      ∙ ap (λ (o : Option ℕ). Goes (with_arguments t (by_filter p.types (state_view t) slot (barrier_in (state_view t) slot) o)) text left) e
 
 pub without_filter : CatchesWithoutFilterGetNothing
 without_filter p filters s t input text left slot w none = at_slot p filters s t input text left slot w None none
@@ -95,7 +95,7 @@ without_filter p filters s t input text left slot w none = at_slot p filters s t
 module _ (p : Program) (filters : List (ℕ × ℕ)) (s t : State) (input text left : List ℕ) (slot filter : ℕ) (w : LandsAtCatch p s t input text left slot)
     (has : filter_in filters (word t.memory slot BARRIER_DESCRIPTOR) ≡ Some filter) where
   abbrev b : BarrierWords
-  b = barrier_in (found_in t) slot
+  b = barrier_in (state_view t) slot
 
   abbrev kind : Option TypeKind
   kind = kind_of p.types (word t.memory slot TYPE)
@@ -107,7 +107,7 @@ module _ (p : Program) (filters : List (ℕ × ℕ)) (s t : State) (input text l
   writes = set_barrier_of (Some slot) (record { sp = b.sp; object = value; desc = b.desc; pointer = value })
 
   abbrev u : State
-  u = given t (by_filter p.types (found_in t) slot (barrier_in (found_in t) slot) (Some filter))
+  u = with_arguments t (by_filter p.types (state_view t) slot (barrier_in (state_view t) slot) (Some filter))
 
   small : slot < SLOTS
   small = slot_small (reg t 0) slot w.control
@@ -148,7 +148,7 @@ module _ (p : Program) (filters : List (ℕ × ℕ)) (s t : State) (input text l
   no_pointer (Some Vmi) h = refl
   no_pointer (Some (Pointer flags pointee)) h = absurd (h flags pointee refl)
 
-  switched : Switched p slot filter t u
+  switched : GivesFilter p slot filter t u
   switched = record {
     switch = set_same t.regs.r 1 filter w.count (omega arith);
     same = record { others = λ j differ. set_other t.regs.r 1 j filter differ; pc = refl; n = refl; z = refl; c = refl; v = refl; globals = refl; events = refl };
@@ -160,7 +160,7 @@ module _ (p : Program) (filters : List (ℕ × ℕ)) (s t : State) (input text l
     };
   }
 
-  with_filter : (v : State) × (gnu_event p filters s input ≡ Goes v text left) × Switched p slot filter t v
+  with_filter : (v : State) × (gnu_event p filters s input ≡ Goes v text left) × GivesFilter p slot filter t v
   with_filter = (u, at_slot p filters s t input text left slot w (Some filter) has, switched)
 
 pub filters_given : CatchesGetTheirFilter

@@ -13,29 +13,29 @@ use Rattle.eh_cxa.specs.declared.layout.TheConstants.{SLOTS, NEXT_CLEANUP}
 use Rattle.eh_cxa.specs.declared.state.State.TheVariants.{Flying}
 use Rattle.eh_gates.specs.State.{Tables}
 use Rattle.eh_gates.specs.declared.state.Turned.TheVariants.{Went, Ended}
-use Rattle.eh_phase.specs.Frames.{covered_at}
+use Rattle.eh_phase.specs.Frames.{entry_contents_at}
 use Rattle.frame_check.specs.Accepts.{Accepted}
 use Rattle.frame_check.specs.Roots.{flow_graph_of}
-use Rattle.eh_machine.specs.frame_graph.Edges.{instruction_at}
-use Rattle.eh_machine.specs.frame_graph.Places.{address_of}
-use Rattle.eh_machine.specs.frame_graph.Sites.{site_of}
-use Rattle.eh_machine.proofs.frames_same.Landing.{fit_frames, rise_outside}
-use Rattle.eh_machine.proofs.frames_same.Outwards.{at_sp}
-use Rattle.eh_machine.specs.frames_same.Landings.{Fit}
-use Rattle.resumes_keep.specs.Outside.{IsOutside}
-use Rattle.resumes_keep.specs.ResumeLaws.{CleanupsAreOutside}
-use Rattle.eh_machine.proofs.stands_for.Goes.{chain_top}
-use Rattle.eh_machine.specs.stands_for.Chain.{StandsAtCall, Chain}
-use Rattle.eh_machine.specs.stands_for.Cleanups.{goal_at, AreInProgress}
-use Rattle.eh_machine.specs.stands_for.Stands.{Keeps, IsProgram}
+use Rattle.frame_graph.specs.Edges.{instruction_at}
+use Rattle.frame_graph.specs.Places.{address_of}
+use Rattle.frame_graph.specs.Sites.{site_of}
+use Rattle.sim_frames.proofs.Landing.{fit_frames, rise_outside}
+use Rattle.sim_frames.proofs.Outwards.{at_sp}
+use Rattle.sim_frames.specs.Landings.{Fit}
+use Rattle.sim_resumes.specs.Outside.{IsOutside}
+use Rattle.sim_resumes.specs.ResumeLaws.{CleanupsAreOutside}
+use Rattle.sim_relation.proofs.Goes.{chain_top}
+use Rattle.sim_relation.specs.Chain.{StandsAtCall, Chain}
+use Rattle.sim_relation.specs.Cleanups.{goal_at, AreInProgress}
+use Rattle.sim_relation.specs.Stands.{Keeps, IsProgram}
 use Rattle.thumb_core.specs.declared.ends.End.TheVariants as the_end
 use Rattle.thumb_core.specs.declared.ends.TrapKind.TheVariants as kind
 use Rattle.thumb_core.specs.declared.regs.TheConstants.{SP}
-use Rattle.eh_machine.specs.thumb_isa.declared.instr.Instr.{Instr}
-use Rattle.eh_machine.specs.two_machines.Activations.{Activation, InProgress, Recorded, reg_in, memory_of, heads, registers_of, frames_at, lists_of, cleanups_in}
-use Rattle.eh_machine.specs.two_machines.ActivationMachine as machine
-use Rattle.eh_machine.specs.two_machines.Checked.{program_of}
-use Rattle.eh_machine.specs.two_machines.Program.{program_tables}
+use Rattle.thumb_isa.specs.declared.instr.Instr.{Instr}
+use Rattle.sim_machines.specs.Activations.{Activation, InProgress, Recorded, reg_in, memory_of, heads, registers_of, frames_at, lists_of, cleanups_in}
+use Rattle.sim_machines.specs.ActivationMachine as machine
+use Rattle.sim_machines.specs.Checked.{program_of}
+use Rattle.sim_machines.specs.Program.{program_tables}
 use Rattle.gnu_machine.proofs.Events.{not_went}
 use Rattle.gnu_machine.proofs.Lands.{Arrived, arrives}
 use Rattle.gnu_machine.proofs.PadStates.{SiteState}
@@ -90,14 +90,14 @@ module _ (x : Accepted) (is : IsProgram x) (s t : Recorded) (k : Keeps x s) (out
     flies = k.corresponds.stands.valid.flying c.cleanup.slot (subst (λ (cs : List Cleanup). Has (slots cs) c.cleanup.slot) (sym listed) (inl refl))
 
     goes_arrives : (a : Activation) (outer : List Activation) → s.outer ≡ a ∷ outer
-        → machine.goes_on g (record s { cleanups = others }) c.cleanup s.first.caller a outer (barrier_of (word (memory_of s)) (Some c.cleanup.slot)) ≡ (Went, t) → Arrived x s t
+        → machine.continue_flight g (record s { cleanups = others }) c.cleanup s.first.caller a outer (barrier_of (word (memory_of s)) (Some c.cleanup.slot)) ≡ (Went, t) → Arrived x s t
     goes_arrives a outer is_outer e =
         let same : a ∷ outer ≡ holder.first ∷ holder.more = sym is_outer ∙ holder.is in
         let one : a ≡ holder.first = cc in
         let rest : outer ≡ holder.more = cc in
-        let q : machine.goes_on g (record s { cleanups = others }) c.cleanup s.first.caller holder.first holder.more (barrier_of (word (memory_of s)) (Some c.cleanup.slot)) ≡ (Went, t) =
-        subst (λ (acts : List Activation). machine.goes_on g (record s { cleanups = others }) c.cleanup s.first.caller holder.first acts (barrier_of (word (memory_of s)) (Some c.cleanup.slot)) ≡ (Went, t)) rest
-        (subst (λ (b : Activation). machine.goes_on g (record s { cleanups = others }) c.cleanup s.first.caller b outer (barrier_of (word (memory_of s)) (Some c.cleanup.slot)) ≡ (Went, t)) one e) in
+        let q : machine.continue_flight g (record s { cleanups = others }) c.cleanup s.first.caller holder.first holder.more (barrier_of (word (memory_of s)) (Some c.cleanup.slot)) ≡ (Went, t) =
+        subst (λ (acts : List Activation). machine.continue_flight g (record s { cleanups = others }) c.cleanup s.first.caller holder.first acts (barrier_of (word (memory_of s)) (Some c.cleanup.slot)) ≡ (Went, t)) rest
+        (subst (λ (b : Activation). machine.continue_flight g (record s { cleanups = others }) c.cleanup s.first.caller b outer (barrier_of (word (memory_of s)) (Some c.cleanup.slot)) ≡ (Went, t)) one e) in
         arrives x is s t (record s { cleanups = others }) c.cleanup.slot small flies k.corresponds.stands.shows.sized refl s.segments k.corresponds.map.segments s.home holder.first holder.more c.cleanup.site
         (registers_of s.first.caller) at links.0.whole links.1 s.first.caller.sp (chain_top x s.segments s.home s.first.caller s.outer k.chain)
         (subst (λ (n : ℕ). Fit n (frames_at x.image None c.cleanup.site (registers_of s.first.caller) holder.first holder.more).frames (holder.first ∷ holder.more)) sp_is
@@ -112,7 +112,7 @@ module _ (x : Accepted) (is : IsProgram x) (s t : Recorded) (k : Keeps x s) (out
       by_place c others is_cleanups a outer is_outer q = go (s.first.caller.sp == c.cleanup.sp) refl (length outer == c.place) q
         where
           go : (p : Bool) → (s.first.caller.sp == c.cleanup.sp) ≡ p → (d : Bool)
-              → cond (p && d) (machine.goes_on g (record s { cleanups = others }) c.cleanup s.first.caller a outer (barrier_of (word (memory_of s)) (Some c.cleanup.slot)))
+              → cond (p && d) (machine.continue_flight g (record s { cleanups = others }) c.cleanup s.first.caller a outer (barrier_of (word (memory_of s)) (Some c.cleanup.slot)))
               (Ended (the_end.Trap kind.CleanupElsewhere s.first.caller.sp s.regs.pc), s) ≡ (Went, t) → Arrived x s t
           go true f true q = goes_arrives c others is_cleanups (eqb-true s.first.caller.sp c.cleanup.sp f) a outer is_outer q
           go true f false q = absurd (not_went _ s t q)
@@ -127,6 +127,6 @@ module _ (x : Accepted) (is : IsProgram x) (s t : Recorded) (k : Keeps x s) (out
       by_unwind c others is_cleanups true q = by_acts c others is_cleanups s.outer refl q
       by_unwind c others is_cleanups false q = absurd (not_went _ s t q)
 
-      by_cleanups : (cs : List InProgress) → s.cleanups ≡ cs → machine.resumes g s cs ≡ (Went, t) → Arrived x s t
+      by_cleanups : (cs : List InProgress) → s.cleanups ≡ cs → machine.resume_outcome g s cs ≡ (Went, t) → Arrived x s t
       by_cleanups [] f q = absurd (not_went _ s t q)
-      by_cleanups (c ∷ others) f q = by_unwind c others f (machine.can_unwind (covered_at g.image s.regs.pc)) q
+      by_cleanups (c ∷ others) f q = by_unwind c others f (machine.can_unwind (entry_contents_at g.image s.regs.pc)) q

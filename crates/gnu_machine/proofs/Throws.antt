@@ -3,7 +3,7 @@ use Rattle.std.proofs.Common.{◌≡◌, ℕ, ◌<◌, inl, Bool, true, false, c
 use Rattle.std.specs.Prelude.{is_some, slice_index}
 use Rattle.eh_cxa.proofs.Pools.{slot_small, object_small}
 use Rattle.eh_cxa.specs.Catch.{rethrow_of}
-use Rattle.eh_cxa.specs.ListCalls.{become, thrown_record, throw_by_list, throw_entry, throw_list, rethrow_by_list, rethrow_entry, rethrow_from, rethrow_list}
+use Rattle.eh_cxa.specs.ListCalls.{become, record_of_throw, throw_by_list, throw_entry, throw_list, rethrow_by_list, rethrow_entry, rethrow_from, rethrow_list}
 use Rattle.eh_cxa.specs.Lists.{Record, Entry, Free, OutOfUse, Live, Lists, entry, state_in}
 use Rattle.eh_cxa.specs.Stands as cxa
 use Rattle.eh_cxa.specs.States.{is_fresh, is_caught}
@@ -13,35 +13,35 @@ use Rattle.eh_cxa.specs.declared.globals.CxaFault.{CxaFault}
 use Rattle.eh_cxa.specs.declared.layout.TheConstants.{SLOTS, NEXT_CAUGHT}
 use Rattle.eh_cxa.specs.declared.state.State.TheVariants.{Flying}
 use Rattle.eh_gates.specs.State.{Tables}
-use Rattle.eh_gates.specs.Throwing.{handed, barrier_words, barrier_in, throw_event}
+use Rattle.eh_gates.specs.Throwing.{handler_object, barrier_words, barrier_in, throw_event}
 use Rattle.eh_gates.specs.declared.state.Turned.TheVariants.{Went}
 use Rattle.eh_phase.specs.Laws.{goal_of}
 use Rattle.eh_phase.specs.declared.phase1.Barrier.{Barrier}
 use Rattle.eh_phase.specs.declared.phase1.Found.{Found}
 use Rattle.eh_phase.specs.declared.phase1.Found.TheVariants as found
 use Rattle.eh_phase.specs.declared.verdict.Thrown.{Thrown}
-use Rattle.eh_trace.specs.Trace.{Trace, counting, pushed}
+use Rattle.eh_trace.specs.Trace.{Trace, counting, push_event}
 use Rattle.eh_trace.specs.declared.event.Event.{Event}
 use Rattle.eh_trace.specs.declared.event.EventKind.{EventKind}
 use Rattle.eh_trace.specs.declared.event.EventKind.TheVariants as event
 use Rattle.eh_types.specs.Graph.{row_of}
 use Rattle.frame_check.specs.Accepts.{Accepted}
-use Rattle.eh_machine.proofs.frames_same.FramesSame.{site_is}
-use Rattle.eh_machine.proofs.frames_same.Landing.{fit_frames, rise_outside}
-use Rattle.eh_machine.specs.frames_same.Frames.{IsSiteOf}
-use Rattle.eh_machine.specs.frames_same.Landings.{Fit}
-use Rattle.eh_machine.proofs.stands_for.Goes.{chain_top}
-use Rattle.eh_machine.specs.stands_for.Stands.{Keeps, IsProgram, DoesAt}
+use Rattle.sim_frames.proofs.FramesSame.{site_is}
+use Rattle.sim_frames.proofs.Landing.{fit_frames, rise_outside}
+use Rattle.sim_frames.specs.Frames.{IsSiteOf}
+use Rattle.sim_frames.specs.Landings.{Fit}
+use Rattle.sim_relation.proofs.Goes.{chain_top}
+use Rattle.sim_relation.specs.Stands.{Keeps, IsProgram, DoesAt}
 use Rattle.std.proofs.lemmas.List.{get_or_append_left}
 use Rattle.thumb_core.specs.Registers.{all_of}
 use Rattle.thumb_core.specs.declared.ends.End.TheVariants as the_end
 use Rattle.thumb_core.specs.declared.ends.TrapKind.TheVariants as trap
 use Rattle.thumb_core.specs.declared.regs.TheConstants.{SP}
-use Rattle.eh_machine.specs.thumb_isa.declared.instr.Instr.TheVariants.{Svc}
-use Rattle.eh_machine.specs.two_machines.Activations.{Recorded, reg_in, memory_of, words_in, heads, frames_at, with_words, with_lists, lists_of}
-use Rattle.eh_machine.specs.two_machines.ActivationMachine as machine
-use Rattle.eh_machine.specs.two_machines.Checked.{program_of}
-use Rattle.eh_machine.specs.two_machines.Program.{program_tables}
+use Rattle.thumb_isa.specs.declared.instr.Instr.TheVariants.{Svc}
+use Rattle.sim_machines.specs.Activations.{Recorded, reg_in, memory_of, words_in, heads, frames_at, with_words, with_lists, lists_of}
+use Rattle.sim_machines.specs.ActivationMachine as machine
+use Rattle.sim_machines.specs.Checked.{program_of}
+use Rattle.sim_machines.specs.Program.{program_tables}
 use Rattle.gnu_machine.proofs.Events.{not_went}
 use Rattle.gnu_machine.proofs.Lands.{Arrived, arrives}
 use Rattle.gnu_machine.proofs.PadStates.{SiteState}
@@ -68,8 +68,8 @@ module _ (l : Lists) (slot control : ℕ) (sized : length l.entries ≡ SLOTS) (
       fresh : (b : Bool) (r : Record) → (throw_by_list b l slot r w).answer ≡ Ok control → Flies slot control (throw_by_list b l slot r w).lists
       fresh true r q = record {
         control = answer_is (block slot) control q;
-        flies = ap state_in (get_or-set_same l.entries slot (Live (thrown_record w r)) OutOfUse inside);
-        sized = length-set l.entries slot (Live (thrown_record w r)) ∙ sized;
+        flies = ap state_in (get_or-set_same l.entries slot (Live (record_of_throw w r)) OutOfUse inside);
+        sized = length-set l.entries slot (Live (record_of_throw w r)) ∙ sized;
       }
       fresh false r q = absurd (refused _ control q)
 
@@ -119,30 +119,30 @@ module _ (x : Accepted) (is : IsProgram x) (s t : Recorded) (k : Keeps x s) (num
 
   -- after a search that found a barrier
   module _ (what : EventKind) (quiet : (events : Trace) → (counting what events).catches ≡ events.catches) (thrown : Thrown) where
-    sought : (further : Barrier → Recorded → machine.Outcome) → machine.from_barrier further (machine.sought g s what thrown) ≡ (Went, t)
-        → (b : Barrier) × (told : Event) × ((pushed s.events told).catches ≡ s.events.catches) × (further b (machine.logged s told) ≡ (Went, t))
-    unfolding machine.sought
+    sought : (further : Barrier → Recorded → machine.Outcome) → machine.from_barrier further (machine.find_barrier g s what thrown) ≡ (Went, t)
+        → (b : Barrier) × (told : Event) × ((push_event s.events told).catches ≡ s.events.catches) × (further b (machine.log_event s told) ≡ (Went, t))
+    unfolding machine.find_barrier
     sought further e = go (throw_event what (memory_of s) thrown (machine.size_of (lists_of s) (object_slot thrown.object))) (quiet s.events) (is_some (row_of g.types thrown.ty)) e
       where
-        by : (told : Event) → (pushed s.events told).catches ≡ s.events.catches → (f : Found) → machine.from_barrier further (barrier_in s.regs.pc f, machine.logged s told) ≡ (Went, t)
-            → (b : Barrier) × (told : Event) × ((pushed s.events told).catches ≡ s.events.catches) × (further b (machine.logged s told) ≡ (Went, t))
+        by : (told : Event) → (push_event s.events told).catches ≡ s.events.catches → (f : Found) → machine.from_barrier further (barrier_in s.regs.pc f, machine.log_event s told) ≡ (Went, t)
+            → (b : Barrier) × (told : Event) × ((push_event s.events told).catches ≡ s.events.catches) × (further b (machine.log_event s told) ≡ (Went, t))
         by told h (found.Barrier b) e = (b, told, h, e)
-        by told h (found.Terminate why) e = absurd (not_went (the_end.Terminate why) (machine.logged s told) t e)
-        by told h (found.ObjectRead a) e = absurd (not_went (the_end.Trap trap.ObjectRead a s.regs.pc) (machine.logged s told) t e)
+        by told h (found.Terminate why) e = absurd (not_went (the_end.Terminate why) (machine.log_event s told) t e)
+        by told h (found.ObjectRead a) e = absurd (not_went (the_end.Trap trap.ObjectRead a s.regs.pc) (machine.log_event s told) t e)
 
-        go : (told : Event) → (pushed s.events told).catches ≡ s.events.catches → (b : Bool)
-            → machine.from_barrier further (cond b (barrier_in s.regs.pc (machine.searched g s thrown), machine.logged s told) (Err (the_end.Trap trap.BadType thrown.ty s.regs.pc), s)) ≡ (Went, t)
-            → (b : Barrier) × (told : Event) × ((pushed s.events told).catches ≡ s.events.catches) × (further b (machine.logged s told) ≡ (Went, t))
-        go told h true e = by told h (machine.searched g s thrown) e
+        go : (told : Event) → (push_event s.events told).catches ≡ s.events.catches → (b : Bool)
+            → machine.from_barrier further (cond b (barrier_in s.regs.pc (machine.phase1_result g s thrown), machine.log_event s told) (Err (the_end.Trap trap.BadType thrown.ty s.regs.pc), s)) ≡ (Went, t)
+            → (b : Barrier) × (told : Event) × ((push_event s.events told).catches ≡ s.events.catches) × (further b (machine.log_event s told) ≡ (Went, t))
+        go told h true e = by told h (machine.phase1_result g s thrown) e
         go told h false e = absurd (not_went (the_end.Trap trap.BadType thrown.ty s.regs.pc) s t e)
 
   -- the exception flies
   module _ (slot : ℕ) (small : slot < SLOTS) (lists : Lists) (writes : List Write) (told : Event) (b : Barrier) (f : Flies slot (block slot) lists)
-      (quiet : (pushed s.events told).catches ≡ s.events.catches) where
+      (quiet : (push_event s.events told).catches ≡ s.events.catches) where
     abbrev u : Recorded
-    u = with_words (set_barrier_of (block_slot (block slot)) (barrier_words (block slot) b)) (with_lists lists writes (machine.logged s told))
+    u = with_words (set_barrier_of (block_slot (block slot)) (barrier_words (block slot) b)) (with_lists lists writes (machine.log_event s told))
 
-    flight_arrives : machine.throw_to g s.regs.pc (block slot) b (with_lists lists writes (machine.logged s told)) ≡ (Went, t) → Arrived x s t
+    flight_arrives : machine.throw_to g s.regs.pc (block slot) b (with_lists lists writes (machine.log_event s told)) ≡ (Went, t) → Arrived x s t
     unfolding machine.throw_to
     flight_arrives e =
         let top = chain_top x s.segments s.home s.first.caller s.outer k.chain in
@@ -150,12 +150,12 @@ module _ (x : Accepted) (is : IsProgram x) (s t : Recorded) (k : Keeps x s) (num
         arrives x is s t u slot small f.flies f.sized quiet s.segments k.corresponds.map.segments s.home s.first s.outer s.regs.pc (all_of s.regs) at k.whole k.chain (reg_in s SP) (omega (arith, high, top))
         (subst (λ (n : ℕ). Fit n (frames_at x.image None s.regs.pc (all_of s.regs) s.first s.outer).frames (s.first ∷ s.outer)) sp_is
         (fit_frames x s.segments s.home None s.regs.pc (all_of s.regs) s.first s.outer k.whole k.chain))
-        (k.slots, high, top, rise_outside x s.segments s.home s.first.caller s.outer k.chain) (goal_of b) 0 (handed (block slot) b.hit) e
+        (k.slots, high, top, rise_outside x s.segments s.home s.first.caller s.outer k.chain) (goal_of b) 0 (handler_object (block slot) b.hit) e
 
   pub throw_arrives : machine.throw_gate g s ≡ (Went, t) → Arrived x s t
   throw_arrives e = by (object_slot (reg_in s 0)) refl
     where
-      at_slot : (slot : ℕ) → object_slot (reg_in s 0) ≡ Some slot → (r : Result ℕ CxaFault) → (machine.first_flight s).answer ≡ r → machine.throws g s r ≡ (Went, t) → Arrived x s t
+      at_slot : (slot : ℕ) → object_slot (reg_in s 0) ≡ Some slot → (r : Result ℕ CxaFault) → (machine.first_flight s).answer ≡ r → machine.throw_outcome g s r ≡ (Went, t) → Arrived x s t
       at_slot slot there (Err why) is_answer q = absurd (not_went _ s t q)
       at_slot slot there (Ok control) is_answer q =
           let small = object_small (reg_in s 0) slot there in
@@ -165,11 +165,11 @@ module _ (x : Accepted) (is : IsProgram x) (s t : Recorded) (k : Keeps x s) (num
           subst (λ (o : Option ℕ). Flies slot control (throw_list (lists_of s) o (machine.thrown_words s)).lists) (sym there)
           (thrown_flies (lists_of s) slot control k.corresponds.stands.shows.sized small (machine.thrown_words s)
           (sym (ap (λ (o : Option ℕ). (throw_list (lists_of s) o (machine.thrown_words s)).answer) there) ∙ is_answer)) in
-          let w = sought event.Throw (λ d. refl) (machine.thrown_first s) (λ b u. machine.throw_to g s.regs.pc control b (machine.flies_first u)) q in
+          let w = sought event.Throw (λ d. refl) (machine.gate_thrown s) (λ b u. machine.throw_to g s.regs.pc control b (machine.flies_first u)) q in
           flight_arrives slot small lists writes w.1 w.0 (subst (λ (n : ℕ). Flies slot n lists) f.control f) w.2
-          (subst (λ (n : ℕ). machine.throw_to g s.regs.pc n w.0 (machine.flies_first (machine.logged s w.1)) ≡ (Went, t)) f.control w.3)
+          (subst (λ (n : ℕ). machine.throw_to g s.regs.pc n w.0 (machine.flies_first (machine.log_event s w.1)) ≡ (Went, t)) f.control w.3)
 
-      none : (r : Result ℕ CxaFault) → (machine.first_flight s).answer ≡ r → object_slot (reg_in s 0) ≡ None → machine.throws g s r ≡ (Went, t) → Arrived x s t
+      none : (r : Result ℕ CxaFault) → (machine.first_flight s).answer ≡ r → object_slot (reg_in s 0) ≡ None → machine.throw_outcome g s r ≡ (Went, t) → Arrived x s t
       none (Err why) is_answer f q = absurd (not_went _ s t q)
       none (Ok control) is_answer f q =
           absurd (refused _ control (sym (ap (λ (o : Option ℕ). (throw_list (lists_of s) o (machine.thrown_words s)).answer) f) ∙ is_answer))
@@ -186,7 +186,7 @@ module _ (x : Accepted) (is : IsProgram x) (s t : Recorded) (k : Keeps x s) (num
           let c = subst (λ (ys : List ℕ). cxa.Chain (λ u. word (memory_of s) u NEXT_CAUGHT) (heads (lists_of s)).caught ys) f k.corresponds.stands.shows.caught in
           slot_small (heads (lists_of s)).caught slot c.0
 
-      by : (xs : List ℕ) → s.caught ≡ xs → (r : Result ℕ CxaFault) → (rethrow_list (lists_of s)).answer ≡ r → machine.rethrows g s r ≡ (Went, t) → Arrived x s t
+      by : (xs : List ℕ) → s.caught ≡ xs → (r : Result ℕ CxaFault) → (rethrow_list (lists_of s)).answer ≡ r → machine.rethrow_outcome g s r ≡ (Went, t) → Arrived x s t
       by xs f (Err why) is_answer q = absurd (not_went _ s t q)
       by [] f (Ok control) is_answer q = absurd (refused _ control (sym (ap (λ (ys : List ℕ). (rethrow_from (lists_of s) ys).answer) f) ∙ is_answer))
       by (slot ∷ more) f (Ok control) is_answer q =
@@ -197,6 +197,6 @@ module _ (x : Accepted) (is : IsProgram x) (s t : Recorded) (k : Keeps x s) (num
           subst (λ (ys : List ℕ). Flies slot control (rethrow_from (lists_of s) ys).lists) (sym f)
           (again_flies (lists_of s) slot control k.corresponds.stands.shows.sized small
           (sym (ap (λ (ys : List ℕ). (rethrow_from (lists_of s) ys).answer) f) ∙ is_answer)) in
-          let w = sought event.Rethrow (λ d. refl) (machine.thrown_of_slot (lists_of s) (block_slot control)) (λ b u. machine.throw_to g s.regs.pc control b (machine.flies_again u)) q in
+          let w = sought event.Rethrow (λ d. refl) (machine.slot_thrown (lists_of s) (block_slot control)) (λ b u. machine.throw_to g s.regs.pc control b (machine.flies_again u)) q in
           flight_arrives slot small lists writes w.1 w.0 (subst (λ (n : ℕ). Flies slot n lists) w0.control w0) w.2
-          (subst (λ (n : ℕ). machine.throw_to g s.regs.pc n w.0 (machine.flies_again (machine.logged s w.1)) ≡ (Went, t)) w0.control w.3)
+          (subst (λ (n : ℕ). machine.throw_to g s.regs.pc n w.0 (machine.flies_again (machine.log_event s w.1)) ≡ (Went, t)) w0.control w.3)

@@ -1,29 +1,29 @@
 -- One event of GNU's code, from what the machine's turn and the handing over have done.
 use Rattle.std.proofs.Common.{◌≡◌, ℕ, List, Bool, true, false, Option, Some, None, IfSome, sym, ap, ◌∙◌}
 use Rattle.std.specs.Bool.{OnFalse}
-use Rattle.eh_machine.specs.event_runs.Runs.{Goes}
+use Rattle.run_events.specs.Runs.{Goes}
 use Rattle.eh_gates.specs.State.{State}
 use Rattle.eh_gates.specs.declared.state.Turned.TheVariants.{Went, Ended}
 use Rattle.eh_machine.specs.Turns.{TurnedOnce}
-use Rattle.given_input.specs.Given.{OnGiven}
-use Rattle.guest_gates.specs.Ends.{is_fault}
+use Rattle.run_gates.specs.Given.{OnGiven}
+use Rattle.run_gates.specs.Ends.{is_fault}
 use Rattle.thumb_core.specs.declared.ends.End.{End}
-use Rattle.eh_machine.specs.two_machines.Program.{Program}
+use Rattle.sim_machines.specs.Program.{Program}
 use Rattle.gnu_machine.specs.Done.{TurnedGnu}
-use Rattle.gnu_machine.specs.GnuMachine.{on_goes, given_after, gnu_event}
+use Rattle.gnu_machine.specs.GnuMachine.{map_goes, with_arguments_after, gnu_event}
 
 on_false : (b : Bool) (P Q : Type 0) → OnFalse b P → (P → Q) → OnFalse b Q
 on_false true P Q p f = tt
 on_false false P Q p f = f p
 
 -- it went on, and the pad was given what it is given
-module _ (p : Program) (filters : List (ℕ × ℕ)) (old mid new : State) (same : new ≡ given_after p.types filters old mid) where
+module _ (p : Program) (filters : List (ℕ × ℕ)) (old mid new : State) (same : new ≡ with_arguments_after p.types filters old mid) where
   goes : (input : List ℕ) (left before now : Option (List ℕ)) → TurnedOnce p old input Went mid left before now → TurnedGnu p filters old input Went new left before now
   unfolding gnu_event
   goes input left before now g = record {
     text = g.text;
     rest = g.rest;
-    is = ap (on_goes (given_after p.types filters old)) g.is ∙ ap (λ (s : State). Goes s g.text g.rest) (sym same);
+    is = ap (map_goes (with_arguments_after p.types filters old)) g.is ∙ ap (λ (s : State). Goes s g.text g.rest) (sym same);
     leaves = g.leaves;
     wrote = g.wrote;
   }
@@ -43,7 +43,7 @@ module _ (p : Program) (filters : List (ℕ × ℕ)) (old new : State) (end : En
       → TurnedGnu p filters old input (Ended end) new left before now
   unfolding gnu_event
   ends input left before now e = record {
-    is = on_false (is_fault end) _ _ e.is (λ q. ap (on_goes (given_after p.types filters old)) q);
+    is = on_false (is_fault end) _ _ e.is (λ q. ap (map_goes (with_arguments_after p.types filters old)) q);
     fails = e.fails;
     leaves = e.leaves;
     wrote = e.wrote;

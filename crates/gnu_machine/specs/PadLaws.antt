@@ -1,6 +1,6 @@
--- What a landing pad of GNU's code is given, in the words of the code at the pad (docs/gnu-machine.md).
+-- What a landing pad of GNU code is given, told from the side of the pad's code (docs/rules/gnu-tables.md).
 use Rattle.std.specs.Prelude.{◌≡◌, ℕ, ◌<◌, ◌≤◌, List, Some, None, Ok, length}
-use Rattle.eh_machine.specs.event_runs.Runs.{Goes, Ends}
+use Rattle.run_events.specs.Runs.{Goes, Ends}
 use Rattle.eh_bus.specs.Memory.{load}
 use Rattle.eh_bus.specs.Map.{IsMap}
 use Rattle.eh_cxa.specs.Words.{word, block_slot}
@@ -10,11 +10,11 @@ use Rattle.eh_types.specs.Graph.{kind_of}
 use Rattle.eh_types.specs.declared.kind.TypeKind.TheVariants.{Pointer}
 use Rattle.gnu_descriptors.specs.Filters.{filter_in}
 use Rattle.thumb_core.specs.declared.ends.End.{End}
-use Rattle.eh_machine.specs.two_machines.Machine.{machine_event}
-use Rattle.eh_machine.specs.two_machines.Program.{Program}
+use Rattle.sim_machines.specs.Machine.{machine_event}
+use Rattle.sim_machines.specs.Program.{Program}
 use Rattle.gnu_machine.specs.GnuMachine.{gnu_event}
 
--- all of a state but one register is that of another
+-- two states that differ in one register only
 pub record SameBut (k : ℕ) (t u : State) : Type 0 where
   pub others : (j : ℕ) → (j ≡ k → ⊥) → reg u j ≡ reg t j
   pub pc : u.regs.pc ≡ t.regs.pc
@@ -27,27 +27,27 @@ pub record SameBut (k : ℕ) (t u : State) : Type 0 where
 
 -- ---- at a catch whose descriptor has a filter
 
--- the words of a slot's barrier: the frame's sp and the descriptor are as they were, and the handler is given the same by word 0 and by word 2
-pub record Barred (slot : ℕ) (t u : State) : Type 0 where
+-- the words of a slot's barrier: the frame's sp and the descriptor are unchanged, and words 0 and 2 both give the handler the same
+pub record KeepsBarrierFrame (slot : ℕ) (t u : State) : Type 0 where
   pub sp : word u.memory slot BARRIER_SP ≡ word t.memory slot BARRIER_SP
   pub desc : word u.memory slot BARRIER_DESCRIPTOR ≡ word t.memory slot BARRIER_DESCRIPTOR
   pub pointer : word u.memory slot BARRIER_POINTER ≡ word u.memory slot BARRIER_OBJECT
 
--- what the handler is given: where the thrown type is a pointer, the pointer that stands at the address; of any other type the address
+-- what the handler is given: if the thrown type is a pointer, the pointer at the address; otherwise the address
 pub record GivenByValue (p : Program) (slot : ℕ) (t u : State) : Type 0 where
   pub pointer : (flags pointee value : ℕ) → kind_of p.types (word t.memory slot TYPE) ≡ Some (Pointer flags pointee)
       → load 4 t.memory (word t.memory slot BARRIER_OBJECT) ≡ Ok value → word u.memory slot BARRIER_OBJECT ≡ value
   pub other : ((flags pointee : ℕ) → kind_of p.types (word t.memory slot TYPE) ≡ Some (Pointer flags pointee) → ⊥)
       → word u.memory slot BARRIER_OBJECT ≡ word t.memory slot BARRIER_OBJECT
 
--- r1 is the filter, every other register is what the landing left
-pub record Switched (p : Program) (slot filter : ℕ) (t u : State) : Type 0 where
+-- r1 is the filter, and every other register is as the landing left it
+pub record GivesFilter (p : Program) (slot filter : ℕ) (t u : State) : Type 0 where
   pub switch : reg u 1 ≡ filter
   pub same : SameBut 1 t u
-  pub barrier : Barred slot t u
+  pub barrier : KeepsBarrierFrame slot t u
   pub value : GivenByValue p slot t u
 
--- The machine's event goes on and lands at a catch, by the totals of its events, with the control block of a slot in r0.
+-- The machine's event goes on and enters a catch, by the totals of its events, with the control block of a slot in r0.
 pub record LandsAtCatch (p : Program) (s t : State) (input text left : List ℕ) (slot : ℕ) : Type 0 where
   pub goes : machine_event p s input ≡ Goes t text left
   pub rose : s.events.catches < t.events.catches
@@ -60,9 +60,9 @@ abbrev pub CatchesGetTheirFilter : Type 0
 CatchesGetTheirFilter =
     (p : Program) (filters : List (ℕ × ℕ)) (s t : State) (input text left : List ℕ) (slot filter : ℕ) → LandsAtCatch p s t input text left slot
     → filter_in filters (word t.memory slot BARRIER_DESCRIPTOR) ≡ Some filter
-    → (u : State) × (gnu_event p filters s input ≡ Goes u text left) × Switched p slot filter t u
+    → (u : State) × (gnu_event p filters s input ≡ Goes u text left) × GivesFilter p slot filter t u
 
--- .. and where it has none nothing is given
+-- .. and if it has none, nothing is given
 abbrev pub CatchesWithoutFilterGetNothing : Type 0
 CatchesWithoutFilterGetNothing =
     (p : Program) (filters : List (ℕ × ℕ)) (s t : State) (input text left : List ℕ) (slot : ℕ) → LandsAtCatch p s t input text left slot
@@ -71,7 +71,7 @@ CatchesWithoutFilterGetNothing =
 -- ---- in a cleanup
 
 -- r0 is the control block of the innermost cleanup in progress; nothing else is changed
-pub record Blocked (t u : State) : Type 0 where
+pub record GivesBlock (t u : State) : Type 0 where
   pub block : reg u 0 ≡ t.globals.cleanup
   pub same : SameBut 0 t u
   pub memory : u.memory ≡ t.memory
@@ -80,11 +80,11 @@ abbrev pub CleanupsGetTheirBlock : Type 0
 CleanupsGetTheirBlock =
     (p : Program) (filters : List (ℕ × ℕ)) (s t : State) (input text left : List ℕ) → machine_event p s input ≡ Goes t text left
     → t.events.catches ≤ s.events.catches → s.events.cleanups < t.events.cleanups → length t.regs.r ≡ 15
-    → (u : State) × (gnu_event p filters s input ≡ Goes u text left) × Blocked t u
+    → (u : State) × (gnu_event p filters s input ≡ Goes u text left) × GivesBlock t u
 
 -- ---- elsewhere
 
--- an event that lands neither at a catch nor in a cleanup is the machine's, and so is one that ends the run
+-- an event that enters neither a catch nor a cleanup is the machine's own, and so is one that ends the run
 abbrev pub OthersGetNothing : Type 0
 OthersGetNothing =
     (p : Program) (filters : List (ℕ × ℕ)) (s t : State) (input text left : List ℕ) → machine_event p s input ≡ Goes t text left

@@ -1,4 +1,4 @@
-//! What code of GNU's is given at a landing pad (docs/gnu-machine.md, "What a pad is given").
+//! What the code of a GNU C++ image is given at a landing pad (docs/rules/gnu-tables.md, "What a landing pad is given").
 ghost use Rattle.std.specs.Prelude.{◌≡◌};
 ghost use Rattle.std.specs.List.Sorted.{IsStrictlySortedBy};
 ghost use Rattle.std.specs.Ordering.{nat_cmp};
@@ -6,9 +6,9 @@ ghost use Rattle.std.specs.Map.{keys_of};
 ghost use Rattle.eh_cxa.specs.Words.{block_slot};
 ghost use Rattle.eh_gates.specs.State.{State, state_of};
 ghost use Rattle.eh_trace.specs.Trace.{Trace};
-ghost use Rattle.guest_gates.specs.Gates.{r0};
-ghost use Rattle.gnu_machine.specs.Handed.{totals_of, landing_after, by_value, at_catch, handed};
-ghost use Rattle.gnu_machine.specs.GnuMachine.{found_in, given};
+ghost use Rattle.run_gates.specs.Gates.{r0};
+ghost use Rattle.gnu_machine.specs.Handed.{totals_of, landing_after, by_value, at_catch, pad_arguments};
+ghost use Rattle.gnu_machine.specs.GnuMachine.{state_view, with_arguments};
 
 use eh_bus::bus::Bus;
 use eh_cxa::pool::slot_of_block;
@@ -17,25 +17,27 @@ use eh_machine::Core;
 use eh_trace::{EventKind, Events};
 use eh_types::TypeKind;
 use frame_check::Accepted;
-use gnu_images::filter_of;
+use gnu_index::filter_of;
 
-/// Where an event landed that hands something over.
+/// The kind of landing pad that an event entered.
 #[derive(Clone, Copy)]
-pub enum Landing {
+pub enum PadKind {
     /// At a catch.
     Catch,
     /// In a cleanup.
     Cleanup,
 }
 
-/// How many catches and cleanups were entered.
+/// How many catches and cleanups were entered in a run.
 #[derive(Clone, Copy)]
 pub struct Totals {
+    /// The number of handlers entered.
     pub catches: u64,
+    /// The number of cleanups entered.
     pub cleanups: u64,
 }
 
-/// Those of the events so far.
+/// The totals of the events so far.
 pub(crate) fn totals_of(events: &Events) -> Totals
     ensures { result ≡ totals_of events.now }
 {
@@ -45,20 +47,20 @@ pub(crate) fn totals_of(events: &Events) -> Totals
     }
 }
 
-/// Where an event landed, by the totals before and after it.
-fn landing_after(before: Totals, after: Totals) -> Option<Landing>
+/// The kind of landing pad that an event entered, from the totals before and after it. None if it entered neither.
+fn landing_after(before: Totals, after: Totals) -> Option<PadKind>
     ensures { result ≡ landing_after before after }
 {
     if before.catches < after.catches {
-        Some(Landing::Catch)
+        Some(PadKind::Catch)
     } else if before.cleanups < after.cleanups {
-        Some(Landing::Cleanup)
+        Some(PadKind::Cleanup)
     } else {
         None
     }
 }
 
-/// What a handler is given in place of the address of what it catches: of a pointer the pointer.
+/// What a handler gets in place of the address of the object. If the object is a pointer, the handler gets the pointer.
 fn by_value<B: Bus>(bus: &B, kind: Option<TypeKind>, address: u32) -> u32
     ensures { result ≡ by_value (B.memory bus.now).segments kind address }
 {
@@ -71,12 +73,12 @@ fn by_value<B: Bus>(bus: &B, kind: Option<TypeKind>, address: u32) -> u32
     }
 }
 
-/// Gives a handler the filter of its catch, where it has one, and what it caught by value.
-fn hand_to_catch<B: Bus>(a: &Accepted, filters: &[(u32, u32)], core: &mut Core, bus: &mut B)
+/// Gives a handler the filter of its catch, if its descriptor has one, and the object that it caught by value.
+fn give_catch_arguments<B: Bus>(a: &Accepted, filters: &[(u32, u32)], core: &mut Core, bus: &mut B)
     requires { IsStrictlySortedBy nat_cmp (keys_of filters.now) }
     ensures { (events : Trace) →
         let old : State = state_of core.old (B.memory bus.old) events in
-        state_of core.new (B.memory bus.new) events ≡ given old (at_catch a.now.types filters.now (found_in old) (block_slot (r0 core.old.regs))) }
+        state_of core.new (B.memory bus.new) events ≡ with_arguments old (at_catch a.now.types filters.now (state_view old) (block_slot (r0 core.old.regs))) }
 {
     let control = core.regs.r[0];
     if slot_of_block(control).is_none() {
@@ -98,8 +100,8 @@ fn hand_to_catch<B: Bus>(a: &Accepted, filters: &[(u32, u32)], core: &mut Core, 
     core.regs.r[1] = filter;
 }
 
-/// Gives a landing pad what it is given, where an event landed at one: `before` has the totals before the event. Takes no memory.
-pub(crate) fn hand_over<B: Bus>(
+/// Gives a landing pad what its code expects, if the event entered one. `before` has the totals before the event. Takes no memory.
+pub(crate) fn give_pad_arguments<B: Bus>(
     a: &Accepted,
     filters: &[(u32, u32)],
     before: Totals,
@@ -109,11 +111,11 @@ pub(crate) fn hand_over<B: Bus>(
 )
     requires { IsStrictlySortedBy nat_cmp (keys_of filters.now) }
     ensures { let old : State = state_of core.old (B.memory bus.old) events.now in
-        state_of core.new (B.memory bus.new) events.now ≡ given old (handed a.now.types filters.now (found_in old) (landing_after before (totals_of events.now))) }
+        state_of core.new (B.memory bus.new) events.now ≡ with_arguments old (pad_arguments a.now.types filters.now (state_view old) (landing_after before (totals_of events.now))) }
 {
     match landing_after(before, totals_of(events)) {
-        Some(Landing::Catch) => hand_to_catch(a, filters, core, bus),
-        Some(Landing::Cleanup) => core.regs.r[0] = core.globals.cleanup,
+        Some(PadKind::Catch) => give_catch_arguments(a, filters, core, bus),
+        Some(PadKind::Cleanup) => core.regs.r[0] = core.globals.cleanup,
         None => {}
     }
 }

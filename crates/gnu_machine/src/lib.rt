@@ -1,5 +1,5 @@
-//! The run of an accepted image whose unwind tables were rewritten from those of GNU's C++ compiler: the machine that unwinds, and at each landing
-//! pad what its code is given there (docs/gnu-machine.md).
+//! The run of an accepted image whose unwind tables were rewritten from those of a GNU C++ compiler. It is the machine that unwinds; at
+//! each landing pad it also gives what the pad's code expects (docs/rules/gnu-tables.md).
 #![tactic(auto)]
 
 pub mod handing;

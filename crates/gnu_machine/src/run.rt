@@ -1,18 +1,18 @@
-//! The run of at most so many events, with what code of GNU's is given at its landing pads (docs/gnu-machine.md).
+//! Runs of at most a given number of events, which give GNU C++ code what it expects at its landing pads (docs/rules/gnu-tables.md).
 ghost use Rattle.std.specs.Prelude.{◌≡◌, IfSome};
 ghost use Rattle.std.specs.List.Sorted.{IsStrictlySortedBy};
 ghost use Rattle.std.specs.Ordering.{nat_cmp};
 ghost use Rattle.std.specs.Map.{keys_of};
-ghost use Rattle.eh_machine.specs.event_runs.Runs.{Runs};
+ghost use Rattle.run_events.specs.Runs.{Runs};
 ghost use Rattle.eh_gates.specs.State.{State, state_of};
-ghost use Rattle.given_input.specs.Given.{OnGiven};
-ghost use Rattle.given_input.specs.Runs.{RunsGiven};
-ghost use Rattle.eh_machine.specs.two_machines.Checked.{program_of};
+ghost use Rattle.run_gates.specs.Given.{OnGiven};
+ghost use Rattle.run_gates.specs.Runs.{RunsGiven};
+ghost use Rattle.sim_machines.specs.Checked.{program_of};
 ghost use Rattle.eh_machine.specs.Turns.{CountsFaults};
 ghost use Rattle.gnu_machine.specs.GnuMachine.{gnu_machine_of};
 ghost use Rattle.gnu_machine.specs.Done.{TurnedGnu, FollowsGnuRun};
 
-use crate::handing::{hand_over, totals_of};
+use crate::handing::{give_pad_arguments, totals_of};
 use crate::laws::gnu_turns_same;
 use eh_bus::bus::Bus;
 use eh_machine::{Core, Machine, Shared, Turned, turn};
@@ -21,8 +21,8 @@ use eh_trace::Events;
 use frame_check::Accepted;
 use thumb_core::ends::End;
 
-/// One event: the machine's, and where it goes on and lands, what the pad is given. The filters of catches stand in rising order of the
-/// addresses of their descriptors.
+/// One event of the machine; if it enters a landing pad, the pad is given what its code expects. The filters are sorted by the addresses of
+/// their descriptors.
 fn gnu_turn<B: Bus, I: Source, O: Sink>(
     a: &Accepted,
     filters: &[(u32, u32)],
@@ -46,17 +46,18 @@ fn gnu_turn<B: Bus, I: Source, O: Sink>(
     let before = totals_of(events);
     match turn(a, core, shared, events, input, out) {
         Turned::Went => {
-            hand_over(a, filters, before, core, &mut shared.bus, events);
+            give_pad_arguments(a, filters, before, core, &mut shared.bus, events);
             Turned::Went
         }
         Turned::Ended(end) => Turned::Ended(end),
     }
 }
 
-/// Runs an image whose tables were rewritten from GNU's until an event ends the run or none is left of the budget (`left`); the event that ends
-/// it counts too. Each event is that of `Machine::run`, and each landing pad is given what GNU's code expects there: `filters` has the filters of
-/// catches by the addresses of their descriptors, which rise. A further run goes on from where this one came to. Where the source tells nothing
-/// each event is on bytes that it gave (`given`). It is a run with recorded activations. Takes no memory.
+/// Runs an image whose tables were rewritten from GNU's until an event ends the run or the budget (`left`) is spent. The event that ends
+/// the run counts too. Each event is that of `Machine::run`, and each landing pad is given what its code expects. `filters` pairs the
+/// address of a catch descriptor with its filter, in rising order of the addresses. A further call goes on where this one stopped. If the
+/// source doesn't tell what it holds, each event is one on bytes that it gave (`given`). The machine with recorded activations makes the
+/// same run. Takes no memory.
 pub fn gnu_run<B: Bus, I: Source, O: Sink>(
     machine: &mut Machine<B>,
     filters: &[(u32, u32)],

@@ -2,13 +2,13 @@
 use Rattle.std.proofs.Common.{◌≡◌, ℕ, ◌+◌, ◌≤◌, ◌<◌, Bool, true, false, cond, List, [], ◌∷◌, ◌++◌, length, refl, sym, ◌∙◌, arith, subst}
 use Rattle.std.specs.List.{filter}
 use Rattle.std.proofs.lemmas.Bool.{true≢false}
-use Rattle.relocatable_object.specs.declared.place.Section.{Section}
-use Rattle.relocatable_object.specs.declared.place.Section.TheVariants.{Text, Rodata, Extab, Init, Bss}
-use Rattle.relocatable_object.specs.Sections.{same_section}
-use Rattle.relocatable_object.specs.declared.object.Reloc.{Reloc}
-use Rattle.relocatable_object.specs.Fields.{StandInOrder, bytes_at}
+use Rattle.asm_relocatable.specs.declared.place.Section.{Section}
+use Rattle.asm_relocatable.specs.declared.place.Section.TheVariants.{Text, Rodata, Extab, Init, Bss}
+use Rattle.asm_relocatable.specs.Sections.{same_section}
+use Rattle.asm_relocatable.specs.declared.object.Reloc.{Reloc}
+use Rattle.asm_relocatable.specs.Fields.{StandInOrder, bytes_at}
 use Rattle.asm_object.proofs.ObjectLaws.{law_of_fields}
-use Rattle.relocatable_object.specs.Relocations.{field_size}
+use Rattle.asm_relocatable.specs.Relocations.{field_size}
 use Rattle.eh_link.specs.FieldLaw.{IsInField, IsInNoField}
 use Rattle.link_laws.specs.AssembledLaw.{AssembledFieldsStandAlone}
 

@@ -12,7 +12,7 @@ use Rattle.thumb_isa.specs.declared.instr.Instr.{Instr}
 use Rattle.thumb_isa.specs.declared.instr.Instr.TheVariants.{LdrLit, Adr, BWide, Cbz}
 use Rattle.thumb_isa.specs.declared.profile.Profile.TheVariants.{Two}
 use Rattle.thumb_isa.proofs.Table.{ldr_lit, adr}
-use Rattle.thumb_encode.specs.Codes.{IsCodeIn, encoded_of, refused_if, with_field, target_field, cbz_field, b_wide_code}
+use Rattle.thumb_encode.specs.Codes.{IsCodeIn, encode_result, refused_if, with_field, target_field, cbz_field, b_wide_code}
 use Rattle.thumb_encode.proofs.Long.{b_wide_code as wide_decodes}
 use Rattle.thumb_encode.proofs.LateForms.{cbz_code}
 use Rattle.thumb_encode.specs.declared.code.Code.{Code}
@@ -77,13 +77,13 @@ pub no_literal : (high : Bool) (f : ℕ → Code) (c : Code) → refused_if high
 no_literal true f c e = cc
 no_literal false f c e = cc
 
-pub adr_means : (d : ℕ) (off : ℤ) (c : Code) → encoded_of (Adr d off) ≡ Ok c → Means c (Adr d off)
+pub adr_means : (d : ℕ) (off : ℤ) (c : Code) → encode_result (Adr d off) ≡ Ok c → Means c (Adr d off)
 adr_means d (pos n) c e =
     let is = literal_is 0xa000 d n c e in
     rw is.is (adr_half d n is.low is.near is.fourth)
 adr_means d (negsuc n) c e = absurd (no_literal (nat_lt 7 d) (λ words. code.Half (0xa000 + d * 2 ^ 8 + words)) c e)
 
-pub load_means : (t : ℕ) (off : ℤ) (c : Code) → encoded_of (LdrLit t off) ≡ Ok c → Means c (LdrLit t off)
+pub load_means : (t : ℕ) (off : ℤ) (c : Code) → encode_result (LdrLit t off) ≡ Ok c → Means c (LdrLit t off)
 load_means t (pos n) c e =
     let is = literal_is 0x4800 t n c e in
     rw is.is (load_half t n is.low is.near is.fourth)
@@ -91,7 +91,7 @@ load_means t (negsuc n) c e = absurd (no_literal (nat_lt 7 t) (λ words. code.Ha
 
 -- ---- `b.w`
 
-wide_code : (off : ℤ) (c : Code) → encoded_of (BWide off) ≡ Ok c → IsCodeIn Two c (BWide off)
+wide_code : (off : ℤ) (c : Code) → encode_result (BWide off) ≡ Ok c → IsCodeIn Two c (BWide off)
 wide_code off c e =
     let there = field_there (target_field (2 ^ 24) off) b_wide_code c e in
     let target = target_back (2 ^ 24) off there.0 there.1 in
@@ -107,13 +107,13 @@ wide_small t h =
     let two = bit_below (t / 2 ^ 21 % 2 == t / 2 ^ 23) in
     (omega arith, omega arith)
 
-wide_is_small : (off : ℤ) (c : Code) → encoded_of (BWide off) ≡ Ok c → IsSmall c
+wide_is_small : (off : ℤ) (c : Code) → encode_result (BWide off) ≡ Ok c → IsSmall c
 wide_is_small off c e =
     let there = field_there (target_field (2 ^ 24) off) b_wide_code c e in
     let target = target_back (2 ^ 24) off there.0 there.1 in
     rw (← there.2) (wide_small there.0 target.below)
 
-pub wide_means : (off : ℤ) (c : Code) → encoded_of (BWide off) ≡ Ok c → Means c (BWide off)
+pub wide_means : (off : ℤ) (c : Code) → encode_result (BWide off) ≡ Ok c → Means c (BWide off)
 wide_means off c e = record { means = late_in_each c (BWide off) refl (wide_code off c e); small = wide_is_small off c e }
 
 -- ---- `cbz` and `cbnz`
@@ -147,7 +147,7 @@ near (pos n) t e = by (nat_lt 126 n) (n % 2 == 0) refl refl e
         record { below = omega (arith, is, low); back = ap pos (let same : t * 2 ≡ n = omega (arith, is, whole) in same) }
 near (negsuc n) t e = absurd (cc)
 
-pub zero_means : (nonzero : Bool) (n : ℕ) (off : ℤ) (c : Code) → encoded_of (Cbz nonzero n off) ≡ Ok c → Means c (Cbz nonzero n off)
+pub zero_means : (nonzero : Bool) (n : ℕ) (off : ℤ) (c : Code) → encode_result (Cbz nonzero n off) ≡ Ok c → Means c (Cbz nonzero n off)
 zero_means nonzero n off c e =
     let half : ℕ → Code = λ t. code.Half (0xb100 + from_bool nonzero * 2 ^ 11 + t / 2 ^ 5 * 2 ^ 9 + t % 2 ^ 5 * 2 ^ 3 + n) in
     let known = named (nat_lt 7 n) (with_field (cbz_field off) half) c e in

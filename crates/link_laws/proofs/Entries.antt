@@ -4,20 +4,20 @@ use Rattle.std.specs.List.{list_any}
 use Rattle.std.specs.Option.{option_map_or}
 use Rattle.std.proofs.lemmas.Bool.{true≢false}
 use Rattle.eh_word.specs.Names.{same_bytes}
-use Rattle.relocatable_object.specs.declared.place.Section.TheVariants.{Text}
-use Rattle.relocatable_object.specs.declared.object.Mark.{Mark}
-use Rattle.relocatable_object.specs.declared.object.Object.{Object}
+use Rattle.asm_relocatable.specs.declared.place.Section.TheVariants.{Text}
+use Rattle.asm_relocatable.specs.declared.object.Mark.{Mark}
+use Rattle.asm_relocatable.specs.declared.object.Object.{Object}
 use Rattle.elf_write.specs.declared.parts.ImageParts.{ImageParts}
 use Rattle.elf_write.specs.declared.parts.OwnSymbol.{OwnSymbol}
 use Rattle.eh_link.specs.declared.fault.LinkFault.{LinkFault}
 use Rattle.eh_link.specs.declared.fault.LinkFault.TheVariants.{Duplicate, Undefined, NoEntry}
 use Rattle.eh_link.specs.declared.names.Meaning.{Meaning}
 use Rattle.eh_link.specs.declared.places.Addresses.{Addresses}
-use Rattle.eh_link.specs.declared.places.Layout.{Layout}
-use Rattle.eh_link.specs.Placed.{Placed}
-use Rattle.eh_link.specs.Layout.{address_in, aligned, layout_of, firsts, all_aligned, ends, placed_from, placed_of}
-use Rattle.eh_link.specs.Symbols.{duplicate_of, undefined_of, has_entry, is_entry, first_label, first_in, mark_symbol, mark_symbols, words_between, exported, symbols_of}
-use Rattle.eh_link.specs.Linked.{entry_of, parts_of, linked}
+use Rattle.eh_link.specs.declared.places.ImageLayout.{ImageLayout}
+use Rattle.eh_link.specs.Placed.{PlacedObject}
+use Rattle.eh_link.specs.Layout.{address_in, align_to_word, layout_of, firsts, align_all, part_ends, place_objects_from, place_objects}
+use Rattle.eh_link.specs.Symbols.{duplicate_of, first_undefined, has_entry, is_entry, first_label, first_in, mark_symbol, mark_symbols, words_between, exported_symbols, symbols_of}
+use Rattle.eh_link.specs.Linked.{entry_of, parts_of, link_result}
 use Rattle.link_laws.specs.MeaningLaw.{HasMeaning, IsOneOf}
 use Rattle.link_laws.specs.LabelLaw.{Has}
 use Rattle.link_laws.specs.EntryLaw.{mapping_at, MarksAreMapped, EntriesAreFunctions}
@@ -35,15 +35,15 @@ has_map {A = A} {B = B} f xs x h =
     both [] = refl
     both (y ∷ before) = ap (λ l. f y ∷ l) (both before)
 
-marks_there : (layout : Layout) (all : List Placed) (symbol : OwnSymbol) → Has (flat_map mark_symbols all) symbol → Has (symbols_of layout all) symbol
+marks_there : (layout : ImageLayout) (all : List PlacedObject) (symbol : OwnSymbol) → Has (flat_map mark_symbols all) symbol → Has (symbols_of layout all) symbol
 unfolding symbols_of
 marks_there layout all symbol h =
     has_left
-    (flat_map mark_symbols all ++ words_between (aligned layout.text_end) layout.rodata_end ++ words_between (aligned layout.rodata_end) layout.extab_end ++ words_between layout.index_start layout.code_end)
-    (flat_map exported all) symbol
-    (has_left (flat_map mark_symbols all ++ words_between (aligned layout.text_end) layout.rodata_end ++ words_between (aligned layout.rodata_end) layout.extab_end) (words_between layout.index_start layout.code_end) symbol
-    (has_left (flat_map mark_symbols all ++ words_between (aligned layout.text_end) layout.rodata_end) (words_between (aligned layout.rodata_end) layout.extab_end) symbol
-    (has_left (flat_map mark_symbols all) (words_between (aligned layout.text_end) layout.rodata_end) symbol h)))
+    (flat_map mark_symbols all ++ words_between (align_to_word layout.text_end) layout.rodata_end ++ words_between (align_to_word layout.rodata_end) layout.extab_end ++ words_between layout.index_start layout.code_end)
+    (flat_map exported_symbols all) symbol
+    (has_left (flat_map mark_symbols all ++ words_between (align_to_word layout.text_end) layout.rodata_end ++ words_between (align_to_word layout.rodata_end) layout.extab_end) (words_between layout.index_start layout.code_end) symbol
+    (has_left (flat_map mark_symbols all ++ words_between (align_to_word layout.text_end) layout.rodata_end) (words_between (align_to_word layout.rodata_end) layout.extab_end) symbol
+    (has_left (flat_map mark_symbols all) (words_between (align_to_word layout.text_end) layout.rodata_end) symbol h)))
 
 pub mapped : (at : Addresses) (mark : Mark) → mark_symbol at mark ≡ mapping_at at.text mark
 mapped at mark = by mark.code refl
@@ -56,42 +56,42 @@ pub law_of_marks : MarksAreMapped
 law_of_marks objects entry image placed one mark e there =
     let own : Has (mark_symbols placed) (mapping_at placed.at.text mark) =
     (let P : OwnSymbol → Type 0 = λ s. Has (mark_symbols placed) s in subst P (mapped placed.at mark) (has_map (mark_symbol placed.at) placed.object.marks mark there)) in
-    let all = has_in mark_symbols (placed_of objects) placed (mapping_at placed.at.text mark) (record { before = one.front; after = one.back; split = one.split }) own in
+    let all = has_in mark_symbols (place_objects objects) placed (mapping_at placed.at.text mark) (record { before = one.front; after = one.back; split = one.split }) own in
     let P : List OwnSymbol → Type 0 = λ symbols. Has symbols (mapping_at placed.at.text mark) in
     record {
       part = placed.at.text;
       begins = begins_at Text objects placed one;
       there =
           subst P (sym (ap (λ (i : ImageParts). i.symbols) (image_is objects entry image e) ∙ made_symbols objects entry))
-          (marks_there (layout_of objects) (placed_of objects) (mapping_at placed.at.text mark) all);
+          (marks_there (layout_of objects) (place_objects objects) (mapping_at placed.at.text mark) all);
     }
 
 -- ---- the entry
 
-pub has_one : (objects : List Object) (entry : List ℕ) (image : ImageParts) → linked objects entry ≡ Ok image → has_entry entry objects ≡ true
-unfolding linked
-has_one objects entry image e = by _ (has_entry entry objects) (none_there (undefined_of objects objects) Undefined _ image (none_there (duplicate_of objects) Duplicate _ image e).1).1
+pub has_one : (objects : List Object) (entry : List ℕ) (image : ImageParts) → link_result objects entry ≡ Ok image → has_entry entry objects ≡ true
+unfolding link_result
+has_one objects entry image e = by _ (has_entry entry objects) (none_there (first_undefined objects objects) Undefined _ image (none_there (duplicate_of objects) Duplicate _ image e).1).1
   where
     by : (later : Result ImageParts LinkFault) (b : Bool) → cond (not b) (Err NoEntry) later ≡ Ok image → b ≡ true
     by later true e = refl
     by later false e = absurd (cc)
 
-some_entry : (name : List ℕ) (at : Addresses) (objects : List Object) → has_entry name objects ≡ true → HasMeaning (first_in (is_entry name) (placed_from at objects))
+some_entry : (name : List ℕ) (at : Addresses) (objects : List Object) → has_entry name objects ≡ true → HasMeaning (first_in (is_entry name) (place_objects_from at objects))
 some_entry name at [] e = absurd (true≢false (sym e))
-some_entry name at (object ∷ more) e = by (list_any (is_entry name) object.symbols) refl e (some_entry name (ends (all_aligned at) object) more)
+some_entry name at (object ∷ more) e = by (list_any (is_entry name) object.symbols) refl e (some_entry name (part_ends (align_all at) object) more)
   where
     own : Option Meaning
-    own = first_label (is_entry name) (record { object = object; at = all_aligned at })
+    own = first_label (is_entry name) (record { object = object; at = align_all at })
 
     rest : Option Meaning
-    rest = first_in (is_entry name) (placed_from (ends (all_aligned at) object) more)
+    rest = first_in (is_entry name) (place_objects_from (part_ends (align_all at) object) more)
 
-    by : (b : Bool) → list_any (is_entry name) object.symbols ≡ b → (b || has_entry name more) ≡ true → (has_entry name more ≡ true → HasMeaning (first_in (is_entry name) (placed_from (ends (all_aligned at) object) more)))
-        → HasMeaning (first_in (is_entry name) (placed_from at (object ∷ more)))
-    by true t e later = first_or own rest (some_symbol (is_entry name) (all_aligned at) object.symbols t)
+    by : (b : Bool) → list_any (is_entry name) object.symbols ≡ b → (b || has_entry name more) ≡ true → (has_entry name more ≡ true → HasMeaning (first_in (is_entry name) (place_objects_from (part_ends (align_all at) object) more)))
+        → HasMeaning (first_in (is_entry name) (place_objects_from at (object ∷ more)))
+    by true t e later = first_or own rest (some_symbol (is_entry name) (align_all at) object.symbols t)
     by false t e later = second_or own rest (later e)
 
-entry_is : (objects : List Object) (entry : List ℕ) → (parts_of objects entry).entry ≡ entry_of entry (placed_of objects)
+entry_is : (objects : List Object) (entry : List ℕ) → (parts_of objects entry).entry ≡ entry_of entry (place_objects objects)
 unfolding parts_of
 entry_is objects entry = refl
 
@@ -102,7 +102,7 @@ and_both false b e = absurd (true≢false (sym e))
 pub law_of_entry : EntriesAreFunctions
 law_of_entry objects entry image e =
     let some = some_entry entry (firsts (layout_of objects)) objects (has_one objects entry image e) in
-    let first = first_there (is_entry entry) (placed_of objects) some.means some.is in
+    let first = first_there (is_entry entry) (place_objects objects) some.means some.is in
     let symbol = first.symbol in
     let fits = and_both symbol.function (symbol.global && same_bytes entry symbol.name) first.own.fits in
     let global = and_both symbol.global (same_bytes entry symbol.name) fits.1 in

@@ -10,26 +10,26 @@ use Rattle.thumb_isa.specs.declared.instr.Instr.{Instr}
 use Rattle.thumb_encode.specs.declared.code.Code.{Code}
 use Rattle.thumb_encode.specs.declared.code.Code.TheVariants as code
 use Rattle.asm_statements.specs.declared.statement.Stmt.{Stmt}
-use Rattle.relocatable_object.specs.declared.place.Section.{Section}
-use Rattle.relocatable_object.specs.declared.place.Section.TheVariants.{Text, Rodata, Extab, Init, Bss}
-use Rattle.relocatable_object.specs.Sections.{same_section}
-use Rattle.relocatable_object.specs.declared.object.Object.{Object}
-use Rattle.relocatable_object.specs.declared.object.Reloc.{Reloc}
-use Rattle.relocatable_object.specs.declared.relocation.FieldKind.{FieldKind}
-use Rattle.relocatable_object.specs.declared.relocation.FieldKind.TheVariants.{Absolute, Relative, Prel31, Call, Jump, CondJump}
+use Rattle.asm_relocatable.specs.declared.place.Section.{Section}
+use Rattle.asm_relocatable.specs.declared.place.Section.TheVariants.{Text, Rodata, Extab, Init, Bss}
+use Rattle.asm_relocatable.specs.Sections.{same_section}
+use Rattle.asm_relocatable.specs.declared.object.Object.{Object}
+use Rattle.asm_relocatable.specs.declared.object.Reloc.{Reloc}
+use Rattle.asm_relocatable.specs.declared.relocation.FieldKind.{FieldKind}
+use Rattle.asm_relocatable.specs.declared.relocation.FieldKind.TheVariants.{Absolute, Relative, Prel31, Call, Jump, CondJump}
 use Rattle.asm_object.specs.Objects.{object_of}
-use Rattle.asm_object.specs.ObjectLaw.{kinds}
-use Rattle.relocatable_object.specs.Fields.{bytes_at}
-use Rattle.relocatable_object.specs.Relocations.{kind_of, width}
+use Rattle.asm_object.specs.ObjectLaw.{relocation_kinds}
+use Rattle.asm_relocatable.specs.Fields.{bytes_at}
+use Rattle.asm_relocatable.specs.Relocations.{kind_of, width}
 use Rattle.asm_object.proofs.ObjectLaws.{law_of_kinds}
 use Rattle.elf_write.specs.declared.parts.ImageParts.{ImageParts}
 use Rattle.eh_link.specs.declared.names.Meaning.{Meaning}
-use Rattle.eh_link.specs.Placed.{Placed}
-use Rattle.eh_link.specs.Layout.{address_in, placed_of}
+use Rattle.eh_link.specs.Placed.{PlacedObject}
+use Rattle.eh_link.specs.Layout.{address_in, place_objects}
 use Rattle.eh_link.specs.Symbols.{meaning_of}
-use Rattle.eh_link.specs.Fields.{part_in, filled, filled_of, unreachable_in, unreachable_for}
+use Rattle.eh_link.specs.Fields.{part_in, fill_fields, fill_object, unreachable_in, unreachable_for}
 use Rattle.eh_link.specs.EquationLaw.{IsField, CodeAt, Decodes}
-use Rattle.eh_link.specs.Linked.{linked}
+use Rattle.eh_link.specs.Linked.{link_result}
 use Rattle.link_laws.proofs.AssembledLaws.{law_of_assembled}
 use Rattle.eh_link.proofs.Equations.{law_of_absolute, law_of_relative, law_of_prel31, law_of_calls, law_of_jumps, law_of_cond_jumps}
 use Rattle.eh_link.proofs.Holding.{filled_length}
@@ -51,8 +51,8 @@ itself Init = refl
 itself Bss = refl
 
 -- a part of a section is the object's bytes with their fields filled
-pub part_is : (s : Section) (all : List Placed) (placed : Placed) → same_section s Bss ≡ false
-    → part_in s (filled_of all placed) ≡ filled (meaning_of all placed) s (address_in s placed.at) (bytes_at s placed.object) placed.object.relocs
+pub part_is : (s : Section) (all : List PlacedObject) (placed : PlacedObject) → same_section s Bss ≡ false
+    → part_in s (fill_object all placed) ≡ fill_fields (meaning_of all placed) s (address_in s placed.at) (bytes_at s placed.object) placed.object.relocs
 part_is Text all placed e = refl
 part_is Rodata all placed e = refl
 part_is Extab all placed e = refl
@@ -68,7 +68,7 @@ has_bytes Init object n size some h = refl
 has_bytes Bss object n size some h = absurd (omega (arith, some, h))
 
 abbrev is_kind : ℕ → Bool
-is_kind number = list_any (λ kind. number == kind) kinds
+is_kind number = list_any (λ kind. number == kind) relocation_kinds
 
 record HasKind (number : ℕ) : Type 0 where
   kind : FieldKind
@@ -117,8 +117,8 @@ wide CondJump = omega arith
 
 -- ---- from a part to the image
 
-code_in : (c : Code) (s : Section) (objects : List Object) (entry : List ℕ) (image : ImageParts) (placed : Placed) (one : IsOneOf objects placed) (k : ℕ) → linked objects entry ≡ Ok image
-    → CodeAt c (part_in s (filled_of (placed_of objects) placed)) k → StandsIn c image (address_in s placed.at + k)
+code_in : (c : Code) (s : Section) (objects : List Object) (entry : List ℕ) (image : ImageParts) (placed : PlacedObject) (one : IsOneOf objects placed) (k : ℕ) → link_result objects entry ≡ Ok image
+    → CodeAt c (part_in s (fill_object (place_objects objects) placed)) k → StandsIn c image (address_in s placed.at + k)
 code_in (code.Half first) s objects entry image placed one k e h = in_image s objects entry image placed one 2 k first e (omega arith) h
 code_in (code.Pair first second) s objects entry image placed one k e h = (
   in_image s objects entry image placed one 2 k first e (omega arith) h.0,
@@ -130,8 +130,8 @@ code_in (code.Pair first second) s objects entry image placed one k e h = (
     regroup a k = omega arith
 
 -- halfwords of a part that decode to an instruction do so in the image
-pub decodes_in : (i : Instr) (s : Section) (objects : List Object) (entry : List ℕ) (image : ImageParts) (placed : Placed) (one : IsOneOf objects placed) (k : ℕ) → linked objects entry ≡ Ok image
-    → Decodes i (part_in s (filled_of (placed_of objects) placed)) k → DecodesAt i image (address_in s placed.at + k)
+pub decodes_in : (i : Instr) (s : Section) (objects : List Object) (entry : List ℕ) (image : ImageParts) (placed : PlacedObject) (one : IsOneOf objects placed) (k : ℕ) → link_result objects entry ≡ Ok image
+    → Decodes i (part_in s (fill_object (place_objects objects) placed)) k → DecodesAt i image (address_in s placed.at + k)
 decodes_in i s objects entry image placed one k e h = record { encoding = h.encoding; there = code_in h.encoding s objects entry image placed one k e h.there; means = h.means }
 
 decodes_same : (i : Instr) (k : ℕ) (xs ys : List ℕ) → xs ≡ ys → Decodes i xs k → Decodes i ys k
@@ -140,21 +140,21 @@ decodes_same i k xs ys e h = let P : List ℕ → Type 0 = λ l. Decodes i l k i
 -- ---- the law
 
 -- a field at the address of the object's part
-pub record FilledAt (objects : List Object) (image : ImageParts) (placed : Placed) (reloc : Reloc) : Type 0 where
+pub record FilledAt (objects : List Object) (image : ImageParts) (placed : PlacedObject) (reloc : Reloc) : Type 0 where
   pub kind : FieldKind
   pub number : kind_of reloc.kind ≡ Some kind
   pub meaning : Meaning
-  pub means : meaning_of (placed_of objects) placed reloc.name ≡ Some meaning
+  pub means : meaning_of (place_objects objects) placed reloc.name ≡ Some meaning
   pub says : FieldSays kind meaning reloc.addend (bytes_at reloc.section placed.object) reloc.offset image (address_in reloc.section placed.at + reloc.offset)
 
-pub filled_at : (objects : List Object) (entry : List ℕ) (image : ImageParts) (placed : Placed) (one : IsOneOf objects placed) (stmts : List Stmt) (before after : List Reloc) (reloc : Reloc)
-    → length stmts < 2 ^ 64 → object_of stmts ≡ Ok placed.object → linked objects entry ≡ Ok image → placed.object.relocs ≡ before ++ reloc ∷ after
+pub filled_at : (objects : List Object) (entry : List ℕ) (image : ImageParts) (placed : PlacedObject) (one : IsOneOf objects placed) (stmts : List Stmt) (before after : List Reloc) (reloc : Reloc)
+    → length stmts < 2 ^ 64 → object_of stmts ≡ Ok placed.object → link_result objects entry ≡ Ok image → placed.object.relocs ≡ before ++ reloc ∷ after
     → FilledAt objects image placed reloc
 filled_at objects entry image placed one stmts before after reloc few accepted e relocs =
     let s = reloc.section in
     let k = reloc.offset in
     let object = placed.object in
-    let all = placed_of objects in
+    let all = place_objects objects in
     let means = meaning_of all placed in
     let start = address_in s placed.at in
     let old = bytes_at s object in
@@ -165,39 +165,39 @@ filled_at objects entry image placed one stmts before after reloc few accepted e
     let given = has_bytes s object k (width has.kind) (some has.kind) inside in
     let meaning = law_of_meanings objects entry image placed before after reloc e one relocs in
     let part = part_is s all placed given in
-    let size : length (part_in s (filled_of all placed)) ≡ length old = ap length part ∙ filled_length means s start old object.relocs in
+    let size : length (part_in s (fill_object all placed)) ≡ length old = ap length part ∙ filled_length means s start old object.relocs in
     let small : start + length old ≤ 0x400000 = omega (arith, size, address_small s objects entry image placed one e) in
     let is : IsField means s old (before ++ after) reloc has.kind meaning.means = record { here = itself s; number = has.is; inside = inside; alone = alone.alone; name = meaning.is } in
-    let whole : filled means s start old (before ++ reloc ∷ after) ≡ part_in s (filled_of all placed) = ap (filled means s start old) (sym relocs) ∙ sym part in
+    let whole : fill_fields means s start old (before ++ reloc ∷ after) ≡ part_in s (fill_object all placed) = ap (fill_fields means s start old) (sym relocs) ∙ sym part in
     let reach : unreachable_in means s start old (before ++ reloc ∷ after) ≡ None =
     ap (unreachable_in means s start old) (sym relocs)
-    ∙ (let P : Placed → Type 0 = λ p. unreachable_for (meaning_of all p) p s ≡ None in mid P one.front placed one.back (subst (All P) one.split (law_of_reach objects entry image s e))) in
+    ∙ (let P : PlacedObject → Type 0 = λ p. unreachable_for (meaning_of all p) p s ≡ None in mid P one.front placed one.back (subst (All P) one.split (law_of_reach objects entry image s e))) in
     record { kind = has.kind; number = has.is; meaning = meaning.means; means = meaning.is; says = by has.kind meaning.means is inside whole reach small }
   where
     some : (kind : FieldKind) → 0 < width kind
     some kind = omega (arith, wide kind)
 
     by : (kind : FieldKind) (meaning : Meaning)
-        → IsField (meaning_of (placed_of objects) placed) reloc.section (bytes_at reloc.section placed.object) (before ++ after) reloc kind meaning
+        → IsField (meaning_of (place_objects objects) placed) reloc.section (bytes_at reloc.section placed.object) (before ++ after) reloc kind meaning
         → reloc.offset + width kind ≤ length (bytes_at reloc.section placed.object)
-        → filled (meaning_of (placed_of objects) placed) reloc.section (address_in reloc.section placed.at) (bytes_at reloc.section placed.object) (before ++ reloc ∷ after)
-        ≡ part_in reloc.section (filled_of (placed_of objects) placed)
-        → unreachable_in (meaning_of (placed_of objects) placed) reloc.section (address_in reloc.section placed.at) (bytes_at reloc.section placed.object) (before ++ reloc ∷ after) ≡ None
+        → fill_fields (meaning_of (place_objects objects) placed) reloc.section (address_in reloc.section placed.at) (bytes_at reloc.section placed.object) (before ++ reloc ∷ after)
+        ≡ part_in reloc.section (fill_object (place_objects objects) placed)
+        → unreachable_in (meaning_of (place_objects objects) placed) reloc.section (address_in reloc.section placed.at) (bytes_at reloc.section placed.object) (before ++ reloc ∷ after) ≡ None
         → address_in reloc.section placed.at + length (bytes_at reloc.section placed.object) ≤ 0x400000
         → FieldSays kind meaning reloc.addend (bytes_at reloc.section placed.object) reloc.offset image (address_in reloc.section placed.at + reloc.offset)
     by Absolute meaning is inside whole reach small =
         in_image reloc.section objects entry image placed one 4 reloc.offset _ e (omega arith)
         (ap (λ l. number_at 4 l reloc.offset) (sym whole)
-        ∙ law_of_absolute (meaning_of (placed_of objects) placed) reloc.section (address_in reloc.section placed.at) (bytes_at reloc.section placed.object) before reloc after meaning is (omega (arith, inside, small)))
+        ∙ law_of_absolute (meaning_of (place_objects objects) placed) reloc.section (address_in reloc.section placed.at) (bytes_at reloc.section placed.object) before reloc after meaning is (omega (arith, inside, small)))
     by Relative meaning is inside whole reach small =
-        let r = law_of_relative (meaning_of (placed_of objects) placed) reloc.section (address_in reloc.section placed.at) (bytes_at reloc.section placed.object) before reloc after meaning is (omega (arith, inside, small)) in
+        let r = law_of_relative (meaning_of (place_objects objects) placed) reloc.section (address_in reloc.section placed.at) (bytes_at reloc.section placed.object) before reloc after meaning is (omega (arith, inside, small)) in
         record {
           word = r.word;
           there = in_image reloc.section objects entry image placed one 4 reloc.offset r.word e (omega arith) (ap (λ l. number_at 4 l reloc.offset) (sym whole) ∙ r.there);
           sum = r.sum;
         }
     by Prel31 meaning is inside whole reach small = λ word there low.
-        let r = law_of_prel31 (meaning_of (placed_of objects) placed) reloc.section (address_in reloc.section placed.at) (bytes_at reloc.section placed.object) before reloc after meaning is (omega (arith, inside, small)) word there low in
+        let r = law_of_prel31 (meaning_of (place_objects objects) placed) reloc.section (address_in reloc.section placed.at) (bytes_at reloc.section placed.object) before reloc after meaning is (omega (arith, inside, small)) word there low in
         record {
           word = r.word;
           there = in_image reloc.section objects entry image placed one 4 reloc.offset r.word e (omega arith) (ap (λ l. number_at 4 l reloc.offset) (sym whole) ∙ r.there);
@@ -208,15 +208,15 @@ filled_at objects entry image placed one stmts before after reloc few accepted e
     by Call meaning is inside whole reach small =
         decodes_in _ reloc.section objects entry image placed one reloc.offset e
         (decodes_same _ reloc.offset _ _ whole
-        (law_of_calls (meaning_of (placed_of objects) placed) reloc.section (address_in reloc.section placed.at) (bytes_at reloc.section placed.object) before reloc after meaning is (omega (arith, inside, small)) reach))
+        (law_of_calls (meaning_of (place_objects objects) placed) reloc.section (address_in reloc.section placed.at) (bytes_at reloc.section placed.object) before reloc after meaning is (omega (arith, inside, small)) reach))
     by Jump meaning is inside whole reach small =
         decodes_in _ reloc.section objects entry image placed one reloc.offset e
         (decodes_same _ reloc.offset _ _ whole
-        (law_of_jumps (meaning_of (placed_of objects) placed) reloc.section (address_in reloc.section placed.at) (bytes_at reloc.section placed.object) before reloc after meaning is (omega (arith, inside, small)) reach))
+        (law_of_jumps (meaning_of (place_objects objects) placed) reloc.section (address_in reloc.section placed.at) (bytes_at reloc.section placed.object) before reloc after meaning is (omega (arith, inside, small)) reach))
     by CondJump meaning is inside whole reach small = λ half there.
         decodes_in _ reloc.section objects entry image placed one reloc.offset e
         (decodes_same _ reloc.offset _ _ whole
-        (law_of_cond_jumps (meaning_of (placed_of objects) placed) reloc.section (address_in reloc.section placed.at) (bytes_at reloc.section placed.object) before reloc after meaning is (omega (arith, inside, small)) reach half there))
+        (law_of_cond_jumps (meaning_of (place_objects objects) placed) reloc.section (address_in reloc.section placed.at) (bytes_at reloc.section placed.object) before reloc after meaning is (omega (arith, inside, small)) reach half there))
 
 pub law_of_filled : FieldsAreFilled
 law_of_filled objects entry image placed one stmts before after reloc few accepted e relocs =

@@ -8,30 +8,30 @@ use Rattle.asm_statements.specs.declared.statement.StmtKind.{StmtKind}
 use Rattle.asm_unwind.specs.declared.entry.EntryWords.{EntryWords}
 use Rattle.thumb_isa.specs.declared.encode_fault.EncodeFault.{EncodeFault}
 use Rattle.asm_layout.specs.declared.fault.AsmWhat.TheVariants.{UndefinedLocal, PoolTooFar, Placement}
-use Rattle.relocatable_object.specs.declared.place.Place.{Place}
-use Rattle.relocatable_object.specs.declared.place.Section.{Section}
-use Rattle.relocatable_object.specs.declared.place.Section.TheVariants.{Text, Rodata, Extab, Init, Bss}
+use Rattle.asm_relocatable.specs.declared.place.Place.{Place}
+use Rattle.asm_relocatable.specs.declared.place.Section.{Section}
+use Rattle.asm_relocatable.specs.declared.place.Section.TheVariants.{Text, Rodata, Extab, Init, Bss}
 use Rattle.asm_layout.specs.declared.walk.Walk.{Walk}
 use Rattle.asm_layout.specs.Functions.{entries_of, no_frame}
-use Rattle.asm_layout.specs.Labels.{Named, labels_of}
+use Rattle.asm_layout.specs.Labels.{NamePlace, labels_of}
 use Rattle.asm_layout.specs.Sizes.{size_in, is_too_large}
-use Rattle.asm_layout.specs.Walks.{start, next, here, coming_pool, walk_after, sizes_with_pool}
-use Rattle.relocatable_object.specs.Sections.{same_section}
-use Rattle.relocatable_object.specs.declared.object.Object.{Object}
-use Rattle.relocatable_object.specs.declared.object.Reloc.{Reloc}
-use Rattle.asm_object.specs.Objects.{joined}
-use Rattle.relocatable_object.specs.Fields.{StandInOrder, bytes_at}
+use Rattle.asm_layout.specs.Walks.{start, next, cursor_place, coming_pool, walk_after, sizes_with_pool}
+use Rattle.asm_relocatable.specs.Sections.{same_section}
+use Rattle.asm_relocatable.specs.declared.object.Object.{Object}
+use Rattle.asm_relocatable.specs.declared.object.Reloc.{Reloc}
+use Rattle.asm_object.specs.Objects.{assembled_object}
+use Rattle.asm_relocatable.specs.Fields.{StandInOrder, bytes_at}
 use Rattle.asm_object.specs.Pieces.{Piece, own_piece, bytes_in, relocs_in, pieces_of}
 use Rattle.asm_object.specs.Refusals.{are_names_known, encode_fault, encode_or, is_pool_too_far, is_misplaced, refusal}
-use Rattle.relocatable_object.specs.Relocations.{field_size}
+use Rattle.asm_relocatable.specs.Relocations.{field_size}
 use Rattle.asm_object.proofs.PlaceLaws.{Fewer, earlier, law_of_bytes, law_of_ends, none_after, none_parts, not_large, own_stands, refusal_parts, split, walks_on}
 use Rattle.asm_object.proofs.ObjectLaws.{IsTaken, OfSection, AllOwn, of_in, all_own, all_stand, earlier_stand, ends_small, entries_count, same_is}
 use Rattle.eh_link.specs.FieldLaw.{IsInNoField}
-use Rattle.source_laws.specs.RowLaw.{walk_over}
+use Rattle.asm_laws.specs.RowLaw.{walk_over}
 use Rattle.link_laws.specs.LabelLaw.{Has}
 use Rattle.link_laws.proofs.Labels.{has_left, has_right}
 use Rattle.asm_object.proofs.Statements.{walk_sets}
-use Rattle.asm_layout.specs.Placing.{word_place, placed_from}
+use Rattle.asm_layout.specs.Placing.{word_place, place_stmts_from}
 use Rattle.asm_object.specs.After.{pieces_from, refusals_from}
 
 -- ---- bytes in no field
@@ -84,16 +84,16 @@ itself Extab = refl
 itself Init = refl
 itself Bss = refl
 
-record There (entries : List (Option EntryWords)) (labels : List Named) (walk : Walk) (stmt : Stmt) (more : List Stmt) : Type 0 where
+record There (entries : List (Option EntryWords)) (labels : List NamePlace) (walk : Walk) (stmt : Stmt) (more : List Stmt) : Type 0 where
   word : Option ℕ
   word_is : word ≡ word_place walk stmt.kind (coming_pool entries walk (stmt ∷ more))
   known : are_names_known labels stmt.kind ≡ true
-  unfaulted : encode_fault labels stmt.kind (here walk.at).offset word ≡ None
+  unfaulted : encode_fault labels stmt.kind (cursor_place walk.at).offset word ≡ None
   in_place : is_misplaced stmt.kind walk.at.section ≡ false
-  pieces : pieces_from entries labels walk (stmt ∷ more) ≡ own_piece labels stmt.kind (here walk.at) word ∷ pieces_from entries labels (next entries walk stmt.kind) more
+  pieces : pieces_from entries labels walk (stmt ∷ more) ≡ own_piece labels stmt.kind (cursor_place walk.at) word ∷ pieces_from entries labels (next entries walk stmt.kind) more
   later : refusals_from entries labels (next entries walk stmt.kind) more ≡ []
 
-names_known : (labels : List Named) (kind : StmtKind) (section : Section) (place : ℕ) (word : Option ℕ) → refusal labels kind section place word ≡ None → are_names_known labels kind ≡ true
+names_known : (labels : List NamePlace) (kind : StmtKind) (section : Section) (place : ℕ) (word : Option ℕ) → refusal labels kind section place word ≡ None → are_names_known labels kind ≡ true
 unfolding refusal
 names_known labels kind section place word e = by (are_names_known labels kind) (encode_fault labels kind place word) (is_pool_too_far place word) (is_misplaced kind section) e
   where
@@ -102,20 +102,20 @@ names_known labels kind section place word e = by (are_names_known labels kind) 
     by true fault far misplaced e = refl
     by false fault far misplaced e = absurd (cc)
 
-there : (entries : List (Option EntryWords)) (labels : List Named) (walk : Walk) (stmt : Stmt) (more : List Stmt) → walk_sets entries labels walk stmt.kind ≡ []
+there : (entries : List (Option EntryWords)) (labels : List NamePlace) (walk : Walk) (stmt : Stmt) (more : List Stmt) → walk_sets entries labels walk stmt.kind ≡ []
     → refusals_from entries labels walk (stmt ∷ more) ≡ [] → There entries labels walk stmt more
-unfolding pieces_of placed_from walk_after
+unfolding pieces_of place_stmts_from walk_after
 there entries labels walk stmt more none r =
     let word = word_place walk stmt.kind (coming_pool entries walk (stmt ∷ more)) in
-    let own = none_parts stmt.line (refusal labels stmt.kind walk.at.section (here walk.at).offset word) (refusals_from entries labels (next entries walk stmt.kind) more) r in
-    let parts = refusal_parts labels stmt.kind walk.at.section (here walk.at).offset word own.0 in
+    let own = none_parts stmt.line (refusal labels stmt.kind walk.at.section (cursor_place walk.at).offset word) (refusals_from entries labels (next entries walk stmt.kind) more) r in
+    let parts = refusal_parts labels stmt.kind walk.at.section (cursor_place walk.at).offset word own.0 in
     record {
       word = word;
       word_is = refl;
-      known = names_known labels stmt.kind walk.at.section (here walk.at).offset word own.0;
+      known = names_known labels stmt.kind walk.at.section (cursor_place walk.at).offset word own.0;
       unfaulted = parts.0;
       in_place = parts.1.1;
-      pieces = ap (λ set. (set ++ own_piece labels stmt.kind (here walk.at) word ∷ []) ++ pieces_from entries labels (next entries walk stmt.kind) more) none;
+      pieces = ap (λ set. (set ++ own_piece labels stmt.kind (cursor_place walk.at) word ∷ []) ++ pieces_from entries labels (next entries walk stmt.kind) more) none;
       later = own.1;
     }
 
@@ -123,33 +123,33 @@ abbrev no_bytes : List ℕ
 no_bytes = []
 
 -- its bytes come first, and those of the statements after it follow
-own_first : (entries : List (Option EntryWords)) (labels : List Named) (walk : Walk) (stmt : Stmt) (more : List Stmt) (t : There entries labels walk stmt more)
+own_first : (entries : List (Option EntryWords)) (labels : List NamePlace) (walk : Walk) (stmt : Stmt) (more : List Stmt) (t : There entries labels walk stmt more)
     → bytes_in walk.at.section (pieces_from entries labels walk (stmt ∷ more))
-    ≡ (own_piece labels stmt.kind (here walk.at) t.word).bytes ++ bytes_in walk.at.section (pieces_from entries labels (next entries walk stmt.kind) more)
+    ≡ (own_piece labels stmt.kind (cursor_place walk.at) t.word).bytes ++ bytes_in walk.at.section (pieces_from entries labels (next entries walk stmt.kind) more)
 own_first entries labels walk stmt more t =
-    let own = own_piece labels stmt.kind (here walk.at) t.word in
+    let own = own_piece labels stmt.kind (cursor_place walk.at) t.word in
     let rest = pieces_from entries labels (next entries walk stmt.kind) more in
     ap (bytes_in walk.at.section) t.pieces
-    ∙ ap (λ b. cond b own.bytes no_bytes ++ bytes_in walk.at.section rest) (ap (λ (p : Place). same_section p.section walk.at.section) (own_stands labels stmt.kind (here walk.at) t.word) ∙ itself walk.at.section)
+    ∙ ap (λ b. cond b own.bytes no_bytes ++ bytes_in walk.at.section rest) (ap (λ (p : Place). same_section p.section walk.at.section) (own_stands labels stmt.kind (cursor_place walk.at) t.word) ∙ itself walk.at.section)
 
-relocs_first : (entries : List (Option EntryWords)) (labels : List Named) (walk : Walk) (stmt : Stmt) (more : List Stmt) (t : There entries labels walk stmt more)
+relocs_first : (entries : List (Option EntryWords)) (labels : List NamePlace) (walk : Walk) (stmt : Stmt) (more : List Stmt) (t : There entries labels walk stmt more)
     → relocs_in walk.at.section (pieces_from entries labels walk (stmt ∷ more))
-    ≡ (own_piece labels stmt.kind (here walk.at) t.word).relocs ++ relocs_in walk.at.section (pieces_from entries labels (next entries walk stmt.kind) more)
+    ≡ (own_piece labels stmt.kind (cursor_place walk.at) t.word).relocs ++ relocs_in walk.at.section (pieces_from entries labels (next entries walk stmt.kind) more)
 relocs_first entries labels walk stmt more t =
-    let own = own_piece labels stmt.kind (here walk.at) t.word in
+    let own = own_piece labels stmt.kind (cursor_place walk.at) t.word in
     let rest = pieces_from entries labels (next entries walk stmt.kind) more in
     ap (relocs_in walk.at.section) t.pieces
-    ∙ ap (λ b. cond b own.relocs the_none ++ relocs_in walk.at.section rest) (ap (λ (p : Place). same_section p.section walk.at.section) (own_stands labels stmt.kind (here walk.at) t.word) ∙ itself walk.at.section)
+    ∙ ap (λ b. cond b own.relocs the_none ++ relocs_in walk.at.section rest) (ap (λ (p : Place). same_section p.section walk.at.section) (own_stands labels stmt.kind (cursor_place walk.at) t.word) ∙ itself walk.at.section)
 
 -- the section ends after them, and the fields of the statements after it stand there
-ends_at : (entries : List (Option EntryWords)) (labels : List Named) (walk : Walk) (stmt : Stmt) (more : List Stmt) (t : There entries labels walk stmt more) → Fewer entries
+ends_at : (entries : List (Option EntryWords)) (labels : List NamePlace) (walk : Walk) (stmt : Stmt) (more : List Stmt) (t : There entries labels walk stmt more) → Fewer entries
     → refusals_from entries labels walk (stmt ∷ more) ≡ [] → is_too_large (sizes_with_pool (walk_after entries walk (stmt ∷ more))) ≡ false
-    → size_in (next entries walk stmt.kind).at.sizes walk.at.section ≡ (here walk.at).offset + length (own_piece labels stmt.kind (here walk.at) t.word).bytes
+    → size_in (next entries walk stmt.kind).at.sizes walk.at.section ≡ (cursor_place walk.at).offset + length (own_piece labels stmt.kind (cursor_place walk.at) t.word).bytes
 unfolding walk_after
 ends_at entries labels walk stmt more t few r h =
     let s = walk.at.section in
     let after = next entries walk stmt.kind in
-    let own = own_piece labels stmt.kind (here walk.at) t.word in
+    let own = own_piece labels stmt.kind (cursor_place walk.at) t.word in
     exact (size_in walk.at.sizes s) (size_in after.at.sizes s) (length own.bytes) (length (bytes_in s (pieces_from entries labels after more))) _ _
     (law_of_ends entries labels walk (stmt ∷ more) s few r h) (law_of_ends entries labels after more s few t.later h)
     (ap length (own_first entries labels walk stmt more t) ∙ length-append own.bytes (bytes_in s (pieces_from entries labels after more)))
@@ -157,7 +157,7 @@ ends_at entries labels walk stmt more t few r h =
     exact : (a b own rest all end : ℕ) → a + all ≡ end → b + rest ≡ end → all ≡ own + rest → b ≡ a + own
     exact a b own rest all end h k l = omega (arith, h, k, l)
 
-later_stand : (entries : List (Option EntryWords)) (labels : List Named) (walk : Walk) (stmt : Stmt) (more : List Stmt) (t : There entries labels walk stmt more) → Fewer entries
+later_stand : (entries : List (Option EntryWords)) (labels : List NamePlace) (walk : Walk) (stmt : Stmt) (more : List Stmt) (t : There entries labels walk stmt more) → Fewer entries
     → is_too_large (sizes_with_pool (walk_after entries walk (stmt ∷ more))) ≡ false
     → StandInOrder (size_in (next entries walk stmt.kind).at.sizes walk.at.section) (relocs_in walk.at.section (pieces_from entries labels (next entries walk stmt.kind) more))
     (size_in (sizes_with_pool (walk_after entries (next entries walk stmt.kind) more)) walk.at.section)
@@ -167,7 +167,7 @@ later_stand entries labels walk stmt more t few h = all_stand entries labels (ne
 within : (a x end : ℕ) → a + x ≡ end → end ≤ MOST_BYTES → a ≤ MOST_BYTES
 within a x end e h = omega (arith, e, h)
 
-end_small : (entries : List (Option EntryWords)) (labels : List Named) (walk : Walk) (stmt : Stmt) (more : List Stmt) (t : There entries labels walk stmt more) → Fewer entries
+end_small : (entries : List (Option EntryWords)) (labels : List NamePlace) (walk : Walk) (stmt : Stmt) (more : List Stmt) (t : There entries labels walk stmt more) → Fewer entries
     → is_too_large (sizes_with_pool (walk_after entries walk (stmt ∷ more))) ≡ false
     → size_in (next entries walk stmt.kind).at.sizes walk.at.section ≤ MOST_BYTES
 unfolding walk_after
@@ -179,8 +179,8 @@ end_small entries labels walk stmt more t few h =
 -- ---- a statement of a source
 
 joined_bytes : (s : Section) (stmts : List Stmt) → same_section s Bss ≡ false
-    → bytes_at s (joined stmts) ≡ bytes_in s (pieces_from (entries_of stmts) (labels_of (entries_of stmts) stmts) start stmts)
-unfolding joined
+    → bytes_at s (assembled_object stmts) ≡ bytes_in s (pieces_from (entries_of stmts) (labels_of (entries_of stmts) stmts) start stmts)
+unfolding assembled_object
 joined_bytes Text stmts e = refl
 joined_bytes Rodata stmts e = refl
 joined_bytes Extab stmts e = refl
@@ -188,12 +188,12 @@ joined_bytes Init stmts e = refl
 joined_bytes Bss stmts e = absurd (true≢false e)
 
 pub joined_relocs : (stmts : List Stmt)
-    → (joined stmts).relocs
+    → (assembled_object stmts).relocs
     ≡ relocs_in Text (pieces_from (entries_of stmts) (labels_of (entries_of stmts) stmts) start stmts)
     ++ relocs_in Rodata (pieces_from (entries_of stmts) (labels_of (entries_of stmts) stmts) start stmts)
     ++ relocs_in Extab (pieces_from (entries_of stmts) (labels_of (entries_of stmts) stmts) start stmts)
     ++ relocs_in Init (pieces_from (entries_of stmts) (labels_of (entries_of stmts) stmts) start stmts)
-unfolding joined
+unfolding assembled_object
 joined_relocs stmts = refl
 
 -- fields of a section are among those of the object
@@ -235,17 +235,17 @@ pub record Given (stmts before : List Stmt) (kind : StmtKind) (object : Object) 
   pub rest_is : stmts ≡ before ++ rest
   pub word_is : word ≡ word_place (walk_over stmts before) kind (coming_pool (entries_of stmts) (walk_over stmts before) rest)
   pub known : are_names_known (labels_of (entries_of stmts) stmts) kind ≡ true
-  pub unfaulted : encode_fault (labels_of (entries_of stmts) stmts) kind (here (walk_over stmts before).at).offset word ≡ None
+  pub unfaulted : encode_fault (labels_of (entries_of stmts) stmts) kind (cursor_place (walk_over stmts before).at).offset word ≡ None
   pub after : List ℕ
   pub bytes :
-      drop (here (walk_over stmts before).at).offset (bytes_at (walk_over stmts before).at.section object)
-      ≡ (own_piece (labels_of (entries_of stmts) stmts) kind (here (walk_over stmts before).at) word).bytes ++ after
-  pub small : (here (walk_over stmts before).at).offset + length (own_piece (labels_of (entries_of stmts) stmts) kind (here (walk_over stmts before).at) word).bytes ≤ MOST_BYTES
-  pub fields : (reloc : Reloc) → Has (own_piece (labels_of (entries_of stmts) stmts) kind (here (walk_over stmts before).at) word).relocs reloc → Has object.relocs reloc
+      drop (cursor_place (walk_over stmts before).at).offset (bytes_at (walk_over stmts before).at.section object)
+      ≡ (own_piece (labels_of (entries_of stmts) stmts) kind (cursor_place (walk_over stmts before).at) word).bytes ++ after
+  pub small : (cursor_place (walk_over stmts before).at).offset + length (own_piece (labels_of (entries_of stmts) stmts) kind (cursor_place (walk_over stmts before).at) word).bytes ≤ MOST_BYTES
+  pub fields : (reloc : Reloc) → Has (own_piece (labels_of (entries_of stmts) stmts) kind (cursor_place (walk_over stmts before).at) word).relocs reloc → Has object.relocs reloc
   pub others :
-      (j : ℕ) → (here (walk_over stmts before).at).offset ≤ j
-      → j < (here (walk_over stmts before).at).offset + length (own_piece (labels_of (entries_of stmts) stmts) kind (here (walk_over stmts before).at) word).bytes
-      → IsInNoField (walk_over stmts before).at.section j (own_piece (labels_of (entries_of stmts) stmts) kind (here (walk_over stmts before).at) word).relocs
+      (j : ℕ) → (cursor_place (walk_over stmts before).at).offset ≤ j
+      → j < (cursor_place (walk_over stmts before).at).offset + length (own_piece (labels_of (entries_of stmts) stmts) kind (cursor_place (walk_over stmts before).at) word).bytes
+      → IsInNoField (walk_over stmts before).at.section j (own_piece (labels_of (entries_of stmts) stmts) kind (cursor_place (walk_over stmts before).at) word).relocs
       → IsInNoField (walk_over stmts before).at.section j object.relocs
 
 fewer : (a b : ℕ) → a ≤ b → b < 2 ^ 64 → a < 2 ^ 64
@@ -270,7 +270,7 @@ given stmts before more line kind object same few t none has =
     let r = none_after entries labels start before rest unrefused in
     let h : is_too_large (sizes_with_pool (walk_after entries walk rest)) ≡ false = ap (λ w. is_too_large (sizes_with_pool w)) (sym (walks_on entries start before rest)) ∙ large in
     let own = there entries labels walk stmt more none r in
-    let piece = own_piece labels kind (here walk.at) own.word in
+    let piece = own_piece labels kind (cursor_place walk.at) own.word in
     let bytes_there = has own.in_place in
     let pieces = pieces_from entries labels start stmts in
     let first = earlier entries labels start before rest in
@@ -290,8 +290,8 @@ given stmts before more line kind object same few t none has =
       unfaulted = own.unfaulted;
       after = bytes_in s (pieces_from entries labels (next entries walk kind) more);
       bytes =
-          ap (λ (o : Object). drop (here walk.at).offset (bytes_at s o)) t.object_is
-          ∙ ap (drop (here walk.at).offset) (joined_bytes s stmts bytes_there ∙ ap (λ l. bytes_in s (pieces_from entries labels start l)) same)
+          ap (λ (o : Object). drop (cursor_place walk.at).offset (bytes_at s o)) t.object_is
+          ∙ ap (drop (cursor_place walk.at).offset) (joined_bytes s stmts bytes_there ∙ ap (λ l. bytes_in s (pieces_from entries labels start l)) same)
           ∙ law_of_bytes entries labels before rest s few_entries unrefused large
           ∙ own_first entries labels walk stmt more own;
       small = let P : ℕ → Type 0 = λ n. n ≤ MOST_BYTES in subst P end (end_small entries labels walk stmt more own few_entries h);

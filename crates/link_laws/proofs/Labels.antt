@@ -5,11 +5,11 @@ use Rattle.std.specs.Option.{option_or, option_map}
 use Rattle.std.proofs.lemmas.Bool.{true≢false}
 use Rattle.std.proofs.lemmas.List.Elements.{All-nil, All-cons, All-head, All-tail}
 use Rattle.eh_word.specs.Names.{same_bytes}
-use Rattle.relocatable_object.specs.declared.place.Section.{Section}
-use Rattle.relocatable_object.specs.declared.place.Section.TheVariants.{Text, Rodata, Extab, Init, Bss}
-use Rattle.relocatable_object.specs.Names.{is_local}
-use Rattle.relocatable_object.specs.declared.object.Object.{Object}
-use Rattle.relocatable_object.specs.declared.object.ObjSymbol.{ObjSymbol}
+use Rattle.asm_relocatable.specs.declared.place.Section.{Section}
+use Rattle.asm_relocatable.specs.declared.place.Section.TheVariants.{Text, Rodata, Extab, Init, Bss}
+use Rattle.asm_relocatable.specs.Names.{is_local}
+use Rattle.asm_relocatable.specs.declared.object.Object.{Object}
+use Rattle.asm_relocatable.specs.declared.object.ObjSymbol.{ObjSymbol}
 use Rattle.elf_write.specs.declared.parts.ImageParts.{ImageParts}
 use Rattle.elf_write.specs.declared.parts.OwnSymbol.{OwnSymbol}
 use Rattle.eh_link.specs.declared.fault.LinkFault.{LinkFault}
@@ -17,12 +17,12 @@ use Rattle.eh_link.specs.declared.fault.LinkFault.TheVariants.{Duplicate, Undefi
 use Rattle.eh_link.specs.declared.names.Meaning.{Meaning}
 use Rattle.eh_link.specs.declared.places.Addresses.{Addresses}
 use Rattle.eh_link.specs.declared.places.TheConstants.{CODE_START}
-use Rattle.eh_link.specs.declared.places.Layout.{Layout}
-use Rattle.eh_link.specs.Placed.{Placed}
-use Rattle.eh_link.specs.Layout.{layout_of, is_too_large, address_in, aligned, end_of, firsts, all_aligned, ends, placed_from, placed_of}
-use Rattle.eh_link.specs.Fields.{part_in, filled_of, lowest_unreachable}
-use Rattle.eh_link.specs.Symbols.{is_label, is_global, duplicate_of, undefined_of, has_entry, meaning, first_in, mark_symbols, words_between, label_symbols, exported, symbols_of}
-use Rattle.eh_link.specs.Linked.{unless, unless_true, parts_of, linked}
+use Rattle.eh_link.specs.declared.places.ImageLayout.{ImageLayout}
+use Rattle.eh_link.specs.Placed.{PlacedObject}
+use Rattle.eh_link.specs.Layout.{layout_of, is_too_large, address_in, align_to_word, end_of, firsts, align_all, part_ends, place_objects_from, place_objects}
+use Rattle.eh_link.specs.Fields.{part_in, fill_object, lowest_unreachable}
+use Rattle.eh_link.specs.Symbols.{is_label, is_global, duplicate_of, first_undefined, has_entry, meaning, first_in, mark_symbols, words_between, label_symbols, exported_symbols, symbols_of}
+use Rattle.eh_link.specs.Linked.{unless, unless_true, parts_of, link_result}
 use Rattle.eh_link.specs.LayoutLaw.{StandsAt, linked_code, linked_data}
 use Rattle.eh_link.proofs.Layouts.{ends_of, end_ge, rising}
 use Rattle.eh_link.proofs.Standing.{law_of_code, law_of_data, law_of_sizes}
@@ -31,39 +31,39 @@ use Rattle.link_laws.specs.LabelLaw.{HasRoom, PartBegins, Has, symbol_at, Labels
 
 -- ---- the zeroed data
 
-abbrev Below : ℕ → Placed → Type 0
+abbrev Below : ℕ → PlacedObject → Type 0
 Below address placed = placed.at.bss + placed.object.bss ≤ address
 
-record Room (at : Addresses) (objects : List Object) (front : List Placed) (placed : Placed) : Type 0 where
+record Room (at : Addresses) (objects : List Object) (front : List PlacedObject) (placed : PlacedObject) : Type 0 where
   fourth : placed.at.bss % 4 ≡ 0
   following : at.bss ≤ placed.at.bss
   within : placed.at.bss + placed.object.bss ≤ end_of Bss at.bss objects
   apart : All (Below placed.at.bss) front
 
-room_from : (at : Addresses) (objects : List Object) (front back : List Placed) (placed : Placed) → placed_from at objects ≡ front ++ placed ∷ back → Room at objects front placed
+room_from : (at : Addresses) (objects : List Object) (front back : List PlacedObject) (placed : PlacedObject) → place_objects_from at objects ≡ front ++ placed ∷ back → Room at objects front placed
 room_from at [] [] back placed e = absurd cc
 room_from at [] (x ∷ front) back placed e = absurd cc
 room_from at (object ∷ more) [] back placed e =
-    let same : record { object = object; at = all_aligned at } ≡ placed = cc in
-    let P : Placed → Type 0 = λ p. Room at (object ∷ more) [] p in
+    let same : record { object = object; at = align_all at } ≡ placed = cc in
+    let P : PlacedObject → Type 0 = λ p. Room at (object ∷ more) [] p in
     subst P same (record {
       fourth = fourth at.bss;
       following = following at.bss;
-      within = end_ge Bss (aligned at.bss + object.bss) more;
-      apart = All-nil (Below (aligned at.bss));
+      within = end_ge Bss (align_to_word at.bss + object.bss) more;
+      apart = All-nil (Below (align_to_word at.bss));
     })
   where
-    fourth : (n : ℕ) → aligned n % 4 ≡ 0
+    fourth : (n : ℕ) → align_to_word n % 4 ≡ 0
     fourth n = omega arith
 
-    following : (n : ℕ) → n ≤ aligned n
+    following : (n : ℕ) → n ≤ align_to_word n
     following n = omega arith
 room_from at (object ∷ more) (x ∷ front) back placed e =
-    let same : record { object = object; at = all_aligned at } ≡ x = cc in
-    let rest : placed_from (ends (all_aligned at) object) more ≡ front ++ placed ∷ back = cc in
-    let later = room_from (ends (all_aligned at) object) more front back placed rest in
-    let P : Placed → Type 0 = λ p. Below placed.at.bss p in
-    let low : aligned at.bss + object.bss ≤ placed.at.bss = later.following in
+    let same : record { object = object; at = align_all at } ≡ x = cc in
+    let rest : place_objects_from (part_ends (align_all at) object) more ≡ front ++ placed ∷ back = cc in
+    let later = room_from (part_ends (align_all at) object) more front back placed rest in
+    let P : PlacedObject → Type 0 = λ p. Below placed.at.bss p in
+    let low : align_to_word at.bss + object.bss ≤ placed.at.bss = later.following in
     record {
       fourth = later.fourth;
       following = onward at.bss object.bss placed.at.bss low;
@@ -71,10 +71,10 @@ room_from at (object ∷ more) (x ∷ front) back placed e =
       apart = All-cons (Below placed.at.bss) x front (subst P same low) later.apart;
     }
   where
-    onward : (n size to : ℕ) → aligned n + size ≤ to → n ≤ to
+    onward : (n size to : ℕ) → align_to_word n + size ≤ to → n ≤ to
     onward n size to h = omega (arith, h)
 
-has_room : (objects : List Object) (placed : Placed) (one : IsOneOf objects placed) → HasRoom objects placed one placed.at.bss
+has_room : (objects : List Object) (placed : PlacedObject) (one : IsOneOf objects placed) → HasRoom objects placed one placed.at.bss
 has_room objects placed one =
     let room = room_from (firsts (layout_of objects)) objects one.front one.back placed one.split in
     let rises = rising objects in
@@ -91,18 +91,18 @@ pub mid : {A : Type 0} (P : A → Type 0) (front : List A) (x : A) (back : List 
 mid P [] x back h = All-head P x back h
 mid P (y ∷ front) x back h = mid P front x back (All-tail P y (front ++ x ∷ back) h)
 
-pub begins_at : (s : Section) (objects : List Object) (placed : Placed) (one : IsOneOf objects placed) → PartBegins s objects placed one (address_in s placed.at)
+pub begins_at : (s : Section) (objects : List Object) (placed : PlacedObject) (one : IsOneOf objects placed) → PartBegins s objects placed one (address_in s placed.at)
 begins_at Text objects placed one =
-    let P : Placed → Type 0 = λ p. StandsAt p.at.text (part_in Text (filled_of (placed_of objects) p)) CODE_START (linked_code objects) in
+    let P : PlacedObject → Type 0 = λ p. StandsAt p.at.text (part_in Text (fill_object (place_objects objects) p)) CODE_START (linked_code objects) in
     mid P one.front placed one.back (subst (All P) one.split (law_of_code objects).0)
 begins_at Rodata objects placed one =
-    let P : Placed → Type 0 = λ p. StandsAt p.at.rodata (part_in Rodata (filled_of (placed_of objects) p)) CODE_START (linked_code objects) in
+    let P : PlacedObject → Type 0 = λ p. StandsAt p.at.rodata (part_in Rodata (fill_object (place_objects objects) p)) CODE_START (linked_code objects) in
     mid P one.front placed one.back (subst (All P) one.split (law_of_code objects).1)
 begins_at Extab objects placed one =
-    let P : Placed → Type 0 = λ p. StandsAt p.at.extab (part_in Extab (filled_of (placed_of objects) p)) CODE_START (linked_code objects) in
+    let P : PlacedObject → Type 0 = λ p. StandsAt p.at.extab (part_in Extab (fill_object (place_objects objects) p)) CODE_START (linked_code objects) in
     mid P one.front placed one.back (subst (All P) one.split (law_of_code objects).2)
 begins_at Init objects placed one =
-    let P : Placed → Type 0 = λ p. StandsAt p.at.init (part_in Init (filled_of (placed_of objects) p)) (layout_of objects).data_start (linked_data objects) in
+    let P : PlacedObject → Type 0 = λ p. StandsAt p.at.init (part_in Init (fill_object (place_objects objects) p)) (layout_of objects).data_start (linked_data objects) in
     mid P one.front placed one.back (subst (All P) one.split (law_of_data objects))
 begins_at Bss objects placed one = has_room objects placed one
 
@@ -141,27 +141,27 @@ not_so : (holds : Bool) (fault : LinkFault) (later : Result ImageParts LinkFault
 not_so true fault later image e = absurd cc
 not_so false fault later image e = e
 
-pub image_is : (objects : List Object) (entry : List ℕ) (image : ImageParts) → linked objects entry ≡ Ok image → image ≡ parts_of objects entry
-unfolding linked
+pub image_is : (objects : List Object) (entry : List ℕ) (image : ImageParts) → link_result objects entry ≡ Ok image → image ≡ parts_of objects entry
+unfolding link_result
 image_is objects entry image e =
-    let known = none_there (undefined_of objects objects) Undefined _ image (none_there (duplicate_of objects) Duplicate _ image e) in
+    let known = none_there (first_undefined objects objects) Undefined _ image (none_there (duplicate_of objects) Duplicate _ image e) in
     let laid = not_so (is_too_large (layout_of objects)) TooLarge _ image (not_so (not (has_entry entry objects)) NoEntry _ image known) in
-    let made : Ok (parts_of objects entry) ≡ Ok image = none_there (lowest_unreachable (placed_of objects) (placed_of objects)) RelocationRange _ image laid in
+    let made : Ok (parts_of objects entry) ≡ Ok image = none_there (lowest_unreachable (place_objects objects) (place_objects objects)) RelocationRange _ image laid in
     cc
 
-pub made_symbols : (objects : List Object) (entry : List ℕ) → (parts_of objects entry).symbols ≡ symbols_of (layout_of objects) (placed_of objects)
+pub made_symbols : (objects : List Object) (entry : List ℕ) → (parts_of objects entry).symbols ≡ symbols_of (layout_of objects) (place_objects objects)
 unfolding parts_of
 made_symbols objects entry = refl
 
-exported_there : (layout : Layout) (all : List Placed) (symbol : OwnSymbol) → Has (flat_map exported all) symbol → Has (symbols_of layout all) symbol
+exported_there : (layout : ImageLayout) (all : List PlacedObject) (symbol : OwnSymbol) → Has (flat_map exported_symbols all) symbol → Has (symbols_of layout all) symbol
 unfolding symbols_of
 exported_there layout all symbol h =
     has_right
     (flat_map mark_symbols all
-    ++ words_between (aligned layout.text_end) layout.rodata_end
-    ++ words_between (aligned layout.rodata_end) layout.extab_end
+    ++ words_between (align_to_word layout.text_end) layout.rodata_end
+    ++ words_between (align_to_word layout.rodata_end) layout.extab_end
     ++ words_between layout.index_start layout.code_end)
-    (flat_map exported all) symbol h
+    (flat_map exported_symbols all) symbol h
 
 own_symbols : (at : Addresses) (symbol : ObjSymbol) → is_local symbol.name ≡ false → Has (label_symbols at symbol) (symbol_at (address_in symbol.section at) symbol)
 own_symbols at symbol e =
@@ -171,16 +171,16 @@ own_symbols at symbol e =
 pub law_of_symbols : LabelsAreSymbols
 law_of_symbols objects entry image placed one symbol e there public =
     let part = address_in symbol.section placed.at in
-    let own : Has (exported placed) (symbol_at part symbol) = has_in (label_symbols placed.at) placed.object.symbols symbol (symbol_at part symbol) there (own_symbols placed.at symbol public) in
-    let all : Has (flat_map exported (placed_of objects)) (symbol_at part symbol) =
-    has_in exported (placed_of objects) placed (symbol_at part symbol) (record { before = one.front; after = one.back; split = one.split }) own in
+    let own : Has (exported_symbols placed) (symbol_at part symbol) = has_in (label_symbols placed.at) placed.object.symbols symbol (symbol_at part symbol) there (own_symbols placed.at symbol public) in
+    let all : Has (flat_map exported_symbols (place_objects objects)) (symbol_at part symbol) =
+    has_in exported_symbols (place_objects objects) placed (symbol_at part symbol) (record { before = one.front; after = one.back; split = one.split }) own in
     let P : List OwnSymbol → Type 0 = λ symbols. Has symbols (symbol_at part symbol) in
     record {
       part = part;
       begins = begins_at symbol.section objects placed one;
       there =
           subst P (sym (ap (λ (i : ImageParts). i.symbols) (image_is objects entry image e) ∙ made_symbols objects entry))
-          (exported_there (layout_of objects) (placed_of objects) (symbol_at part symbol) all);
+          (exported_there (layout_of objects) (place_objects objects) (symbol_at part symbol) all);
     }
 
 -- ---- what names mean
@@ -210,14 +210,14 @@ none_in p (y ∷ xs) e = by (p y) e (none_in p xs)
     by false e rest = rest e
 
 -- the first label of some sort in some objects
-pub record FirstIn (wanted : ObjSymbol → Bool) (all : List Placed) (means : Meaning) : Type 0 where
-  pub home : Placed
+pub record FirstIn (wanted : ObjSymbol → Bool) (all : List PlacedObject) (means : Meaning) : Type 0 where
+  pub home : PlacedObject
   pub at : Has all home
   pub symbol : ObjSymbol
   pub own : FoundIn wanted home.object.symbols symbol
   pub is : means ≡ meaning home.at symbol
 
-pub first_there : (wanted : ObjSymbol → Bool) (all : List Placed) (means : Meaning) → first_in wanted all ≡ Some means → FirstIn wanted all means
+pub first_there : (wanted : ObjSymbol → Bool) (all : List PlacedObject) (means : Meaning) → first_in wanted all ≡ Some means → FirstIn wanted all means
 first_there wanted [] means e = absurd cc
 first_there wanted (placed ∷ more) means e = by (find wanted placed.object.symbols) refl e (first_there wanted more means)
   where
@@ -244,7 +244,7 @@ pub law_of_labels : MeaningsAreOfLabels
 law_of_labels objects placed name means one e = by (find (is_label name) placed.object.symbols) refl e
   where
     by : (found : Option ObjSymbol) → find (is_label name) placed.object.symbols ≡ found
-        → option_or (option_map (meaning placed.at) found) (first_in (is_global name) (placed_of objects)) ≡ Some means → IsOfLabel objects placed name means
+        → option_or (option_map (meaning placed.at) found) (first_in (is_global name) (place_objects objects)) ≡ Some means → IsOfLabel objects placed name means
     by (Some symbol) f e =
         let same : meaning placed.at symbol ≡ means = cc in
         let own = found_in (is_label name) placed.object.symbols symbol f in
@@ -261,7 +261,7 @@ law_of_labels objects placed name means one e = by (find (is_label name) placed.
           function = ap (λ (m : Meaning). m.function) (sym same);
         }
     by None f e =
-        let first = first_there (is_global name) (placed_of objects) means e in
+        let first = first_there (is_global name) (place_objects objects) means e in
         let symbol = first.symbol in
         let fits = and_both symbol.global (same_bytes name symbol.name) first.own.fits in
         let home : IsOneOf objects first.home = record { front = first.at.before; back = first.at.after; split = first.at.split } in

@@ -4,15 +4,15 @@ use Rattle.std.proofs.lemmas.Bool.Decides.{nat_tests}
 use Rattle.std.proofs.lemmas.List.{get_or-drop}
 use Rattle.byteorder.specs.Endian.{little_from}
 use Rattle.eh_word.specs.Words.{number_at}
-use Rattle.relocatable_object.specs.declared.place.Section.{Section}
-use Rattle.relocatable_object.specs.declared.place.Section.TheVariants.{Text, Rodata, Extab, Init, Bss}
-use Rattle.relocatable_object.specs.declared.object.Object.{Object}
+use Rattle.asm_relocatable.specs.declared.place.Section.{Section}
+use Rattle.asm_relocatable.specs.declared.place.Section.TheVariants.{Text, Rodata, Extab, Init, Bss}
+use Rattle.asm_relocatable.specs.declared.object.Object.{Object}
 use Rattle.elf_write.specs.declared.parts.ImageParts.{ImageParts}
 use Rattle.eh_link.specs.declared.places.TheConstants.{CODE_START, MOST_MEMORY}
-use Rattle.eh_link.specs.Placed.{Placed}
-use Rattle.eh_link.specs.Layout.{layout_of, code_size, data_size, address_in, placed_of}
-use Rattle.eh_link.specs.Fields.{part_in, filled_of}
-use Rattle.eh_link.specs.Linked.{code_segment, data_segment, linked}
+use Rattle.eh_link.specs.Placed.{PlacedObject}
+use Rattle.eh_link.specs.Layout.{layout_of, code_size, data_size, address_in, place_objects}
+use Rattle.eh_link.specs.Fields.{part_in, fill_object}
+use Rattle.eh_link.specs.Linked.{code_segment, data_segment, link_result}
 use Rattle.eh_link.specs.LayoutLaw.{StandsAt, linked_code, linked_data}
 use Rattle.eh_link.proofs.Images.{image_made}
 use Rattle.eh_link.proofs.Layouts.{rising}
@@ -66,10 +66,10 @@ in_bytes n k w address start part bytes stands h =
 
 -- ---- the segments
 
-code_there : (objects : List Object) (entry : List ℕ) (image : ImageParts) → linked objects entry ≡ Ok image → Has image.segments (code_segment (layout_of objects) (linked_code objects))
+code_there : (objects : List Object) (entry : List ℕ) (image : ImageParts) → link_result objects entry ≡ Ok image → Has image.segments (code_segment (layout_of objects) (linked_code objects))
 code_there objects entry image e = record { before = []; after = _; split = (law_of_images objects entry image e).0 }
 
-data_there : (objects : List Object) (entry : List ℕ) (image : ImageParts) → linked objects entry ≡ Ok image → 0 < data_size (layout_of objects)
+data_there : (objects : List Object) (entry : List ℕ) (image : ImageParts) → link_result objects entry ≡ Ok image → 0 < data_size (layout_of objects)
     → Has image.segments (data_segment (layout_of objects) (linked_data objects))
 data_there objects entry image e some = record {
   before = code_segment (layout_of objects) (linked_code objects) ∷ [];
@@ -83,7 +83,7 @@ data_there objects entry image e some = record {
     not_none n h = grind (arith, nat_tests)
 
 -- in the first segment
-in_code : (objects : List Object) (entry : List ℕ) (image : ImageParts) (n address k w : ℕ) (part : List ℕ) → linked objects entry ≡ Ok image
+in_code : (objects : List Object) (entry : List ℕ) (image : ImageParts) (n address k w : ℕ) (part : List ℕ) → link_result objects entry ≡ Ok image
     → StandsAt address part CODE_START (linked_code objects) → number_at n part k ≡ Some w → NumberAt n image (address + k) w
 in_code objects entry image n address k w part e stands h =
     let there = in_bytes n k w address CODE_START part (linked_code objects) stands h in
@@ -96,7 +96,7 @@ in_code objects entry image n address k w part e stands h =
     }
 
 -- in the second one
-in_data : (objects : List Object) (entry : List ℕ) (image : ImageParts) (n address k w : ℕ) (part : List ℕ) → linked objects entry ≡ Ok image → 0 < n
+in_data : (objects : List Object) (entry : List ℕ) (image : ImageParts) (n address k w : ℕ) (part : List ℕ) → link_result objects entry ≡ Ok image → 0 < n
     → StandsAt address part (layout_of objects).data_start (linked_data objects) → number_at n part k ≡ Some w → NumberAt n image (address + k) w
 in_data objects entry image n address k w part e some stands h =
     let there = in_bytes n k w address (layout_of objects).data_start part (linked_data objects) stands h in
@@ -110,16 +110,16 @@ in_data objects entry image n address k w part e some stands h =
     }
 
 -- a number in an object's part of a section
-pub in_image : (s : Section) (objects : List Object) (entry : List ℕ) (image : ImageParts) (placed : Placed) (one : IsOneOf objects placed) (n k w : ℕ) → linked objects entry ≡ Ok image → 0 < n
-    → number_at n (part_in s (filled_of (placed_of objects) placed)) k ≡ Some w → NumberAt n image (address_in s placed.at + k) w
+pub in_image : (s : Section) (objects : List Object) (entry : List ℕ) (image : ImageParts) (placed : PlacedObject) (one : IsOneOf objects placed) (n k w : ℕ) → link_result objects entry ≡ Ok image → 0 < n
+    → number_at n (part_in s (fill_object (place_objects objects) placed)) k ≡ Some w → NumberAt n image (address_in s placed.at + k) w
 in_image Text objects entry image placed one n k w e some h =
-    in_code objects entry image n placed.at.text k w (part_in Text (filled_of (placed_of objects) placed)) e (begins_at Text objects placed one) h
+    in_code objects entry image n placed.at.text k w (part_in Text (fill_object (place_objects objects) placed)) e (begins_at Text objects placed one) h
 in_image Rodata objects entry image placed one n k w e some h =
-    in_code objects entry image n placed.at.rodata k w (part_in Rodata (filled_of (placed_of objects) placed)) e (begins_at Rodata objects placed one) h
+    in_code objects entry image n placed.at.rodata k w (part_in Rodata (fill_object (place_objects objects) placed)) e (begins_at Rodata objects placed one) h
 in_image Extab objects entry image placed one n k w e some h =
-    in_code objects entry image n placed.at.extab k w (part_in Extab (filled_of (placed_of objects) placed)) e (begins_at Extab objects placed one) h
+    in_code objects entry image n placed.at.extab k w (part_in Extab (fill_object (place_objects objects) placed)) e (begins_at Extab objects placed one) h
 in_image Init objects entry image placed one n k w e some h =
-    in_data objects entry image n placed.at.init k w (part_in Init (filled_of (placed_of objects) placed)) e some (begins_at Init objects placed one) h
+    in_data objects entry image n placed.at.init k w (part_in Init (fill_object (place_objects objects) placed)) e some (begins_at Init objects placed one) h
 in_image Bss objects entry image placed one n k w e some h =
     let inside = (number_reads n [] k w h).inside in
     absurd (omega (arith, some, inside))
@@ -130,8 +130,8 @@ below_all : (address start : ℕ) (part bytes : List ℕ) → StandsAt address p
 below_all address start part bytes stands =
     omega (arith, stands.place, ap length stands.split, length-append (stands.before ++ part) stands.after, length-append stands.before part)
 
-pub address_small : (s : Section) (objects : List Object) (entry : List ℕ) (image : ImageParts) (placed : Placed) (one : IsOneOf objects placed) → linked objects entry ≡ Ok image
-    → address_in s placed.at + length (part_in s (filled_of (placed_of objects) placed)) ≤ 0x400000
+pub address_small : (s : Section) (objects : List Object) (entry : List ℕ) (image : ImageParts) (placed : PlacedObject) (one : IsOneOf objects placed) → link_result objects entry ≡ Ok image
+    → address_in s placed.at + length (part_in s (fill_object (place_objects objects) placed)) ≤ 0x400000
 address_small s objects entry image placed one e = by s
   where
     fits : code_size (layout_of objects) + data_size (layout_of objects) ≤ MOST_MEMORY
@@ -146,12 +146,12 @@ address_small s objects entry image placed one e = by s
     data_end : (layout_of objects).data_start + length (linked_data objects) ≤ 0x400000
     data_end = omega (arith, fits, (law_of_sizes objects).1, (rising objects).page, (rising objects).code, (rising objects).index, (rising objects).extab, (rising objects).rodata, (rising objects).text)
 
-    by : (s : Section) → address_in s placed.at + length (part_in s (filled_of (placed_of objects) placed)) ≤ 0x400000
-    by Text = omega (arith, code, below_all placed.at.text CODE_START (part_in Text (filled_of (placed_of objects) placed)) (linked_code objects) (begins_at Text objects placed one))
-    by Rodata = omega (arith, code, below_all placed.at.rodata CODE_START (part_in Rodata (filled_of (placed_of objects) placed)) (linked_code objects) (begins_at Rodata objects placed one))
-    by Extab = omega (arith, code, below_all placed.at.extab CODE_START (part_in Extab (filled_of (placed_of objects) placed)) (linked_code objects) (begins_at Extab objects placed one))
+    by : (s : Section) → address_in s placed.at + length (part_in s (fill_object (place_objects objects) placed)) ≤ 0x400000
+    by Text = omega (arith, code, below_all placed.at.text CODE_START (part_in Text (fill_object (place_objects objects) placed)) (linked_code objects) (begins_at Text objects placed one))
+    by Rodata = omega (arith, code, below_all placed.at.rodata CODE_START (part_in Rodata (fill_object (place_objects objects) placed)) (linked_code objects) (begins_at Rodata objects placed one))
+    by Extab = omega (arith, code, below_all placed.at.extab CODE_START (part_in Extab (fill_object (place_objects objects) placed)) (linked_code objects) (begins_at Extab objects placed one))
     by Init =
-        omega (arith, data_end, below_all placed.at.init (layout_of objects).data_start (part_in Init (filled_of (placed_of objects) placed)) (linked_data objects) (begins_at Init objects placed one))
+        omega (arith, data_end, below_all placed.at.init (layout_of objects).data_start (part_in Init (fill_object (place_objects objects) placed)) (linked_data objects) (begins_at Init objects placed one))
     by Bss =
         let room = begins_at Bss objects placed one in
         omega (arith, fits, room.within, (rising objects).page, (rising objects).code, (rising objects).index, (rising objects).extab, (rising objects).rodata, (rising objects).text)

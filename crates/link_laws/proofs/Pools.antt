@@ -17,40 +17,40 @@ use Rattle.asm_statements.specs.declared.statement.StmtKind.{StmtKind}
 use Rattle.asm_statements.specs.declared.statement.StmtKind.TheVariants as statement
 use Rattle.asm_unwind.specs.declared.entry.EntryWords.{EntryWords}
 use Rattle.thumb_isa.specs.declared.instr.Instr.TheVariants.{LdrLit}
-use Rattle.thumb_encode.specs.Codes.{encoded_of}
+use Rattle.thumb_encode.specs.Codes.{encode_result}
 use Rattle.thumb_encode.specs.declared.code.Code.{Code}
 use Rattle.thumb_encode.specs.declared.code.Code.TheVariants as code
 use Rattle.thumb_isa.specs.declared.encode_fault.EncodeFault.{EncodeFault}
-use Rattle.eh_list.specs.Bytes.{gap}
-use Rattle.relocatable_object.specs.declared.place.Section.TheVariants.{Text}
+use Rattle.eh_word.specs.Bytes.{gap}
+use Rattle.asm_relocatable.specs.declared.place.Section.TheVariants.{Text}
 use Rattle.asm_layout.specs.declared.walk.Sizes.{Sizes}
 use Rattle.asm_layout.specs.declared.walk.Walk.{Walk}
 use Rattle.asm_layout.specs.declared.word.Word.{Word}
 use Rattle.asm_layout.specs.Functions.{entries_of, no_frame}
-use Rattle.asm_layout.specs.Labels.{Named, labels_of}
+use Rattle.asm_layout.specs.Labels.{NamePlace, labels_of}
 use Rattle.asm_layout.specs.SameWords.{same_word}
 use Rattle.asm_layout.specs.Sizes.{sum_64, times, size_in, is_too_large}
-use Rattle.asm_layout.specs.Walks.{start, next, here, is_empty, is_in_text, ends_pool, pool_place, pool_with, coming_pool, sizes_with_pool, walk_after}
-use Rattle.relocatable_object.specs.Sections.{same_section}
+use Rattle.asm_layout.specs.Walks.{start, next, cursor_place, is_empty, is_in_text, ends_pool, pool_place, pool_with, coming_pool, sizes_with_pool, walk_after}
+use Rattle.asm_relocatable.specs.Sections.{same_section}
 use Rattle.asm_layout.specs.Words.{word_of}
-use Rattle.relocatable_object.specs.declared.object.Object.{Object}
-use Rattle.relocatable_object.specs.declared.object.Reloc.{Reloc}
+use Rattle.asm_relocatable.specs.declared.object.Object.{Object}
+use Rattle.asm_relocatable.specs.declared.object.Reloc.{Reloc}
 use Rattle.asm_object.specs.Bytes.{word_bytes, half_bytes, code_bytes}
 use Rattle.asm_object.specs.Instructions.{base, literal, literal_to}
-use Rattle.asm_object.specs.Objects.{joined}
-use Rattle.relocatable_object.specs.Fields.{StandInOrder, bytes_at}
-use Rattle.asm_object.specs.Pieces.{Piece, place_at, bytes_of_code, word_relocs, filling_piece, words_piece, pool_pieces, own_piece, bytes_in, relocs_in, put_pieces, pieces_of}
+use Rattle.asm_object.specs.Objects.{assembled_object}
+use Rattle.asm_relocatable.specs.Fields.{StandInOrder, bytes_at}
+use Rattle.asm_object.specs.Pieces.{Piece, place_at, bytes_of_code, word_relocs, filling_piece, words_piece, pool_pieces, own_piece, bytes_in, relocs_in, pieces_of_puts, pieces_of}
 use Rattle.asm_object.specs.Refusals.{instruction_fault, refusal}
 use Rattle.asm_object.specs.declared.value.Link.{Link}
-use Rattle.asm_object.specs.Values.{held, link_of}
+use Rattle.asm_object.specs.Values.{section_word, link_of}
 use Rattle.asm_object.proofs.LoadLaws.{HasWord, and_true, put_there, pool_keeps, ends_sizes, law_of_loads as law_of_read_words}
 use Rattle.asm_object.proofs.PlaceLaws.{Fewer, earlier, gives, law_of_ends, loads, none_after, none_parts, not_large, split, walks_on}
 use Rattle.asm_object.proofs.ObjectLaws.{IsTaken, taken, all_own, all_stand, earlier_stand, ends_small, entries_count, last_unlinked}
 use Rattle.eh_link.specs.FieldLaw.{IsInNoField}
 use Rattle.eh_link.specs.Layout.{address_in}
 use Rattle.eh_link.proofs.Words.{Reads}
-use Rattle.source_laws.specs.RowLaw.{walk_over}
-use Rattle.source_laws.specs.MarkLaw.{text_after}
+use Rattle.asm_laws.specs.RowLaw.{walk_over}
+use Rattle.asm_laws.specs.MarkLaw.{text_after}
 use Rattle.link_laws.specs.LabelLaw.{Has}
 use Rattle.link_laws.specs.FilledLaw.{DecodesAt}
 use Rattle.link_laws.specs.PoolLaw.{LoadsReadValues}
@@ -61,7 +61,7 @@ use Rattle.link_laws.proofs.Leading.{coded, minus_small, reaches}
 use Rattle.link_laws.proofs.Said.{field_at, word_clear, word_says, words_have}
 use Rattle.link_laws.proofs.Targets.{given_in_text, own_decodes, place_in, place_is, text_aligned, text_begins, text_small}
 use Rattle.asm_object.proofs.Statements.{walk_sets, walk_pieces}
-use Rattle.asm_layout.specs.Placing.{word_place, placed_from, pool_here, pool_puts}
+use Rattle.asm_layout.specs.Placing.{word_place, place_stmts_from, pool_here, pool_puts}
 use Rattle.asm_layout.specs.declared.placed.Puts.TheVariants as puts
 use Rattle.asm_object.specs.After.{pieces_from, refusals_from}
 
@@ -106,7 +106,7 @@ abbrev the_none : List Reloc
 the_none = []
 
 -- in the pool that ends here
-held_in_pool : (labels : List Named) (walk : Walk) (word : Word) (at : ℕ) → HasWord walk.pool word at → (sizes_with_pool walk).text ≤ MOST_BYTES
+held_in_pool : (labels : List NamePlace) (walk : Walk) (word : Word) (at : ℕ) → HasWord walk.pool word at → (sizes_with_pool walk).text ≤ MOST_BYTES
     → Held (relocs_in Text (pool_pieces labels (pool_here walk))) word (pool_place walk + 4 * at)
 held_in_pool labels walk word at h small = by (is_empty walk.pool) (filled_pool walk.pool word at h) small
   where
@@ -123,7 +123,7 @@ held_in_pool labels walk word at h small = by (is_empty walk.pool) (filled_pool 
         (held_in_words (pool_place walk) walk.pool word at h (ends walk.at.sizes.text (gap walk.at.sizes.text 4) (length walk.pool) small))
 
 -- where a pool comes, nothing of the text before it lies
-record Comes (entries : List (Option EntryWords)) (labels : List Named) (walk : Walk) (stmts : List Stmt) (word : Word) (at : ℕ) : Type 0 where
+record Comes (entries : List (Option EntryWords)) (labels : List NamePlace) (walk : Walk) (stmts : List Stmt) (word : Word) (at : ℕ) : Type 0 where
   later : walk.at.sizes.text ≤ coming_pool entries walk stmts
   small : coming_pool entries walk stmts + 4 * at ≤ MOST_BYTES
   held : Held (relocs_in Text (pieces_from entries labels walk stmts)) word (coming_pool entries walk stmts + 4 * at)
@@ -134,10 +134,10 @@ grows a b x y end h k = omega (arith, h, k)
 abbrev no_bytes : List ℕ
 no_bytes = []
 
-one_by_one : (entries : List (Option EntryWords)) (labels : List Named) (walk : Walk) (stmt : Stmt) (more : List Stmt)
+one_by_one : (entries : List (Option EntryWords)) (labels : List NamePlace) (walk : Walk) (stmt : Stmt) (more : List Stmt)
     → length (bytes_in Text (pieces_from entries labels walk (stmt ∷ more)))
     ≡ length (bytes_in Text (walk_pieces entries labels walk (word_place walk stmt.kind (coming_pool entries walk (stmt ∷ more))) stmt.kind)) + length (bytes_in Text (pieces_from entries labels (next entries walk stmt.kind) more))
-unfolding pieces_of placed_from walk_after
+unfolding pieces_of place_stmts_from walk_after
 one_by_one entries labels walk stmt more =
     let own = walk_pieces entries labels walk (word_place walk stmt.kind (coming_pool entries walk (stmt ∷ more))) stmt.kind in
     let rest = pieces_from entries labels (next entries walk stmt.kind) more in
@@ -148,7 +148,7 @@ record Onward (entries : List (Option EntryWords)) (walk : Walk) (stmt : Stmt) :
   rises : walk.at.sizes.text ≤ (next entries walk stmt.kind).at.sizes.text
   small : (next entries walk stmt.kind).at.sizes.text ≤ MOST_BYTES
 
-onward : (entries : List (Option EntryWords)) (labels : List Named) (walk : Walk) (stmt : Stmt) (more : List Stmt) → Fewer entries
+onward : (entries : List (Option EntryWords)) (labels : List NamePlace) (walk : Walk) (stmt : Stmt) (more : List Stmt) → Fewer entries
     → refusals_from entries labels walk (stmt ∷ more) ≡ [] → refusals_from entries labels (next entries walk stmt.kind) more ≡ []
     → is_too_large (sizes_with_pool (walk_after entries walk (stmt ∷ more))) ≡ false → Onward entries walk stmt
 unfolding walk_after
@@ -171,16 +171,16 @@ onward entries labels walk stmt more few r later h =
     within a x end e h = omega (arith, e, h)
 
 -- the relocations of a statement's pieces and of those after it
-relocs_on : (entries : List (Option EntryWords)) (labels : List Named) (walk : Walk) (stmt : Stmt) (more : List Stmt)
+relocs_on : (entries : List (Option EntryWords)) (labels : List NamePlace) (walk : Walk) (stmt : Stmt) (more : List Stmt)
     → relocs_in Text (pieces_from entries labels walk (stmt ∷ more))
     ≡ relocs_in Text (walk_pieces entries labels walk (word_place walk stmt.kind (coming_pool entries walk (stmt ∷ more))) stmt.kind) ++ relocs_in Text (pieces_from entries labels (next entries walk stmt.kind) more)
-unfolding pieces_of placed_from walk_after
+unfolding pieces_of place_stmts_from walk_after
 relocs_on entries labels walk stmt more =
     flat_map-append (λ p. cond (same_section p.place.section Text) p.relocs the_none) (walk_pieces entries labels walk (word_place walk stmt.kind (coming_pool entries walk (stmt ∷ more))) stmt.kind)
     (pieces_from entries labels (next entries walk stmt.kind) more)
 
 -- those of one statement end where the text has come to after it
-own_end : (entries : List (Option EntryWords)) (labels : List Named) (walk : Walk) (stmt : Stmt) (more : List Stmt) → Fewer entries
+own_end : (entries : List (Option EntryWords)) (labels : List NamePlace) (walk : Walk) (stmt : Stmt) (more : List Stmt) → Fewer entries
     → refusals_from entries labels walk (stmt ∷ more) ≡ [] → is_too_large (sizes_with_pool (walk_after entries walk (stmt ∷ more))) ≡ false
     → StandInOrder walk.at.sizes.text (relocs_in Text (walk_pieces entries labels walk (word_place walk stmt.kind (coming_pool entries walk (stmt ∷ more))) stmt.kind)) (next entries walk stmt.kind).at.sizes.text
 unfolding earlier walk_after
@@ -190,11 +190,11 @@ own_end entries labels walk stmt more few r h =
     subst P (append-nil own) (earlier_stand entries labels walk (stmt ∷ []) more Text few r h)
 
 -- the pieces of a `.pool` in the text are those of its pool
-ends_relocs : (entries : List (Option EntryWords)) (labels : List Named) (walk : Walk) (word : Option ℕ) (kind : StmtKind) → ends_pool walk kind ≡ true
+ends_relocs : (entries : List (Option EntryWords)) (labels : List NamePlace) (walk : Walk) (word : Option ℕ) (kind : StmtKind) → ends_pool walk kind ≡ true
     → relocs_in Text (walk_pieces entries labels walk word kind) ≡ relocs_in Text (pool_pieces labels (pool_here walk))
 ends_relocs entries labels walk word statement.Pool e =
-    last_unlinked Text (walk_sets entries labels walk statement.Pool) (own_piece labels statement.Pool (here walk.at) word) refl
-    ∙ ap (λ b. relocs_in Text (put_pieces entries labels (cond b (pool_puts walk) puts.Nothing))) (and_true (is_in_text walk.at) (not (is_empty walk.pool)) e).0
+    last_unlinked Text (walk_sets entries labels walk statement.Pool) (own_piece labels statement.Pool (cursor_place walk.at) word) refl
+    ∙ ap (λ b. relocs_in Text (pieces_of_puts entries labels (cond b (pool_puts walk) puts.Nothing))) (and_true (is_in_text walk.at) (not (is_empty walk.pool)) e).0
 ends_relocs entries labels walk word _ e = absurd (true≢false (sym e))
 
 -- a word of the pool that begins at the pool's place ends within the text with the pool
@@ -224,14 +224,14 @@ coming_is : (entries : List (Option EntryWords)) (walk : Walk) (stmt : Stmt) (mo
 unfolding coming_pool
 coming_is entries walk stmt more = refl
 
-abbrev OfOne : List (Option EntryWords) → List Named → Walk → Stmt → List Stmt → List Reloc
+abbrev OfOne : List (Option EntryWords) → List NamePlace → Walk → Stmt → List Stmt → List Reloc
 OfOne entries labels walk stmt more = relocs_in Text (walk_pieces entries labels walk (word_place walk stmt.kind (coming_pool entries walk (stmt ∷ more))) stmt.kind)
 
-abbrev OfRest : List (Option EntryWords) → List Named → Walk → Stmt → List Stmt → List Reloc
+abbrev OfRest : List (Option EntryWords) → List NamePlace → Walk → Stmt → List Stmt → List Reloc
 OfRest entries labels walk stmt more = relocs_in Text (pieces_from entries labels (next entries walk stmt.kind) more)
 
 -- where the pool ends at the statement
-comes_here : (entries : List (Option EntryWords)) (labels : List Named) (walk : Walk) (stmt : Stmt) (more : List Stmt) (word : Word) (at end : ℕ) → ends_pool walk stmt.kind ≡ true
+comes_here : (entries : List (Option EntryWords)) (labels : List NamePlace) (walk : Walk) (stmt : Stmt) (more : List Stmt) (word : Word) (at end : ℕ) → ends_pool walk stmt.kind ≡ true
     → Onward entries walk stmt → StandInOrder (next entries walk stmt.kind).at.sizes.text (OfRest entries labels walk stmt more) end → walk.at.sizes.text ≤ MOST_BYTES → HasWord walk.pool word at
     → Comes entries labels walk (stmt ∷ more) word at
 comes_here entries labels walk stmt more word at end e on order small there =
@@ -259,7 +259,7 @@ comes_here entries labels walk stmt more word at end e on order small there =
     onward_of j place pool after h k e = omega (arith, h, k, e)
 
 -- where it comes later
-comes_later : (entries : List (Option EntryWords)) (labels : List Named) (walk : Walk) (stmt : Stmt) (more : List Stmt) (word : Word) (at : ℕ) → ends_pool walk stmt.kind ≡ false
+comes_later : (entries : List (Option EntryWords)) (labels : List NamePlace) (walk : Walk) (stmt : Stmt) (more : List Stmt) (word : Word) (at : ℕ) → ends_pool walk stmt.kind ≡ false
     → Onward entries walk stmt → StandInOrder walk.at.sizes.text (OfOne entries labels walk stmt more) (next entries walk stmt.kind).at.sizes.text
     → Comes entries labels (next entries walk stmt.kind) more word at → Comes entries labels walk (stmt ∷ more) word at
 comes_later entries labels walk stmt more word at e on order ih =
@@ -285,10 +285,10 @@ comes_later entries labels walk stmt more word at e on order ih =
     up : (a b c : ℕ) → a ≤ b → b ≤ c → a ≤ c
     up a b c h k = omega (arith, h, k)
 
-comes : (entries : List (Option EntryWords)) (labels : List Named) (walk : Walk) (stmts : List Stmt) (word : Word) (at : ℕ) → Fewer entries
+comes : (entries : List (Option EntryWords)) (labels : List NamePlace) (walk : Walk) (stmts : List Stmt) (word : Word) (at : ℕ) → Fewer entries
     → refusals_from entries labels walk stmts ≡ [] → is_too_large (sizes_with_pool (walk_after entries walk stmts)) ≡ false → walk.at.sizes.text ≤ MOST_BYTES → HasWord walk.pool word at
     → Comes entries labels walk stmts word at
-unfolding pieces_of placed_from walk_after coming_pool
+unfolding pieces_of place_stmts_from walk_after coming_pool
 comes entries labels walk [] word at few r h small there = record {
   later = pool_later walk small;
   small = below_end (pool_place walk + 4 * at) (sizes_with_pool walk).text (pool_end walk word at there (not_large (sizes_with_pool walk) Text h)) (not_large (sizes_with_pool walk) Text h);
@@ -300,7 +300,7 @@ comes entries labels walk [] word at few r h small there = record {
 comes entries labels walk (stmt ∷ more) word at few r h small there =
     let after = next entries walk stmt.kind in
     let place = word_place walk stmt.kind (coming_pool entries walk (stmt ∷ more)) in
-    let parts = none_parts stmt.line (refusal labels stmt.kind walk.at.section (here walk.at).offset place) (refusals_from entries labels after more) r in
+    let parts = none_parts stmt.line (refusal labels stmt.kind walk.at.section (cursor_place walk.at).offset place) (refusals_from entries labels after more) r in
     let on = onward entries labels walk stmt more few r parts.1 h in
     by (ends_pool walk stmt.kind) refl on (all_stand entries labels after more Text few parts.1 h) (own_end entries labels walk stmt more few r h)
     (λ e. comes entries labels after more word at few parts.1 h on.small (pool_keeps entries walk stmt.kind word at e there))
@@ -315,7 +315,7 @@ comes entries labels walk (stmt ∷ more) word at few r h small there =
 -- ---- the place that the instruction counts
 
 -- two literals with one code have one offset
-same_literal : (t a b : ℕ) (c d : Code) → encoded_of (LdrLit t (pos a)) ≡ Ok c → encoded_of (LdrLit t (pos b)) ≡ Ok d → bytes_of_code (Ok c) ≡ bytes_of_code (Ok d) → a ≡ b
+same_literal : (t a b : ℕ) (c d : Code) → encode_result (LdrLit t (pos a)) ≡ Ok c → encode_result (LdrLit t (pos b)) ≡ Ok d → bytes_of_code (Ok c) ≡ bytes_of_code (Ok d) → a ≡ b
 same_literal t a b c d e f same =
     let one = literal_is 0x4800 t a c e in
     let two = literal_is 0x4800 t b d f in
@@ -331,11 +331,11 @@ record Literal (t : ℕ) (place to : ℕ) : Type 0 where
   offset : literal to place ≡ pos n
   is : to ≡ base place + n
   code : Code
-  encoded : encoded_of (LdrLit t (literal to place)) ≡ Ok code
+  encoded : encode_result (LdrLit t (literal to place)) ≡ Ok code
 
 -- a literal that has a code leads forward
-literal_there : (t place to : ℕ) (bytes : List ℕ) → place ≤ MOST_BYTES → to ≤ MOST_BYTES → bytes_of_code (encoded_of (LdrLit t (literal to place))) ≡ bytes → length bytes ≡ 2 → Literal t place to
-literal_there t place to bytes h k e l = by (literal to place) refl (encoded_of (LdrLit t (literal to place))) refl (ap length e ∙ l)
+literal_there : (t place to : ℕ) (bytes : List ℕ) → place ≤ MOST_BYTES → to ≤ MOST_BYTES → bytes_of_code (encode_result (LdrLit t (literal to place))) ≡ bytes → length bytes ≡ 2 → Literal t place to
+literal_there t place to bytes h k e l = by (literal to place) refl (encode_result (LdrLit t (literal to place))) refl (ap length e ∙ l)
   where
     displacement : literal to place ≡ pos to -ℤ pos (base place)
     displacement = minus_small to (base place) (omega (arith, k)) (omega (arith, h))
@@ -347,24 +347,24 @@ literal_there t place to bytes h k e l = by (literal to place) refl (encoded_of 
     leads : (to from n : ℕ) → pos to -ℤ pos from ≡ pos n → to ≡ from + n
     leads to from n e = grind (arith, ints, nat_tests, e)
 
-    by : (off : ℤ) → literal to place ≡ off → (r : Result Code EncodeFault) → encoded_of (LdrLit t (literal to place)) ≡ r → length (bytes_of_code r) ≡ 2 → Literal t place to
+    by : (off : ℤ) → literal to place ≡ off → (r : Result Code EncodeFault) → encode_result (LdrLit t (literal to place)) ≡ r → length (bytes_of_code r) ≡ 2 → Literal t place to
     by (pos n) o r f size =
         let c = some r size in
         record { n = n; offset = o; is = leads to (base place) n (sym displacement ∙ o); code = c.0; encoded = f ∙ c.1 }
     by (negsuc n) o r f size =
         let c = some r size in
-        absurd (backward t n c.0 (sym (ap (λ off. encoded_of (LdrLit t off)) o) ∙ f ∙ c.1))
+        absurd (backward t n c.0 (sym (ap (λ off. encode_result (LdrLit t off)) o) ∙ f ∙ c.1))
       where
-        backward : (t n : ℕ) (c : Code) → encoded_of (LdrLit t (negsuc n)) ≡ Ok c → ⊥
+        backward : (t n : ℕ) (c : Code) → encode_result (LdrLit t (negsuc n)) ≡ Ok c → ⊥
         backward t n c e = no_literal (nat_lt 7 t) (λ words. code.Half (0x4800 + t * 2 ^ 8 + words)) c e
 
 same_place : (t place a b : ℕ) (bytes : List ℕ) → place ≤ MOST_BYTES → a ≤ MOST_BYTES → b ≤ MOST_BYTES → length bytes ≡ 2
-    → bytes_of_code (encoded_of (LdrLit t (literal a place))) ≡ bytes → bytes_of_code (encoded_of (LdrLit t (literal b place))) ≡ bytes → a ≡ b
+    → bytes_of_code (encode_result (LdrLit t (literal a place))) ≡ bytes → bytes_of_code (encode_result (LdrLit t (literal b place))) ≡ bytes → a ≡ b
 same_place t place a b bytes h k l size e f =
     let one = literal_there t place a bytes h k e size in
     let two = literal_there t place b bytes h l f size in
     let same = same_literal t one.n two.n one.code two.code
-    (sym (ap (λ off. encoded_of (LdrLit t off)) one.offset) ∙ one.encoded) (sym (ap (λ off. encoded_of (LdrLit t off)) two.offset) ∙ two.encoded)
+    (sym (ap (λ off. encode_result (LdrLit t off)) one.offset) ∙ one.encoded) (sym (ap (λ off. encode_result (LdrLit t off)) two.offset) ∙ two.encoded)
     (sym (ap bytes_of_code one.encoded) ∙ e ∙ sym f ∙ ap bytes_of_code two.encoded) in
     omega (arith, one.is, two.is, same)
 
@@ -374,18 +374,18 @@ abbrev load_at : ℕ → ℕ → Expr → Stmt
 load_at line t value = record { line = line; kind = statement.LdrPool t value }
 
 -- what a load has in the pieces of its source: its own code, and its word's field after it
-record Loaded (entries : List (Option EntryWords)) (labels : List Named) (walk : Walk) (line t : ℕ) (value : Expr) (more : List Stmt) : Type 0 where
+record Loaded (entries : List (Option EntryWords)) (labels : List NamePlace) (walk : Walk) (line t : ℕ) (value : Expr) (more : List Stmt) : Type 0 where
   place : ℕ
   place_is : Some place ≡ word_place walk (statement.LdrPool t value) (coming_pool entries walk (load_at line t value ∷ more))
   following_it : walk.at.sizes.text ≤ place
   small : place ≤ MOST_BYTES
   held : Held (relocs_in Text (pieces_from entries labels walk (load_at line t value ∷ more))) (word_of value) place
-  coded : result_err (encoded_of (LdrLit t (literal place (here walk.at).offset))) ≡ None
+  coded : result_err (encode_result (LdrLit t (literal place (cursor_place walk.at).offset))) ≡ None
 
-loaded : (entries : List (Option EntryWords)) (labels : List Named) (walk : Walk) (line t : ℕ) (value : Expr) (more : List Stmt) → Fewer entries
+loaded : (entries : List (Option EntryWords)) (labels : List NamePlace) (walk : Walk) (line t : ℕ) (value : Expr) (more : List Stmt) → Fewer entries
     → refusals_from entries labels walk (load_at line t value ∷ more) ≡ [] → is_too_large (sizes_with_pool (walk_after entries walk (load_at line t value ∷ more))) ≡ false
     → same_section walk.at.section Text ≡ true → Loaded entries labels walk line t value more
-unfolding pieces_of placed_from walk_after coming_pool
+unfolding pieces_of place_stmts_from walk_after coming_pool
 loaded entries labels walk line t value more few r h text =
     let kind = statement.LdrPool t value in
     let stmt = load_at line t value in
@@ -395,7 +395,7 @@ loaded entries labels walk line t value more few r h text =
     let word = word_place walk kind coming in
     let place = sum_64 coming (times at 4) in
     let named : word ≡ Some place = ap (λ b. option_map (sum_64 coming) (cond b (Some (times at 4)) None)) text in
-    let parts = none_parts line (refusal labels kind walk.at.section (here walk.at).offset word) (refusals_from entries labels after more) r in
+    let parts = none_parts line (refusal labels kind walk.at.section (cursor_place walk.at).offset word) (refusals_from entries labels after more) r in
     let on = onward entries labels walk stmt more few r parts.1 h in
     let W : Bool → Type 0 = λ b. HasWord (cond b (pool_with walk.pool (word_of value)) walk.pool) (word_of value) at in
     let put : HasWord after.pool (word_of value) at = subst W (sym text) (put_there walk.pool (word_of value)) in
@@ -416,7 +416,7 @@ loaded entries labels walk line t value more few r h text =
       small = omega (arith, is, low);
       held = subst H (sym is) (subst P (sym (relocs_on entries labels walk stmt more)) both);
       coded =
-          ap (λ o. instruction_fault (Some (LdrLit t (literal_to o (here walk.at).offset)))) (sym named)
+          ap (λ o. instruction_fault (Some (LdrLit t (literal_to o (cursor_place walk.at).offset)))) (sym named)
           ∙ loads entries labels walk kind more word refl (not_large (sizes_with_pool (walk_after entries after more)) Text h) parts.0 refl;
     }
   where
@@ -429,8 +429,8 @@ loaded entries labels walk line t value more few r h text =
 fewer : (a b : ℕ) → a ≤ b → b < 2 ^ 64 → a < 2 ^ 64
 fewer a b h k = omega (arith, h, k)
 
-joined_text : (stmts : List Stmt) → (joined stmts).text ≡ bytes_in Text (pieces_from (entries_of stmts) (labels_of (entries_of stmts) stmts) start stmts)
-unfolding joined
+joined_text : (stmts : List Stmt) → (assembled_object stmts).text ≡ bytes_in Text (pieces_from (entries_of stmts) (labels_of (entries_of stmts) stmts) start stmts)
+unfolding assembled_object
 joined_text stmts = refl
 
 four_read : (x k : ℕ) (bytes : List ℕ) → take 4 (drop k bytes) ≡ word_bytes x → Reads 4 bytes k (x % 256 ^ 4)
@@ -484,17 +484,17 @@ in_source stmts before more line t value object same few is text =
     let object_relocs = ap (λ (o : Object). o.relocs) is.object_is ∙ joined_relocs stmts in
     let front = earlier_stand entries labels start before after Text few_entries unrefused large in
     let H : List Reloc → Type 0 = λ x. Held x (word_of value) l.place in
-    let held = subst H (sym relocs)
+    let section_word = subst H (sym relocs)
     (held_both (relocs_in Text first) (relocs_in Text (pieces_from entries labels walk after)) (word_of value) l.place
     (λ j low below. none_before_it Text _ (relocs_in Text first) walk.at.sizes.text j front (up walk.at.sizes.text l.place j l.following_it low)) l.held) in
     record {
       own = l;
       field = λ link e.
           let P : List Reloc → Type 0 = λ x. Has x (field_at Text l.place link) in
-          subst P (sym object_relocs) (has_of_section Text pieces (field_at Text l.place link) refl (held.field link e));
+          subst P (sym object_relocs) (has_of_section Text pieces (field_at Text l.place link) refl (section_word.field link e));
       clear = λ e j low below.
           let P : List Reloc → Type 0 = λ x. IsInNoField Text j x in
-          subst P (sym object_relocs) (none_of_section Text pieces j (all_own entries labels start stmts) (held.clear e j low below));
+          subst P (sym object_relocs) (none_of_section Text pieces j (all_own entries labels start stmts) (section_word.clear e j low below));
       whole =
           let P : ℕ → Type 0 = λ n. n ≤ MOST_BYTES in
           subst P (sym (ap (λ (o : Object). length o.text) is.object_is ∙ ap length (joined_text stmts)))
@@ -521,13 +521,13 @@ law_of_pools objects entry image placed one before more line t value few accepte
     let instruction = LdrLit t (literal l.place place) in
     let rest : n.own.rest ≡ load_at line t value ∷ more = cancelled before n.own.rest (load_at line t value ∷ more) (sym n.own.rest_is) in
     let word : n.own.word ≡ Some l.place = n.own.word_is ∙ ap (λ x. word_place (walk_over stmts before) kind (coming_pool (entries_of stmts) (walk_over stmts before) x)) rest ∙ sym l.place_is in
-    let bytes : (own_piece labels kind (here (walk_over stmts before).at) n.own.word).bytes ≡ bytes_of_code (encoded_of instruction) = ap (λ w. bytes_of_code (encoded_of (LdrLit t (literal_to w place)))) word in
+    let bytes : (own_piece labels kind (cursor_place (walk_over stmts before).at) n.own.word).bytes ≡ bytes_of_code (encode_result instruction) = ap (λ w. bytes_of_code (encode_result (LdrLit t (literal_to w place)))) word in
     let low : place ≤ MOST_BYTES = omega (arith, n.own.small) in
-    let code = coded (encoded_of instruction) l.coded in
-    let size : length (bytes_of_code (encoded_of instruction)) ≡ 2 = (gives instruction).has l.coded in
-    let text : drop place placed.object.text ≡ bytes_of_code (encoded_of instruction) ++ n.own.after =
+    let code = coded (encode_result instruction) l.coded in
+    let size : length (bytes_of_code (encode_result instruction)) ≡ 2 = (gives instruction).has l.coded in
+    let text : drop place placed.object.text ≡ bytes_of_code (encode_result instruction) ++ n.own.after =
     ap (λ s. drop place (bytes_at s placed.object)) (sym n.text) ∙ n.own.bytes ∙ ap (λ b. b ++ n.own.after) bytes in
-    let both : take 2 (drop place placed.object.text) ≡ bytes_of_code (encoded_of instruction) = ap (take 2) text ∙ first_two (bytes_of_code (encoded_of instruction)) n.own.after size in
+    let both : take 2 (drop place placed.object.text) ≡ bytes_of_code (encode_result instruction) = ap (take 2) text ∙ first_two (bytes_of_code (encode_result instruction)) n.own.after size in
     let mine : read.place ≡ l.place =
     same_place t place read.place l.place (take 2 (drop place placed.object.text)) low
     (far read.place _ there.whole (four_read (held_word stmts value) read.place placed.object.text read.word).inside) l.small (ap length both ∙ size) (sym read.code) (sym both) in
@@ -562,7 +562,7 @@ law_of_pools objects entry image placed one before more line t value few accepte
     }
   where
     held_word : List Stmt → Expr → ℕ
-    held_word stmts value = held (labels_of (entries_of stmts) stmts) (word_of value)
+    held_word stmts value = section_word (labels_of (entries_of stmts) stmts) (word_of value)
 
     far : (p whole : ℕ) → whole ≤ MOST_BYTES → p + 4 ≤ whole → p ≤ MOST_BYTES
     far p whole h k = omega (arith, h, k)

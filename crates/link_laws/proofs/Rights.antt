@@ -1,7 +1,7 @@
 -- The segment with the texts is run and not written, any other is written and not run.
 use Rattle.std.proofs.Common.{◌==◌, Bool, true, false, cond, List, [], ◌∷◌, All, refl}
 use Rattle.std.proofs.lemmas.List.Elements.{All-nil, All-cons}
-use Rattle.relocatable_object.specs.declared.object.Object.{Object}
+use Rattle.asm_relocatable.specs.declared.object.Object.{Object}
 use Rattle.elf_write.specs.declared.parts.OwnSegment.{OwnSegment}
 use Rattle.eh_link.specs.Layout.{layout_of, data_size}
 use Rattle.eh_link.specs.LayoutLaw.{linked_code, linked_data}

@@ -19,42 +19,42 @@ use Rattle.asm_statements.specs.declared.statement.Stmt.{Stmt}
 use Rattle.asm_statements.specs.declared.statement.StmtKind.{StmtKind}
 use Rattle.asm_statements.specs.declared.statement.StmtKind.TheVariants as statement
 use Rattle.asm_unwind.specs.declared.entry.EntryWords.{EntryWords}
-use Rattle.relocatable_object.specs.declared.place.Place.{Place}
-use Rattle.relocatable_object.specs.declared.place.Section.{Section}
-use Rattle.relocatable_object.specs.declared.place.Section.TheVariants.{Bss}
+use Rattle.asm_relocatable.specs.declared.place.Place.{Place}
+use Rattle.asm_relocatable.specs.declared.place.Section.{Section}
+use Rattle.asm_relocatable.specs.declared.place.Section.TheVariants.{Bss}
 use Rattle.asm_layout.specs.declared.word.Word.{Word}
 use Rattle.asm_layout.specs.declared.word.Word.TheVariants as word
 use Rattle.asm_layout.specs.Functions.{entries_of, no_frame}
-use Rattle.asm_layout.specs.Labels.{Named, find, labels_of, labelled}
+use Rattle.asm_layout.specs.Labels.{NamePlace, find, labels_of, name_with_label}
 use Rattle.asm_layout.specs.Sizes.{sum_64}
-use Rattle.asm_layout.specs.Walks.{start, here}
-use Rattle.relocatable_object.specs.Sections.{same_section}
+use Rattle.asm_layout.specs.Walks.{start, cursor_place}
+use Rattle.asm_relocatable.specs.Sections.{same_section}
 use Rattle.asm_layout.specs.Words.{low_word, word_of}
-use Rattle.relocatable_object.specs.declared.object.Object.{Object}
-use Rattle.relocatable_object.specs.declared.object.Reloc.{Reloc}
-use Rattle.relocatable_object.specs.declared.relocation.FieldKind.{FieldKind}
-use Rattle.relocatable_object.specs.declared.relocation.FieldKind.TheVariants.{Absolute, Relative, Prel31}
-use Rattle.relocatable_object.specs.declared.relocation.TheConstants.{R_ARM_ABS32, R_ARM_REL32, R_ARM_TARGET2, R_ARM_PREL31}
+use Rattle.asm_relocatable.specs.declared.object.Object.{Object}
+use Rattle.asm_relocatable.specs.declared.object.Reloc.{Reloc}
+use Rattle.asm_relocatable.specs.declared.relocation.FieldKind.{FieldKind}
+use Rattle.asm_relocatable.specs.declared.relocation.FieldKind.TheVariants.{Absolute, Relative, Prel31}
+use Rattle.asm_relocatable.specs.declared.relocation.TheConstants.{R_ARM_ABS32, R_ARM_REL32, R_ARM_TARGET2, R_ARM_PREL31}
 use Rattle.asm_object.specs.Bytes.{word_bytes}
 use Rattle.asm_object.specs.Objects.{symbol_of, object_of}
 use Rattle.asm_object.specs.ObjectLaw.{symbol_place}
-use Rattle.relocatable_object.specs.Fields.{bytes_at}
+use Rattle.asm_relocatable.specs.Fields.{bytes_at}
 use Rattle.asm_object.specs.Pieces.{place_at, relocs_of, word_relocs, words_bytes, own_piece}
 use Rattle.asm_object.specs.Refusals.{has_fields}
-use Rattle.relocatable_object.specs.Relocations.{kind_of}
+use Rattle.asm_relocatable.specs.Relocations.{kind_of}
 use Rattle.asm_object.specs.declared.value.Link.{Link}
-use Rattle.asm_object.specs.Values.{between_places, distance, is_word_known, held, link_of, low_or_zero, number, plus, signed}
+use Rattle.asm_object.specs.Values.{between_places, distance, is_word_known, section_word, link_of, low_or_zero, number, plus, signed_word}
 use Rattle.asm_object.proofs.ObjectLaws.{IsTaken, taken, ends_small, entries_count, same_is}
 use Rattle.elf_write.specs.declared.parts.ImageParts.{ImageParts}
 use Rattle.eh_link.specs.FieldLaw.{IsInNoField}
-use Rattle.eh_link.specs.Placed.{Placed}
-use Rattle.eh_link.specs.Layout.{address_in, placed_of}
+use Rattle.eh_link.specs.Placed.{PlacedObject}
+use Rattle.eh_link.specs.Layout.{address_in, place_objects}
 use Rattle.eh_link.specs.Symbols.{meaning_of}
-use Rattle.eh_link.specs.Fields.{filled}
-use Rattle.eh_link.specs.Linked.{linked}
+use Rattle.eh_link.specs.Fields.{fill_fields}
+use Rattle.eh_link.specs.Linked.{link_result}
 use Rattle.eh_link.proofs.Holding.{filled_length, law_of_other_bytes}
 use Rattle.eh_link.proofs.Words.{Reads, number_is, reads_same}
-use Rattle.source_laws.specs.RowLaw.{walk_over}
+use Rattle.asm_laws.specs.RowLaw.{walk_over}
 use Rattle.link_laws.specs.MeaningLaw.{IsOneOf}
 use Rattle.link_laws.specs.LabelLaw.{Has}
 use Rattle.link_laws.specs.JoinedLaw.{NumberAt}
@@ -69,19 +69,19 @@ use Rattle.link_laws.proofs.Numbers.{in_image}
 -- ---- numbers in no field
 
 -- a number of a section whose bytes lie in no field is the image's
-pub number_stays : (s : Section) (objects : List Object) (entry : List ℕ) (image : ImageParts) (placed : Placed) (one : IsOneOf objects placed) (n k w : ℕ) → linked objects entry ≡ Ok image → 0 < n
+pub number_stays : (s : Section) (objects : List Object) (entry : List ℕ) (image : ImageParts) (placed : PlacedObject) (one : IsOneOf objects placed) (n k w : ℕ) → link_result objects entry ≡ Ok image → 0 < n
     → same_section s Bss ≡ false → Reads n (bytes_at s placed.object) k w → ((j : ℕ) → k ≤ j → j < k + n → IsInNoField s j placed.object.relocs)
     → NumberAt n image (address_in s placed.at + k) w
 number_stays s objects entry image placed one n k w e some given reads none =
-    let all = placed_of objects in
+    let all = place_objects objects in
     let means = meaning_of all placed in
     let start_at = address_in s placed.at in
     let old = bytes_at s placed.object in
     let relocs = placed.object.relocs in
-    let new = reads_same n k w (filled means s start_at old relocs) old (filled_length means s start_at old relocs)
+    let new = reads_same n k w (fill_fields means s start_at old relocs) old (filled_length means s start_at old relocs)
     (λ j from below. law_of_other_bytes means s start_at old relocs j (none j from below)) reads in
     in_image s objects entry image placed one n k w e some
-    (ap (λ l. number_at n l k) (part_is s all placed given) ∙ number_is n (filled means s start_at old relocs) k w new)
+    (ap (λ l. number_at n l k) (part_is s all placed given) ∙ number_is n (fill_fields means s start_at old relocs) k w new)
 
 -- ---- numbers in a statement's bytes
 
@@ -196,15 +196,15 @@ word_clear s offset j (x ∷ front) value back e h from below =
 
 -- ---- labels
 
-symbols_find : (entries : List (Option EntryWords)) (stmts : List Stmt) (name : List ℕ) (labels : List Named) (place : Place) → find name labels ≡ Some place
-    → symbol_place name (map (λ label. symbol_of (labelled entries stmts label)) labels) ≡ Some (record { section = place.section; offset = place.offset % 2 ^ 32 })
+symbols_find : (entries : List (Option EntryWords)) (stmts : List Stmt) (name : List ℕ) (labels : List NamePlace) (place : Place) → find name labels ≡ Some place
+    → symbol_place name (map (λ label. symbol_of (name_with_label entries stmts label)) labels) ≡ Some (record { section = place.section; offset = place.offset % 2 ^ 32 })
 unfolding find
 symbols_find entries stmts name [] place e = absurd (cc)
 symbols_find entries stmts name (label ∷ more) place e = by (same_bytes name label.name) e (symbols_find entries stmts name more place)
   where
     by : (b : Bool) → cond b (Some label.place) (find name more) ≡ Some place
-        → (find name more ≡ Some place → symbol_place name (map (λ l. symbol_of (labelled entries stmts l)) more) ≡ Some (record { section = place.section; offset = place.offset % 2 ^ 32 }))
-        → cond b (Some (record { section = label.place.section; offset = label.place.offset % 2 ^ 32 })) (symbol_place name (map (λ l. symbol_of (labelled entries stmts l)) more))
+        → (find name more ≡ Some place → symbol_place name (map (λ l. symbol_of (name_with_label entries stmts l)) more) ≡ Some (record { section = place.section; offset = place.offset % 2 ^ 32 }))
+        → cond b (Some (record { section = label.place.section; offset = label.place.offset % 2 ^ 32 })) (symbol_place name (map (λ l. symbol_of (name_with_label entries stmts l)) more))
         ≡ Some (record { section = place.section; offset = place.offset % 2 ^ 32 })
     by true e h =
         let same : label.place ≡ place = cc in
@@ -268,7 +268,7 @@ pub record Wording : Type 0 where
   pub objects : List Object
   pub entry : List ℕ
   pub image : ImageParts
-  pub placed : Placed
+  pub placed : PlacedObject
   pub one : IsOneOf objects placed
   pub before : List Stmt
   pub more : List Stmt
@@ -278,7 +278,7 @@ pub record Wording : Type 0 where
   pub value : Expr
   pub few : length (before ++ record { line = line; kind = statement.Words (front ++ value ∷ back) } ∷ more) < 2 ^ 64
   pub accepted : object_of (before ++ record { line = line; kind = statement.Words (front ++ value ∷ back) } ∷ more) ≡ Ok placed.object
-  pub made : linked objects entry ≡ Ok image
+  pub made : link_result objects entry ≡ Ok image
 
 abbrev values : Wording → List Expr
 values w = w.front ++ w.value ∷ w.back
@@ -286,14 +286,14 @@ values w = w.front ++ w.value ∷ w.back
 abbrev source : Wording → List Stmt
 source w = w.before ++ record { line = w.line; kind = statement.Words (values w) } ∷ w.more
 
-abbrev labels_in : Wording → List Named
+abbrev labels_in : Wording → List NamePlace
 labels_in w = labels_of (entries_of (source w)) (source w)
 
 abbrev section_of : Wording → Section
 section_of w = (walk_over (source w) w.before).at.section
 
 abbrev word_place : Wording → ℕ
-word_place w = (here (walk_over (source w) w.before).at).offset + 4 * length w.front
+word_place w = (cursor_place (walk_over (source w) w.before).at).offset + 4 * length w.front
 
 some_fields : (front : List Expr) (x : Expr) (back : List Expr) → has_fields (front ++ x ∷ back) ≡ true
 some_fields front x back = not_none (length (front ++ x ∷ back)) (omega (arith, length-append front (x ∷ back)))
@@ -310,29 +310,29 @@ word_given w =
     given (source w) w.before w.more w.line (statement.Words (values w)) w.placed.object refl w.few (taken (source w) w.placed.object w.accepted) refl
     (λ h. not_there (has_fields (values w)) (same_section (section_of w) Bss) (some_fields w.front w.value w.back) h)
 
-bytes_count : (labels : List Named) (exprs : List Expr) → length (words_bytes labels (map word_of exprs)) ≡ 4 * length exprs
-bytes_count labels exprs = each_has (λ v. word_bytes (held labels v)) 4 (λ v. refl) (map word_of exprs) ∙ ap (λ n. 4 * n) (words_count exprs)
+bytes_count : (labels : List NamePlace) (exprs : List Expr) → length (words_bytes labels (map word_of exprs)) ≡ 4 * length exprs
+bytes_count labels exprs = each_has (λ v. word_bytes (section_word labels v)) 4 (λ v. refl) (map word_of exprs) ∙ ap (λ n. 4 * n) (words_count exprs)
 
 -- the bytes of the section have there what the assembler holds for the word
-word_reads : (w : Wording) (x : ℕ) → held (labels_in w) (word_of w.value) ≡ x → Reads 4 (bytes_at (section_of w) w.placed.object) (word_place w) (x % 256 ^ 4)
+word_reads : (w : Wording) (x : ℕ) → section_word (labels_in w) (word_of w.value) ≡ x → Reads 4 (bytes_at (section_of w) w.placed.object) (word_place w) (x % 256 ^ 4)
 word_reads w x e =
     let own = word_given w in
     let labels = labels_in w in
     let first = words_bytes labels (map word_of w.front) in
     let last = words_bytes labels (map word_of w.back) in
-    reads_there 4 x (here (walk_over (source w) w.before).at).offset (4 * length w.front) (bytes_at (section_of w) w.placed.object) first last own.after (omega arith) refl
+    reads_there 4 x (cursor_place (walk_over (source w) w.before).at).offset (4 * length w.front) (bytes_at (section_of w) w.placed.object) first last own.after (omega arith) refl
     (own.bytes
     ∙ ap (λ l. l ++ own.after)
     (ap (words_bytes labels) (words_split w.front w.back w.value)
-    ∙ each_split (λ v. word_bytes (held labels v)) (map word_of w.front) (word_of w.value) (map word_of w.back)
+    ∙ each_split (λ v. word_bytes (section_word labels v)) (map word_of w.front) (word_of w.value) (map word_of w.back)
     ∙ ap (λ n. first ++ (word_bytes n ++ last)) e))
     (bytes_count labels w.front)
 
 word_clears : (w : Wording) → link_of (word_of w.value) ≡ None → (j : ℕ) → word_place w ≤ j → j < word_place w + 4 → IsInNoField (section_of w) j w.placed.object.relocs
 word_clears w none j from below =
     let own = word_given w in
-    let offset = (here (walk_over (source w) w.before).at).offset in
-    let count : length (own_piece (labels_in w) (statement.Words (values w)) (here (walk_over (source w) w.before).at) own.word).bytes ≡ 4 * length (values w) = bytes_count (labels_in w) (values w) in
+    let offset = (cursor_place (walk_over (source w) w.before).at).offset in
+    let count : length (own_piece (labels_in w) (statement.Words (values w)) (cursor_place (walk_over (source w) w.before).at) own.word).bytes ≡ 4 * length (values w) = bytes_count (labels_in w) (values w) in
     let split = words_split w.front w.back w.value in
     let P : List Word → Type 0 = λ l. IsInNoField (section_of w) j (word_relocs (section_of w) offset l) in
     own.others j (omega (arith, from)) (omega (arith, below, count, length-append w.front (w.value ∷ w.back)))
@@ -344,8 +344,8 @@ word_clears w none j from below =
 word_field : (w : Wording) (link : Link) → link_of (word_of w.value) ≡ Some link → Has w.placed.object.relocs (field_at (section_of w) (word_place w) link)
 word_field w link e =
     let own = word_given w in
-    let offset = (here (walk_over (source w) w.before).at).offset in
-    let count : length (own_piece (labels_in w) (statement.Words (values w)) (here (walk_over (source w) w.before).at) own.word).bytes ≡ 4 * length (values w) = bytes_count (labels_in w) (values w) in
+    let offset = (cursor_place (walk_over (source w) w.before).at).offset in
+    let count : length (own_piece (labels_in w) (statement.Words (values w)) (cursor_place (walk_over (source w) w.before).at) own.word).bytes ≡ 4 * length (values w) = bytes_count (labels_in w) (values w) in
     let low : offset + 4 * length (map word_of w.front) ≤ MOST_BYTES =
     omega (arith, own.small, count, words_count w.front, length-append w.front (w.value ∷ w.back)) in
     let there = words_have (section_of w) offset (map word_of w.front) (word_of w.value) (map word_of w.back) link low e in
@@ -379,25 +379,25 @@ kind_is a b e = cc
 -- ---- what a word of a source is in the image
 
 -- the word of an expression at a place of a section of an object: what the bytes hold there, and its field, or that it lies in none
-pub record WordHere (objects : List Object) (entry : List ℕ) (image : ImageParts) (placed : Placed) (one : IsOneOf objects placed) (stmts : List Stmt) (s : Section) (k : ℕ) (value : Expr) : Type 0 where
+pub record WordHere (objects : List Object) (entry : List ℕ) (image : ImageParts) (placed : PlacedObject) (one : IsOneOf objects placed) (stmts : List Stmt) (s : Section) (k : ℕ) (value : Expr) : Type 0 where
   pub few : length stmts < 2 ^ 64
   pub accepted : object_of stmts ≡ Ok placed.object
-  pub made : linked objects entry ≡ Ok image
+  pub made : link_result objects entry ≡ Ok image
   pub has_bytes : same_section s Bss ≡ false
   pub known : is_word_known (labels_of (entries_of stmts) stmts) value ≡ true
-  pub reads : (x : ℕ) → held (labels_of (entries_of stmts) stmts) (word_of value) ≡ x → Reads 4 (bytes_at s placed.object) k (x % 256 ^ 4)
+  pub reads : (x : ℕ) → section_word (labels_of (entries_of stmts) stmts) (word_of value) ≡ x → Reads 4 (bytes_at s placed.object) k (x % 256 ^ 4)
   pub field : (link : Link) → link_of (word_of value) ≡ Some link → Has placed.object.relocs (field_at s k link)
   pub clear : link_of (word_of value) ≡ None → (j : ℕ) → k ≤ j → j < k + 4 → IsInNoField s j placed.object.relocs
 
 -- a word that the linker doesn't fill
-plain_word : (objects : List Object) (entry : List ℕ) (image : ImageParts) (placed : Placed) (one : IsOneOf objects placed) (stmts : List Stmt) (s : Section) (k : ℕ) (value : Expr)
-    → WordHere objects entry image placed one stmts s k value → (x : ℕ) → link_of (word_of value) ≡ None → held (labels_of (entries_of stmts) stmts) (word_of value) ≡ x
+plain_word : (objects : List Object) (entry : List ℕ) (image : ImageParts) (placed : PlacedObject) (one : IsOneOf objects placed) (stmts : List Stmt) (s : Section) (k : ℕ) (value : Expr)
+    → WordHere objects entry image placed one stmts s k value → (x : ℕ) → link_of (word_of value) ≡ None → section_word (labels_of (entries_of stmts) stmts) (word_of value) ≡ x
     → NumberAt 4 image (address_in s placed.at + k) (x % 256 ^ 4)
 plain_word objects entry image placed one stmts s k value w x none e =
     number_stays s objects entry image placed one 4 k (x % 256 ^ 4) w.made (omega arith) w.has_bytes (w.reads x e) (w.clear none)
 
 -- what the field of a word says, by its kind
-filled_word : (objects : List Object) (entry : List ℕ) (image : ImageParts) (placed : Placed) (one : IsOneOf objects placed) (stmts : List Stmt) (s : Section) (k : ℕ) (value : Expr) (kind : FieldKind) (link : Link)
+filled_word : (objects : List Object) (entry : List ℕ) (image : ImageParts) (placed : PlacedObject) (one : IsOneOf objects placed) (stmts : List Stmt) (s : Section) (k : ℕ) (value : Expr) (kind : FieldKind) (link : Link)
     → WordHere objects entry image placed one stmts s k value → link_of (word_of value) ≡ Some link → kind_of link.kind ≡ Some kind
     → MeansSo objects placed link.name (λ meaning. FieldSays kind meaning link.addend (bytes_at s placed.object) k image (address_in s placed.at + k))
 filled_word objects entry image placed one stmts s k value kind link w e is =
@@ -409,10 +409,10 @@ filled_word objects entry image placed one stmts s k value kind link w e is =
 low_is : (n : ℤ) → low_word n % 256 ^ 4 ≡ low_word n
 low_is n = omega (arith, low_small n)
 
-difference_is : (labels : List Named) (a b : List ℕ) (n displacement : ℤ) → distance labels a b ≡ Some displacement → low_or_zero (plus (distance labels a b) (pos (low_word n))) ≡ low_word (displacement +ℤ n)
+difference_is : (labels : List NamePlace) (a b : List ℕ) (n displacement : ℤ) → distance labels a b ≡ Some displacement → low_or_zero (plus (distance labels a b) (pos (low_word n))) ≡ low_word (displacement +ℤ n)
 difference_is labels a b n displacement e = ap (λ d. low_or_zero (plus d (pos (low_word n)))) e ∙ low_low displacement n
 
-pub word_says : (objects : List Object) (entry : List ℕ) (image : ImageParts) (placed : Placed) (one : IsOneOf objects placed) (stmts : List Stmt) (s : Section) (k : ℕ) (value : Expr)
+pub word_says : (objects : List Object) (entry : List ℕ) (image : ImageParts) (placed : PlacedObject) (one : IsOneOf objects placed) (stmts : List Stmt) (s : Section) (k : ℕ) (value : Expr)
     → WordHere objects entry image placed one stmts s k value → WordSays objects placed image value (address_in s placed.at + k)
 word_says objects entry image placed one stmts s k (expr.Num n) w =
     let P : ℕ → Type 0 = NumberAt 4 image (address_in s placed.at + k) in
@@ -426,7 +426,7 @@ word_says objects entry image placed one stmts s k (expr.Diff a b n) w =
       there = plain_word objects entry image placed one stmts s k (expr.Diff a b n) w (low_word (known.value +ℤ n)) refl (difference_is labels a b n known.value known.is);
     }
 word_says objects entry image placed one stmts s k (expr.Of name n) w =
-    filled_word objects entry image placed one stmts s k (expr.Of name n) Absolute (record { kind = R_ARM_ABS32; name = name; addend = signed (low_word n) }) w refl refl
+    filled_word objects entry image placed one stmts s k (expr.Of name n) Absolute (record { kind = R_ARM_ABS32; name = name; addend = signed_word (low_word n) }) w refl refl
 word_says objects entry image placed one stmts s k (expr.Rel name) w =
     filled_word objects entry image placed one stmts s k (expr.Rel name) Relative (record { kind = R_ARM_REL32; name = name; addend = pos 0 }) w refl refl
 word_says objects entry image placed one stmts s k (expr.Target2 name) w =
@@ -480,26 +480,26 @@ law_of_words objects entry image placed one before more line front back value fe
 -- ---- `.half` and `.byte`
 
 -- a statement of numbers of so many bytes each, in objects that link to an image
-record Numbers (size : ℕ) (stmts before : List Stmt) (kind : StmtKind) (front back : List Expr) (value : Expr) (objects : List Object) (entry : List ℕ) (image : ImageParts) (placed : Placed) (one : IsOneOf objects placed) : Type 0 where
+record Numbers (size : ℕ) (stmts before : List Stmt) (kind : StmtKind) (front back : List Expr) (value : Expr) (objects : List Object) (entry : List ℕ) (image : ImageParts) (placed : PlacedObject) (one : IsOneOf objects placed) : Type 0 where
   few : length stmts < 2 ^ 64
   accepted : object_of stmts ≡ Ok placed.object
-  made : linked objects entry ≡ Ok image
+  made : link_result objects entry ≡ Ok image
   some : 0 < size
   whole : (x : ℕ) → length (little_bytes size x) ≡ size
   own : Given stmts before kind placed.object
-  unlinked : (own_piece (labels_of (entries_of stmts) stmts) kind (here (walk_over stmts before).at) own.word).relocs ≡ []
+  unlinked : (own_piece (labels_of (entries_of stmts) stmts) kind (cursor_place (walk_over stmts before).at) own.word).relocs ≡ []
   bytes :
-      (own_piece (labels_of (entries_of stmts) stmts) kind (here (walk_over stmts before).at) own.word).bytes
+      (own_piece (labels_of (entries_of stmts) stmts) kind (cursor_place (walk_over stmts before).at) own.word).bytes
       ≡ flat_map (λ v. little_bytes size (low_or_zero (number (labels_of (entries_of stmts) stmts) v))) (front ++ value ∷ back)
   known : is_some (number (labels_of (entries_of stmts) stmts) value) ≡ true
 
-number_there : (size : ℕ) (stmts before : List Stmt) (kind : StmtKind) (front back : List Expr) (value : Expr) (objects : List Object) (entry : List ℕ) (image : ImageParts) (placed : Placed) (one : IsOneOf objects placed)
+number_there : (size : ℕ) (stmts before : List Stmt) (kind : StmtKind) (front back : List Expr) (value : Expr) (objects : List Object) (entry : List ℕ) (image : ImageParts) (placed : PlacedObject) (one : IsOneOf objects placed)
     → Numbers size stmts before kind front back value objects entry image placed one
-    → NumberAt size image (address_in (walk_over stmts before).at.section placed.at + ((here (walk_over stmts before).at).offset + size * length front)) (low_or_zero (number (labels_of (entries_of stmts) stmts) value) % 256 ^ size)
+    → NumberAt size image (address_in (walk_over stmts before).at.section placed.at + ((cursor_place (walk_over stmts before).at).offset + size * length front)) (low_or_zero (number (labels_of (entries_of stmts) stmts) value) % 256 ^ size)
 number_there size stmts before kind front back value objects entry image placed one c =
     let s = (walk_over stmts before).at.section in
     let labels = labels_of (entries_of stmts) stmts in
-    let offset = (here (walk_over stmts before).at).offset in
+    let offset = (cursor_place (walk_over stmts before).at).offset in
     let f : Expr → List ℕ = λ v. little_bytes size (low_or_zero (number labels v)) in
     let x = low_or_zero (number labels value) in
     let first = each_has f size (λ v. c.whole (low_or_zero (number labels v))) front in
@@ -523,7 +523,7 @@ number_there size stmts before kind front back value objects entry image placed 
     inside : (j offset size front all bytes : ℕ) → j < offset + size * front + size → suc front ≤ all → bytes ≡ size * all → j < offset + bytes
     inside j offset size front all bytes h k e = below_all j offset (size * front) size (size * suc front) (size * all) bytes h (mul-suc size front) (mul-le-mul_left size k) e
 
-number_says : (size : ℕ) (stmts before : List Stmt) (kind : StmtKind) (front back : List Expr) (value : Expr) (objects : List Object) (entry : List ℕ) (image : ImageParts) (placed : Placed) (one : IsOneOf objects placed)
+number_says : (size : ℕ) (stmts before : List Stmt) (kind : StmtKind) (front back : List Expr) (value : Expr) (objects : List Object) (entry : List ℕ) (image : ImageParts) (placed : PlacedObject) (one : IsOneOf objects placed)
     → Numbers size stmts before kind front back value objects entry image placed one → (v : Expr) → value ≡ v
     → SaysThere objects placed one stmts before (size * length front) (NumberSays size objects placed image v)
 number_says size stmts before kind front back value objects entry image placed one c v e = record {
@@ -532,7 +532,7 @@ number_says size stmts before kind front back value objects entry image placed o
   says =
       by v
       (ap (λ u. is_some (number (labels_of (entries_of stmts) stmts) u)) (sym e) ∙ c.known)
-      (let P : Expr → Type 0 = λ u. NumberAt size image (address_in (walk_over stmts before).at.section placed.at + ((here (walk_over stmts before).at).offset + size * length front)) (low_or_zero (number (labels_of (entries_of stmts) stmts) u) % 256 ^ size) in
+      (let P : Expr → Type 0 = λ u. NumberAt size image (address_in (walk_over stmts before).at.section placed.at + ((cursor_place (walk_over stmts before).at).offset + size * length front)) (low_or_zero (number (labels_of (entries_of stmts) stmts) u) % 256 ^ size) in
       subst P e (number_there size stmts before kind front back value objects entry image placed one c));
 }
   where
@@ -541,12 +541,12 @@ number_says size stmts before kind front back value objects entry image placed o
     some_of None n h = h
 
     by : (v : Expr) → is_some (number (labels_of (entries_of stmts) stmts) v) ≡ true
-        → NumberAt size image (address_in (walk_over stmts before).at.section placed.at + ((here (walk_over stmts before).at).offset + size * length front)) (low_or_zero (number (labels_of (entries_of stmts) stmts) v) % 256 ^ size)
-        → NumberSays size objects placed image v (address_in (walk_over stmts before).at.section placed.at + ((here (walk_over stmts before).at).offset + size * length front))
+        → NumberAt size image (address_in (walk_over stmts before).at.section placed.at + ((cursor_place (walk_over stmts before).at).offset + size * length front)) (low_or_zero (number (labels_of (entries_of stmts) stmts) v) % 256 ^ size)
+        → NumberSays size objects placed image v (address_in (walk_over stmts before).at.section placed.at + ((cursor_place (walk_over stmts before).at).offset + size * length front))
     by (expr.Num n) k h = h
     by (expr.Diff a b n) k h =
         let known = known_some (distance (labels_of (entries_of stmts) stmts) a b) (some_of (distance (labels_of (entries_of stmts) stmts) a b) n k) in
-        let P : Option ℤ → Type 0 = λ d. NumberAt size image (address_in (walk_over stmts before).at.section placed.at + ((here (walk_over stmts before).at).offset + size * length front)) (low_or_zero (plus d n) % 256 ^ size) in
+        let P : Option ℤ → Type 0 = λ d. NumberAt size image (address_in (walk_over stmts before).at.section placed.at + ((cursor_place (walk_over stmts before).at).offset + size * length front)) (low_or_zero (plus d n) % 256 ^ size) in
         record {
           displacement = known.value;
           apart = stands_after stmts placed.object a b known.value c.few (taken stmts placed.object c.accepted) known.is;

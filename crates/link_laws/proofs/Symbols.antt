@@ -2,19 +2,19 @@
 use Rattle.std.proofs.Common.{◌≡◌, ℕ, ◌+◌, ◌<◌, ◌≤◌, ◌⊎◌, inl, inr, ◌==◌, Bool, true, false, cond, List, [], ◌∷◌, ◌++◌, flat_map, map, length, Ok, refl, sym, ap, ◌∙◌, arith, subst}
 use Rattle.std.proofs.lemmas.Bool.{true≢false}
 use Rattle.std.proofs.lemmas.Bool.Decides.{nat_tests}
-use Rattle.relocatable_object.specs.declared.place.Section.{Section}
-use Rattle.relocatable_object.specs.declared.place.Section.TheVariants.{Text, Rodata, Extab, Init, Bss}
-use Rattle.relocatable_object.specs.Names.{is_local}
-use Rattle.relocatable_object.specs.declared.object.Object.{Object}
-use Rattle.relocatable_object.specs.declared.object.ObjSymbol.{ObjSymbol}
+use Rattle.asm_relocatable.specs.declared.place.Section.{Section}
+use Rattle.asm_relocatable.specs.declared.place.Section.TheVariants.{Text, Rodata, Extab, Init, Bss}
+use Rattle.asm_relocatable.specs.Names.{is_local}
+use Rattle.asm_relocatable.specs.declared.object.Object.{Object}
+use Rattle.asm_relocatable.specs.declared.object.ObjSymbol.{ObjSymbol}
 use Rattle.elf_write.specs.declared.parts.ImageParts.{ImageParts}
 use Rattle.elf_write.specs.declared.parts.OwnSymbol.{OwnSymbol}
 use Rattle.eh_link.specs.declared.places.Addresses.{Addresses}
-use Rattle.eh_link.specs.declared.places.Layout.{Layout}
-use Rattle.eh_link.specs.Placed.{Placed}
-use Rattle.eh_link.specs.Layout.{size_in, address_in, aligned, end_of, layout_of, firsts, all_aligned, ends, placed_from, placed_of}
-use Rattle.eh_link.specs.Symbols.{mark_symbol, mark_symbols, words_between, label_symbols, exported, symbols_of}
-use Rattle.eh_link.specs.Linked.{parts_of, linked}
+use Rattle.eh_link.specs.declared.places.ImageLayout.{ImageLayout}
+use Rattle.eh_link.specs.Placed.{PlacedObject}
+use Rattle.eh_link.specs.Layout.{size_in, address_in, align_to_word, end_of, layout_of, firsts, align_all, part_ends, place_objects_from, place_objects}
+use Rattle.eh_link.specs.Symbols.{mark_symbol, mark_symbols, words_between, label_symbols, exported_symbols, symbols_of}
+use Rattle.eh_link.specs.Linked.{parts_of, link_result}
 use Rattle.eh_link.proofs.Layouts.{ends_of, end_ge}
 use Rattle.link_laws.specs.MeaningLaw.{IsOneOf}
 use Rattle.link_laws.specs.LabelLaw.{Has, symbol_at}
@@ -81,14 +81,14 @@ maps f (x ∷ xs) (z ∷ before) after y e =
 
 -- ---- where parts stand
 
-aligned_in : (s : Section) (at : Addresses) → address_in s (all_aligned at) ≡ aligned (address_in s at)
+aligned_in : (s : Section) (at : Addresses) → address_in s (align_all at) ≡ align_to_word (address_in s at)
 aligned_in Text at = refl
 aligned_in Rodata at = refl
 aligned_in Extab at = refl
 aligned_in Init at = refl
 aligned_in Bss at = refl
 
-ends_in : (s : Section) (at : Addresses) (object : Object) → address_in s (ends at object) ≡ address_in s at + size_in s object
+ends_in : (s : Section) (at : Addresses) (object : Object) → address_in s (part_ends at object) ≡ address_in s at + size_in s object
 ends_in Text at object = refl
 ends_in Rodata at object = refl
 ends_in Extab at object = refl
@@ -96,19 +96,19 @@ ends_in Init at object = refl
 ends_in Bss at object = refl
 
 -- an object's part of a section stands between the first one's start and the end of the last
-record Within (s : Section) (at : Addresses) (objects : List Object) (placed : Placed) : Type 0 where
-  following : aligned (address_in s at) ≤ address_in s placed.at
+record Within (s : Section) (at : Addresses) (objects : List Object) (placed : PlacedObject) : Type 0 where
+  following : align_to_word (address_in s at) ≤ address_in s placed.at
   before : address_in s placed.at + size_in s placed.object ≤ end_of s (address_in s at) objects
 
-within_from : (s : Section) (at : Addresses) (objects : List Object) (front back : List Placed) (placed : Placed) → placed_from at objects ≡ front ++ placed ∷ back → Within s at objects placed
+within_from : (s : Section) (at : Addresses) (objects : List Object) (front back : List PlacedObject) (placed : PlacedObject) → place_objects_from at objects ≡ front ++ placed ∷ back → Within s at objects placed
 within_from s at [] [] back placed e = absurd cc
 within_from s at [] (x ∷ front) back placed e = absurd cc
 within_from s at (object ∷ more) [] back placed e =
-    let same : record { object = object; at = all_aligned at } ≡ placed = cc in
-    let P : Placed → Type 0 = λ p. Within s at (object ∷ more) p in
+    let same : record { object = object; at = align_all at } ≡ placed = cc in
+    let P : PlacedObject → Type 0 = λ p. Within s at (object ∷ more) p in
     subst P same (record {
-      following = here (aligned (address_in s at)) (address_in s (all_aligned at)) (aligned_in s at);
-      before = ended (aligned (address_in s at)) (address_in s (all_aligned at)) (size_in s object) (end_of s (aligned (address_in s at) + size_in s object) more) (aligned_in s at) (end_ge s (aligned (address_in s at) + size_in s object) more);
+      following = here (align_to_word (address_in s at)) (address_in s (align_all at)) (aligned_in s at);
+      before = ended (align_to_word (address_in s at)) (address_in s (align_all at)) (size_in s object) (end_of s (align_to_word (address_in s at) + size_in s object) more) (aligned_in s at) (end_ge s (align_to_word (address_in s at) + size_in s object) more);
     })
   where
     here : (a b : ℕ) → b ≡ a → a ≤ b
@@ -117,40 +117,40 @@ within_from s at (object ∷ more) [] back placed e =
     ended : (a b size end : ℕ) → b ≡ a → a + size ≤ end → b + size ≤ end
     ended a b size end e h = omega (arith, e, h)
 within_from s at (object ∷ more) (x ∷ front) back placed e =
-    let rest : placed_from (ends (all_aligned at) object) more ≡ front ++ placed ∷ back = cc in
-    let later = within_from s (ends (all_aligned at) object) more front back placed rest in
-    let next : address_in s (ends (all_aligned at) object) ≡ aligned (address_in s at) + size_in s object = ends_in s (all_aligned at) object ∙ ap (λ n. n + size_in s object) (aligned_in s at) in
+    let rest : place_objects_from (part_ends (align_all at) object) more ≡ front ++ placed ∷ back = cc in
+    let later = within_from s (part_ends (align_all at) object) more front back placed rest in
+    let next : address_in s (part_ends (align_all at) object) ≡ align_to_word (address_in s at) + size_in s object = ends_in s (align_all at) object ∙ ap (λ n. n + size_in s object) (aligned_in s at) in
     let P : ℕ → Type 0 = λ n. address_in s placed.at + size_in s placed.object ≤ end_of s n more in
     record {
-      following = onward (aligned (address_in s at)) (size_in s object) (address_in s (ends (all_aligned at) object)) (address_in s placed.at) next later.following;
+      following = onward (align_to_word (address_in s at)) (size_in s object) (address_in s (part_ends (align_all at) object)) (address_in s placed.at) next later.following;
       before = subst P next later.before;
     }
   where
-    onward : (a size n to : ℕ) → n ≡ a + size → aligned n ≤ to → a ≤ to
+    onward : (a size n to : ℕ) → n ≡ a + size → align_to_word n ≤ to → a ≤ to
     onward a size n to e h = omega (arith, e, h)
 
 -- ---- the first object
 
 record First (objects : List Object) : Type 0 where
-  first : Placed
-  rest : List Placed
-  split : placed_of objects ≡ first ∷ rest
-  at_is : first.at ≡ all_aligned (firsts (layout_of objects))
+  first : PlacedObject
+  rest : List PlacedObject
+  split : place_objects objects ≡ first ∷ rest
+  at_is : first.at ≡ align_all (firsts (layout_of objects))
 
 some_first : (objects : List Object) → (objects ≡ [] → ⊥) → First objects
 some_first [] none = absurd (none refl)
 some_first (object ∷ more) none = record {
-  first = record { object = object; at = all_aligned (firsts (layout_of (object ∷ more))) };
-  rest = placed_from (ends (all_aligned (firsts (layout_of (object ∷ more)))) object) more;
+  first = record { object = object; at = align_all (firsts (layout_of (object ∷ more))) };
+  rest = place_objects_from (part_ends (align_all (firsts (layout_of (object ∷ more)))) object) more;
   split = refl;
   at_is = refl;
 }
 
-one_there : (objects : List Object) (placed : Placed) → IsOneOf objects placed → objects ≡ [] → ⊥
+one_there : (objects : List Object) (placed : PlacedObject) → IsOneOf objects placed → objects ≡ [] → ⊥
 one_there [] placed one e = nothing_in one.front one.back placed one.split
 one_there (x ∷ objects) placed one e = cc
 
-linked_there : (objects : List Object) (entry : List ℕ) (image : ImageParts) → linked objects entry ≡ Ok image → objects ≡ [] → ⊥
+linked_there : (objects : List Object) (entry : List ℕ) (image : ImageParts) → link_result objects entry ≡ Ok image → objects ≡ [] → ⊥
 linked_there [] entry image made e = true≢false (sym (has_one [] entry image made))
 linked_there (x ∷ objects) entry image made e = cc
 
@@ -166,11 +166,11 @@ begins_data s objects f symbol start e h =
       is = e ∙ ap data_at h;
     }
 
-rodata_begins : (objects : List Object) (f : First objects) (symbol : OwnSymbol) → symbol ≡ data_at (aligned (layout_of objects).text_end) → BeginsData Rodata objects symbol
-rodata_begins objects f symbol e = begins_data Rodata objects f symbol (aligned (layout_of objects).text_end) e (sym (ap (λ (a : Addresses). a.rodata) f.at_is))
+rodata_begins : (objects : List Object) (f : First objects) (symbol : OwnSymbol) → symbol ≡ data_at (align_to_word (layout_of objects).text_end) → BeginsData Rodata objects symbol
+rodata_begins objects f symbol e = begins_data Rodata objects f symbol (align_to_word (layout_of objects).text_end) e (sym (ap (λ (a : Addresses). a.rodata) f.at_is))
 
-extab_begins : (objects : List Object) (f : First objects) (symbol : OwnSymbol) → symbol ≡ data_at (aligned (layout_of objects).rodata_end) → BeginsData Extab objects symbol
-extab_begins objects f symbol e = begins_data Extab objects f symbol (aligned (layout_of objects).rodata_end) e (sym (ap (λ (a : Addresses). a.extab) f.at_is))
+extab_begins : (objects : List Object) (f : First objects) (symbol : OwnSymbol) → symbol ≡ data_at (align_to_word (layout_of objects).rodata_end) → BeginsData Extab objects symbol
+extab_begins objects f symbol e = begins_data Extab objects f symbol (align_to_word (layout_of objects).rodata_end) e (sym (ap (λ (a : Addresses). a.extab) f.at_is))
 
 -- ---- `$d` where data begins
 
@@ -191,38 +191,38 @@ in_data start end symbol h = by (start == end) h.before h.after h.split
     by true before after e = absurd (nothing_in before after symbol e)
     by false before after e = only_one (data_at start) symbol before after e
 
-abbrev marks : List Placed → List OwnSymbol
+abbrev marks : List PlacedObject → List OwnSymbol
 marks all = flat_map mark_symbols all
 
-abbrev rodata : Layout → List OwnSymbol
-rodata layout = words_between (aligned layout.text_end) layout.rodata_end
+abbrev rodata : ImageLayout → List OwnSymbol
+rodata layout = words_between (align_to_word layout.text_end) layout.rodata_end
 
-abbrev extab : Layout → List OwnSymbol
-extab layout = words_between (aligned layout.rodata_end) layout.extab_end
+abbrev extab : ImageLayout → List OwnSymbol
+extab layout = words_between (align_to_word layout.rodata_end) layout.extab_end
 
-abbrev index : Layout → List OwnSymbol
+abbrev index : ImageLayout → List OwnSymbol
 index layout = words_between layout.index_start layout.code_end
 
-rodata_there : (layout : Layout) (all : List Placed) (symbol : OwnSymbol) → Has (rodata layout) symbol → Has (symbols_of layout all) symbol
+rodata_there : (layout : ImageLayout) (all : List PlacedObject) (symbol : OwnSymbol) → Has (rodata layout) symbol → Has (symbols_of layout all) symbol
 unfolding symbols_of
 rodata_there layout all symbol h =
-    has_left (marks all ++ rodata layout ++ extab layout ++ index layout) (flat_map exported all) symbol
+    has_left (marks all ++ rodata layout ++ extab layout ++ index layout) (flat_map exported_symbols all) symbol
     (has_left (marks all ++ rodata layout ++ extab layout) (index layout) symbol
     (has_left (marks all ++ rodata layout) (extab layout) symbol (has_right (marks all) (rodata layout) symbol h)))
 
-extab_there : (layout : Layout) (all : List Placed) (symbol : OwnSymbol) → Has (extab layout) symbol → Has (symbols_of layout all) symbol
+extab_there : (layout : ImageLayout) (all : List PlacedObject) (symbol : OwnSymbol) → Has (extab layout) symbol → Has (symbols_of layout all) symbol
 unfolding symbols_of
 extab_there layout all symbol h =
-    has_left (marks all ++ rodata layout ++ extab layout ++ index layout) (flat_map exported all) symbol
+    has_left (marks all ++ rodata layout ++ extab layout ++ index layout) (flat_map exported_symbols all) symbol
     (has_left (marks all ++ rodata layout ++ extab layout) (index layout) symbol (has_right (marks all ++ rodata layout) (extab layout) symbol h))
 
-index_there : (layout : Layout) (all : List Placed) (symbol : OwnSymbol) → Has (index layout) symbol → Has (symbols_of layout all) symbol
+index_there : (layout : ImageLayout) (all : List PlacedObject) (symbol : OwnSymbol) → Has (index layout) symbol → Has (symbols_of layout all) symbol
 unfolding symbols_of
 index_there layout all symbol h =
-    has_left (marks all ++ rodata layout ++ extab layout ++ index layout) (flat_map exported all) symbol
+    has_left (marks all ++ rodata layout ++ extab layout ++ index layout) (flat_map exported_symbols all) symbol
     (has_right (marks all ++ rodata layout ++ extab layout) (index layout) symbol h)
 
-image_symbols : (objects : List Object) (entry : List ℕ) (image : ImageParts) → linked objects entry ≡ Ok image → image.symbols ≡ symbols_of (layout_of objects) (placed_of objects)
+image_symbols : (objects : List Object) (entry : List ℕ) (image : ImageParts) → link_result objects entry ≡ Ok image → image.symbols ≡ symbols_of (layout_of objects) (place_objects objects)
 image_symbols objects entry image e = ap (λ (i : ImageParts). i.symbols) (image_is objects entry image e) ∙ made_symbols objects entry
 
 apart : (start at size to end : ℕ) → start ≤ at → at + size ≤ to → end ≡ to → 0 < size → start < end
@@ -232,23 +232,23 @@ pub law_of_data : DataIsMarked
 law_of_data Rodata objects entry image placed one e given some =
     let l = layout_of objects in
     let w = within_from Rodata (firsts l) objects one.front one.back placed one.split in
-    let start = aligned l.text_end in
+    let start = align_to_word l.text_end in
     let P : List OwnSymbol → Type 0 = λ symbols. Has symbols (data_at start) in
     let room : start < l.rodata_end = apart start placed.at.rodata (length placed.object.rodata) (end_of Rodata l.text_end objects) l.rodata_end w.following w.before (ends_of objects).rodata some in
     record {
       symbol = data_at start;
-      there = subst P (sym (image_symbols objects entry image e)) (rodata_there l (placed_of objects) (data_at start) (data_there start l.rodata_end room));
+      there = subst P (sym (image_symbols objects entry image e)) (rodata_there l (place_objects objects) (data_at start) (data_there start l.rodata_end room));
       begins = rodata_begins objects (some_first objects (one_there objects placed one)) (data_at start) refl;
     }
 law_of_data Extab objects entry image placed one e given some =
     let l = layout_of objects in
     let w = within_from Extab (firsts l) objects one.front one.back placed one.split in
-    let start = aligned l.rodata_end in
+    let start = align_to_word l.rodata_end in
     let P : List OwnSymbol → Type 0 = λ symbols. Has symbols (data_at start) in
     let room : start < l.extab_end = apart start placed.at.extab (length placed.object.extab) (end_of Extab l.rodata_end objects) l.extab_end w.following w.before (ends_of objects).extab some in
     record {
       symbol = data_at start;
-      there = subst P (sym (image_symbols objects entry image e)) (extab_there l (placed_of objects) (data_at start) (data_there start l.extab_end room));
+      there = subst P (sym (image_symbols objects entry image e)) (extab_there l (place_objects objects) (data_at start) (data_there start l.extab_end room));
       begins = extab_begins objects (some_first objects (one_there objects placed one)) (data_at start) refl;
     }
 law_of_data Text objects entry image placed one e given some = absurd (true≢false (sym given))
@@ -259,7 +259,7 @@ index_is : (objects : List Object) (entry : List ℕ) → (parts_of objects entr
 unfolding parts_of
 index_is objects entry = refl
 
-image_index : (objects : List Object) (entry : List ℕ) (image : ImageParts) → linked objects entry ≡ Ok image → image.index.0 ≡ (layout_of objects).index_start
+image_index : (objects : List Object) (entry : List ℕ) (image : ImageParts) → link_result objects entry ≡ Ok image → image.index.0 ≡ (layout_of objects).index_start
 image_index objects entry image e = ap (λ (i : ImageParts). i.index.0) (image_is objects entry image e) ∙ index_is objects entry
 
 pub law_of_indexes : IndexesAreMarked
@@ -269,32 +269,32 @@ law_of_indexes objects entry image e =
     let P : ℕ → Type 0 = λ n. Has image.symbols (data_at n) in
     let Q : List OwnSymbol → Type 0 = λ symbols. Has symbols (data_at l.index_start) in
     subst P (sym (image_index objects entry image e))
-    (subst Q (sym (image_symbols objects entry image e)) (index_there l (placed_of objects) (data_at l.index_start) (data_there l.index_start l.code_end room)))
+    (subst Q (sym (image_symbols objects entry image e)) (index_there l (place_objects objects) (data_at l.index_start) (data_there l.index_start l.code_end room)))
 
 -- ---- no others
 
-listed : (layout : Layout) (all : List Placed) (symbol : OwnSymbol) → Has (symbols_of layout all) symbol
-    → Has (flat_map exported all) symbol ⊎ (Has (marks all) symbol ⊎ (Has (rodata layout) symbol ⊎ (Has (extab layout) symbol ⊎ Has (index layout) symbol)))
+listed : (layout : ImageLayout) (all : List PlacedObject) (symbol : OwnSymbol) → Has (symbols_of layout all) symbol
+    → Has (flat_map exported_symbols all) symbol ⊎ (Has (marks all) symbol ⊎ (Has (rodata layout) symbol ⊎ (Has (extab layout) symbol ⊎ Has (index layout) symbol)))
 unfolding symbols_of
-listed layout all symbol h = one (has_either (marks all ++ rodata layout ++ extab layout ++ index layout) (flat_map exported all) symbol h)
+listed layout all symbol h = one (has_either (marks all ++ rodata layout ++ extab layout ++ index layout) (flat_map exported_symbols all) symbol h)
   where
     four : Has (marks all) symbol ⊎ Has (rodata layout) symbol
-        → Has (flat_map exported all) symbol ⊎ (Has (marks all) symbol ⊎ (Has (rodata layout) symbol ⊎ (Has (extab layout) symbol ⊎ Has (index layout) symbol)))
+        → Has (flat_map exported_symbols all) symbol ⊎ (Has (marks all) symbol ⊎ (Has (rodata layout) symbol ⊎ (Has (extab layout) symbol ⊎ Has (index layout) symbol)))
     four (inl m) = inr (inl m)
     four (inr r) = inr (inr (inl r))
 
     three : Has (marks all ++ rodata layout) symbol ⊎ Has (extab layout) symbol
-        → Has (flat_map exported all) symbol ⊎ (Has (marks all) symbol ⊎ (Has (rodata layout) symbol ⊎ (Has (extab layout) symbol ⊎ Has (index layout) symbol)))
+        → Has (flat_map exported_symbols all) symbol ⊎ (Has (marks all) symbol ⊎ (Has (rodata layout) symbol ⊎ (Has (extab layout) symbol ⊎ Has (index layout) symbol)))
     three (inl m) = four (has_either (marks all) (rodata layout) symbol m)
     three (inr x) = inr (inr (inr (inl x)))
 
     two : Has (marks all ++ rodata layout ++ extab layout) symbol ⊎ Has (index layout) symbol
-        → Has (flat_map exported all) symbol ⊎ (Has (marks all) symbol ⊎ (Has (rodata layout) symbol ⊎ (Has (extab layout) symbol ⊎ Has (index layout) symbol)))
+        → Has (flat_map exported_symbols all) symbol ⊎ (Has (marks all) symbol ⊎ (Has (rodata layout) symbol ⊎ (Has (extab layout) symbol ⊎ Has (index layout) symbol)))
     two (inl m) = three (has_either (marks all ++ rodata layout) (extab layout) symbol m)
     two (inr i) = inr (inr (inr (inr i)))
 
-    one : Has (marks all ++ rodata layout ++ extab layout ++ index layout) symbol ⊎ Has (flat_map exported all) symbol
-        → Has (flat_map exported all) symbol ⊎ (Has (marks all) symbol ⊎ (Has (rodata layout) symbol ⊎ (Has (extab layout) symbol ⊎ Has (index layout) symbol)))
+    one : Has (marks all ++ rodata layout ++ extab layout ++ index layout) symbol ⊎ Has (flat_map exported_symbols all) symbol
+        → Has (flat_map exported_symbols all) symbol ⊎ (Has (marks all) symbol ⊎ (Has (rodata layout) symbol ⊎ (Has (extab layout) symbol ⊎ Has (index layout) symbol)))
     one (inl m) = two (has_either (marks all ++ rodata layout ++ extab layout) (index layout) symbol m)
     one (inr own) = inl own
 
@@ -306,9 +306,9 @@ shown at label symbol h = by (is_local label.name) refl h.before h.after h.split
     by true t before after e = absurd (nothing_in before after symbol e)
     by false t before after e = (t, only_one (symbol_at (address_in label.section at) label) symbol before after e)
 
-of_label : (objects : List Object) (symbol : OwnSymbol) → Has (flat_map exported (placed_of objects)) symbol → ShowsLabel objects symbol
+of_label : (objects : List Object) (symbol : OwnSymbol) → Has (flat_map exported_symbols (place_objects objects)) symbol → ShowsLabel objects symbol
 of_label objects symbol h =
-    let j = joins exported (placed_of objects) symbol h in
+    let j = joins exported_symbols (place_objects objects) symbol h in
     let k = joins (label_symbols j.from.at) j.from.object.symbols symbol j.own in
     let s = shown j.from.at k.from symbol k.own in
     let one : IsOneOf objects j.from = record { front = j.at.before; back = j.at.after; split = j.at.split } in
@@ -323,9 +323,9 @@ of_label objects symbol h =
       is = s.1;
     }
 
-of_mark : (objects : List Object) (symbol : OwnSymbol) → Has (marks (placed_of objects)) symbol → ShowsMark objects symbol
+of_mark : (objects : List Object) (symbol : OwnSymbol) → Has (marks (place_objects objects)) symbol → ShowsMark objects symbol
 of_mark objects symbol h =
-    let j = joins mark_symbols (placed_of objects) symbol h in
+    let j = joins mark_symbols (place_objects objects) symbol h in
     let m = maps (mark_symbol j.from.at) j.from.object.marks j.own.before j.own.after symbol j.own.split in
     let one : IsOneOf objects j.from = record { front = j.at.before; back = j.at.after; split = j.at.split } in
     record {
@@ -341,17 +341,17 @@ of_mark objects symbol h =
 pub law_of_others : NoOtherSymbols
 law_of_others objects entry image symbol e h =
     let P : List OwnSymbol → Type 0 = λ symbols. Has symbols symbol in
-    by (listed (layout_of objects) (placed_of objects) symbol (subst P (image_symbols objects entry image e) h))
+    by (listed (layout_of objects) (place_objects objects) symbol (subst P (image_symbols objects entry image e) h))
   where
     f : First objects
     f = some_first objects (linked_there objects entry image e)
 
-    by : Has (flat_map exported (placed_of objects)) symbol
-        ⊎ (Has (marks (placed_of objects)) symbol ⊎ (Has (rodata (layout_of objects)) symbol ⊎ (Has (extab (layout_of objects)) symbol ⊎ Has (index (layout_of objects)) symbol)))
+    by : Has (flat_map exported_symbols (place_objects objects)) symbol
+        ⊎ (Has (marks (place_objects objects)) symbol ⊎ (Has (rodata (layout_of objects)) symbol ⊎ (Has (extab (layout_of objects)) symbol ⊎ Has (index (layout_of objects)) symbol)))
         → ShowsLabel objects symbol ⊎ (ShowsMark objects symbol ⊎ (BeginsData Rodata objects symbol ⊎ (BeginsData Extab objects symbol ⊎ (symbol ≡ data_at image.index.0))))
     by (inl own) = inl (of_label objects symbol own)
     by (inr (inl m)) = inr (inl (of_mark objects symbol m))
-    by (inr (inr (inl r))) = inr (inr (inl (rodata_begins objects f symbol (in_data (aligned (layout_of objects).text_end) (layout_of objects).rodata_end symbol r))))
-    by (inr (inr (inr (inl x)))) = inr (inr (inr (inl (extab_begins objects f symbol (in_data (aligned (layout_of objects).rodata_end) (layout_of objects).extab_end symbol x)))))
+    by (inr (inr (inl r))) = inr (inr (inl (rodata_begins objects f symbol (in_data (align_to_word (layout_of objects).text_end) (layout_of objects).rodata_end symbol r))))
+    by (inr (inr (inr (inl x)))) = inr (inr (inr (inl (extab_begins objects f symbol (in_data (align_to_word (layout_of objects).rodata_end) (layout_of objects).extab_end symbol x)))))
     by (inr (inr (inr (inr i)))) =
         inr (inr (inr (inr (in_data (layout_of objects).index_start (layout_of objects).code_end symbol i ∙ ap data_at (sym (image_index objects entry image e))))))

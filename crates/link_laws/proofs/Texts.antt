@@ -4,27 +4,27 @@ use Rattle.std.proofs.lemmas.Bool.Decides.{nat_tests}
 use Rattle.std.proofs.lemmas.List.{drop-drop}
 use Rattle.std.proofs.Math.Seq.{drop-append_seam}
 use Rattle.byteorder.specs.Endian.{little_number}
-use Rattle.eh_list.specs.Bytes.{zeros, length-zeros}
+use Rattle.eh_word.specs.Bytes.{zeros, length-zeros}
 use Rattle.asm_statements.specs.declared.statement.Stmt.{Stmt}
 use Rattle.asm_statements.specs.declared.statement.StmtKind.{StmtKind}
 use Rattle.asm_statements.specs.declared.statement.StmtKind.TheVariants as statement
-use Rattle.relocatable_object.specs.declared.place.Section.TheVariants.{Bss}
+use Rattle.asm_relocatable.specs.declared.place.Section.TheVariants.{Bss}
 use Rattle.asm_layout.specs.Functions.{entries_of}
 use Rattle.asm_layout.specs.Labels.{labels_of}
-use Rattle.asm_layout.specs.Walks.{here}
-use Rattle.relocatable_object.specs.Sections.{same_section}
-use Rattle.relocatable_object.specs.declared.object.Object.{Object}
-use Rattle.relocatable_object.specs.declared.object.Reloc.{Reloc}
-use Rattle.relocatable_object.specs.Fields.{bytes_at}
+use Rattle.asm_layout.specs.Walks.{cursor_place}
+use Rattle.asm_relocatable.specs.Sections.{same_section}
+use Rattle.asm_relocatable.specs.declared.object.Object.{Object}
+use Rattle.asm_relocatable.specs.declared.object.Reloc.{Reloc}
+use Rattle.asm_relocatable.specs.Fields.{bytes_at}
 use Rattle.asm_object.specs.Pieces.{own_piece}
 use Rattle.asm_object.proofs.ObjectLaws.{taken}
 use Rattle.elf_write.specs.declared.parts.ImageParts.{ImageParts}
 use Rattle.eh_link.specs.FieldLaw.{IsInNoField}
-use Rattle.eh_link.specs.Placed.{Placed}
+use Rattle.eh_link.specs.Placed.{PlacedObject}
 use Rattle.eh_link.specs.Layout.{address_in}
-use Rattle.eh_link.specs.Linked.{linked}
+use Rattle.eh_link.specs.Linked.{link_result}
 use Rattle.eh_link.proofs.Words.{Reads}
-use Rattle.source_laws.specs.RowLaw.{walk_over}
+use Rattle.asm_laws.specs.RowLaw.{walk_over}
 use Rattle.link_laws.specs.MeaningLaw.{IsOneOf}
 use Rattle.link_laws.specs.JoinedLaw.{NumberAt}
 use Rattle.link_laws.specs.SaidLaw.{SaysThere, TextsSay, ZeroedTextsSay, SpacesSay}
@@ -48,14 +48,14 @@ byte_there offset byte bytes front back after e =
     one b = omega arith
 
 -- a byte of a statement that has no fields
-byte_says : (objects : List Object) (entry : List ℕ) (image : ImageParts) (placed : Placed) (one : IsOneOf objects placed) (stmts before : List Stmt) (kind : StmtKind) (front back : List ℕ) (byte : ℕ)
-    → linked objects entry ≡ Ok image → (own : Given stmts before kind placed.object)
-    → (own_piece (labels_of (entries_of stmts) stmts) kind (here (walk_over stmts before).at) own.word).relocs ≡ []
-    → (own_piece (labels_of (entries_of stmts) stmts) kind (here (walk_over stmts before).at) own.word).bytes ≡ front ++ byte ∷ back
+byte_says : (objects : List Object) (entry : List ℕ) (image : ImageParts) (placed : PlacedObject) (one : IsOneOf objects placed) (stmts before : List Stmt) (kind : StmtKind) (front back : List ℕ) (byte : ℕ)
+    → link_result objects entry ≡ Ok image → (own : Given stmts before kind placed.object)
+    → (own_piece (labels_of (entries_of stmts) stmts) kind (cursor_place (walk_over stmts before).at) own.word).relocs ≡ []
+    → (own_piece (labels_of (entries_of stmts) stmts) kind (cursor_place (walk_over stmts before).at) own.word).bytes ≡ front ++ byte ∷ back
     → SaysThere objects placed one stmts before (length front) (λ address. NumberAt 1 image address byte)
 byte_says objects entry image placed one stmts before kind front back byte made own unlinked bytes =
     let s = (walk_over stmts before).at.section in
-    let offset = (here (walk_over stmts before).at).offset in
+    let offset = (cursor_place (walk_over stmts before).at).offset in
     record {
       part = address_in s placed.at;
       begins = begins_at s objects placed one;

@@ -1,12 +1,12 @@
--- The fields of an object that the assembler gives: each stands alone in its place and whole in its section's bytes, so what the
--- law of fields says holds of every one of them. Of statements there are fewer than 2^64 (docs/linking.md, "What is proved").
+-- The fields of an assembled object don't overlap and lie in their sections, so the laws on single fields hold of each.
+-- There are fewer than 2^64 statements (docs/rules/linking.md, "What is proved").
 use Rattle.std.specs.Prelude.{◌≡◌, ◌+◌, ◌^◌, ◌<◌, ◌≤◌, List, ◌∷◌, ◌++◌, length, Ok}
 use Rattle.asm_statements.specs.declared.statement.Stmt.{Stmt}
-use Rattle.relocatable_object.specs.declared.object.Object.{Object}
-use Rattle.relocatable_object.specs.declared.object.Reloc.{Reloc}
+use Rattle.asm_relocatable.specs.declared.object.Object.{Object}
+use Rattle.asm_relocatable.specs.declared.object.Reloc.{Reloc}
 use Rattle.asm_object.specs.Objects.{object_of}
-use Rattle.relocatable_object.specs.Relocations.{field_size}
-use Rattle.relocatable_object.specs.Fields.{bytes_at}
+use Rattle.asm_relocatable.specs.Relocations.{field_size}
+use Rattle.asm_relocatable.specs.Fields.{bytes_at}
 use Rattle.eh_link.specs.FieldLaw.{StandsAlone}
 
 pub record StandsWholeAndAlone (object : Object) (before : List Reloc) (reloc : Reloc) (after : List Reloc) : Type 0 where

@@ -1,6 +1,6 @@
--- Where a branch, an `adr` and a `ldr rt, name` of a source lead whose label stands in the source's own text (docs/objects.md, "Names"): as
--- the decoder reads them, and as the core counts from the instruction's own address. pc reads as that address plus 4, and `adr` and `ldr`
--- count from it rounded down to a multiple of 4 (Armv6-M Architecture Reference Manual, DDI 0419; Armv8-M, DDI 0553).
+-- Where a branch, an `adr` or a `ldr rt, name` leads if its label is in its own source's text
+-- (docs/rules/sources.md, "Names"), by the decoder and the core. pc reads as the instruction's address plus 4; `adr` and
+-- `ldr` round it down to a multiple of 4 (Armv6-M Architecture Reference Manual, DDI 0419; Armv8-M, DDI 0553).
 use Rattle.std.specs.Prelude.{◌≡◌, ℕ, ◌+◌, ◌%◌, ◌^◌, ◌<◌, ℤ, Bool, List, ◌∷◌, ◌++◌, length, Some, Ok}
 use Rattle.thumb_isa.specs.declared.instr.Instr.{Instr}
 use Rattle.thumb_isa.specs.declared.instr.Instr.TheVariants as instr
@@ -11,24 +11,24 @@ use Rattle.thumb_core.specs.Branch.{target_of}
 use Rattle.asm_statements.specs.declared.statement.Stmt.{Stmt}
 use Rattle.asm_statements.specs.declared.statement.StmtKind.{StmtKind}
 use Rattle.asm_statements.specs.declared.statement.StmtKind.TheVariants as statement
-use Rattle.relocatable_object.specs.declared.place.Section.TheVariants.{Text}
-use Rattle.relocatable_object.specs.declared.object.Object.{Object}
+use Rattle.asm_relocatable.specs.declared.place.Section.TheVariants.{Text}
+use Rattle.asm_relocatable.specs.declared.object.Object.{Object}
 use Rattle.asm_object.specs.Objects.{object_of}
 use Rattle.asm_object.specs.ObjectLaw.{symbol_place}
 use Rattle.asm_object.specs.Pieces.{place_at}
-use Rattle.source_laws.specs.MarkLaw.{text_after}
+use Rattle.asm_laws.specs.MarkLaw.{text_after}
 use Rattle.eh_link.specs.EquationLaw.{Decodes}
 
--- a branch at one place of a text leads to another, wherever the text stands
+-- a branch at one place of a text leads to another, at whatever address the text is
 abbrev pub GoesTo : ℕ → ℕ → ℤ → Type 0
 GoesTo place to offset = (regs : Regs) (text : ℕ) → text + to < 2 ^ 32 → regs.pc ≡ text + place → target_of offset regs ≡ text + to
 
--- an offset from the base at one place of a text leads to another, wherever the text stands at a multiple of 4
+-- an offset from the base of one place of a text leads to another, at whatever multiple of 4 the text is
 abbrev pub ReachesFromItsBase : ℕ → ℕ → ℤ → Type 0
 ReachesFromItsBase place to offset =
     (regs : Regs) (text : ℕ) → text % 4 ≡ 0 → text + to < 2 ^ 32 → regs.pc ≡ text + place → forward (base regs) offset ≡ text + to
 
--- the halfwords at a place of a text are an instruction with an offset that leads to another place
+-- the halfwords at a place of a text decode to an instruction whose offset leads to another place
 pub record Leads (Comes : ℕ → ℕ → ℤ → Type 0) (instruction : ℤ → Instr) (text : List ℕ) (place to : ℕ) : Type 0 where
   pub offset : ℤ
   pub reads : Decodes (instruction offset) text place
@@ -51,7 +51,7 @@ CondBranchesLead = (cond : ℕ) → NamesLead (statement.BCond cond) (instr.BCon
 abbrev pub CallsLead : Type 0
 CallsLead = NamesLead statement.Bl instr.Bl GoesTo
 
--- `b.w`, and `cbz` and `cbnz`, which lead to no other labels
+-- `b.w`, `cbz` and `cbnz`, which lead only to labels of their own text
 abbrev pub WideBranchesLead : Type 0
 WideBranchesLead = NamesLead statement.BWide instr.BWide GoesTo
 

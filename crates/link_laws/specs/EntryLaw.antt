@@ -1,16 +1,16 @@
--- The mapping symbols and the entry of the image that objects link to (docs/linking.md, "Names"; "ELF for the Arm Architecture", "Mapping
+-- The mapping symbols and the entry of the image that objects link to (docs/rules/linking.md, "Names"; "ELF for the Arm Architecture", "Mapping
 -- symbols").
 use Rattle.std.specs.Prelude.{◌≡◌, ℕ, ◌+◌, ◌-◌, ◌%◌, ◌^◌, true, if◌then◌else◌, List, Ok, codes}
 use Rattle.eh_word.specs.Names.{same_bytes}
-use Rattle.relocatable_object.specs.declared.place.Section.TheVariants.{Text}
-use Rattle.relocatable_object.specs.declared.object.Mark.{Mark}
-use Rattle.relocatable_object.specs.declared.object.Object.{Object}
-use Rattle.relocatable_object.specs.declared.object.ObjSymbol.{ObjSymbol}
+use Rattle.asm_relocatable.specs.declared.place.Section.TheVariants.{Text}
+use Rattle.asm_relocatable.specs.declared.object.Mark.{Mark}
+use Rattle.asm_relocatable.specs.declared.object.Object.{Object}
+use Rattle.asm_relocatable.specs.declared.object.ObjSymbol.{ObjSymbol}
 use Rattle.elf_write.specs.declared.parts.ImageParts.{ImageParts}
 use Rattle.elf_write.specs.declared.parts.OwnSymbol.{OwnSymbol}
 use Rattle.elf_write.specs.declared.parts.SymbolKind.TheVariants as kind
-use Rattle.eh_link.specs.Placed.{Placed}
-use Rattle.eh_link.specs.Linked.{linked}
+use Rattle.eh_link.specs.Placed.{PlacedObject}
+use Rattle.eh_link.specs.Linked.{link_result}
 use Rattle.link_laws.specs.MeaningLaw.{IsOneOf}
 use Rattle.link_laws.specs.LabelLaw.{Has, PartBegins}
 
@@ -23,20 +23,20 @@ mapping_at part mark = record {
   kind = if mark.code then kind.Code else kind.Words;
 }
 
-pub record IsMapped (objects : List Object) (image : ImageParts) (placed : Placed) (one : IsOneOf objects placed) (mark : Mark) : Type 0 where
+pub record IsMapped (objects : List Object) (image : ImageParts) (placed : PlacedObject) (one : IsOneOf objects placed) (mark : Mark) : Type 0 where
   pub part : ℕ
   pub begins : PartBegins Text objects placed one part
   pub there : Has image.symbols (mapping_at part mark)
 
--- each mark of an object is a mapping symbol of the image
+-- each mark of an object is a mapping symbol of the linked image
 abbrev pub MarksAreMapped : Type 0
 MarksAreMapped =
-    (objects : List Object) (entry : List ℕ) (image : ImageParts) (placed : Placed) (one : IsOneOf objects placed) (mark : Mark)
-    → linked objects entry ≡ Ok image → Has placed.object.marks mark → IsMapped objects image placed one mark
+    (objects : List Object) (entry : List ℕ) (image : ImageParts) (placed : PlacedObject) (one : IsOneOf objects placed) (mark : Mark)
+    → link_result objects entry ≡ Ok image → Has placed.object.marks mark → IsMapped objects image placed one mark
 
--- the entry of the image is a global function of the name, without bit 0
+-- the entry of the image is a global function with the name, bit 0 clear
 pub record IsEntry (objects : List Object) (entry : List ℕ) (image : ImageParts) : Type 0 where
-  pub home : Placed
+  pub home : PlacedObject
   pub one : IsOneOf objects home
   pub symbol : ObjSymbol
   pub there : Has home.object.symbols symbol
@@ -48,4 +48,4 @@ pub record IsEntry (objects : List Object) (entry : List ℕ) (image : ImagePart
   pub address : image.entry ≡ (part + symbol.offset) % 2 ^ 32 - (part + symbol.offset) % 2 ^ 32 % 2
 
 abbrev pub EntriesAreFunctions : Type 0
-EntriesAreFunctions = (objects : List Object) (entry : List ℕ) (image : ImageParts) → linked objects entry ≡ Ok image → IsEntry objects entry image
+EntriesAreFunctions = (objects : List Object) (entry : List ℕ) (image : ImageParts) → link_result objects entry ≡ Ok image → IsEntry objects entry image

@@ -1,18 +1,19 @@
--- The symbols of an image that are of no label and no mark: `$d` where the read-only data, the exception tables and the index begin; and
--- that there are no others (docs/linking.md, "Names"; "ELF for the Arm Architecture", "Mapping symbols").
+-- The symbols of an image that are neither labels nor marks: `$d` at the start of the read-only data, the exception
+-- tables and the index. There are no others (docs/rules/linking.md, "Names"; "ELF for the Arm Architecture", "Mapping
+-- symbols").
 use Rattle.std.specs.Prelude.{◌≡◌, ℕ, ◌<◌, ◌⊎◌, Bool, true, false, List, [], length, Ok, codes}
-use Rattle.relocatable_object.specs.declared.place.Section.{Section}
-use Rattle.relocatable_object.specs.declared.place.Section.TheVariants.{Text, Rodata, Extab, Init, Bss}
-use Rattle.relocatable_object.specs.Names.{is_local}
-use Rattle.relocatable_object.specs.declared.object.Mark.{Mark}
-use Rattle.relocatable_object.specs.declared.object.Object.{Object}
-use Rattle.relocatable_object.specs.declared.object.ObjSymbol.{ObjSymbol}
-use Rattle.relocatable_object.specs.Fields.{bytes_at}
+use Rattle.asm_relocatable.specs.declared.place.Section.{Section}
+use Rattle.asm_relocatable.specs.declared.place.Section.TheVariants.{Text, Rodata, Extab, Init, Bss}
+use Rattle.asm_relocatable.specs.Names.{is_local}
+use Rattle.asm_relocatable.specs.declared.object.Mark.{Mark}
+use Rattle.asm_relocatable.specs.declared.object.Object.{Object}
+use Rattle.asm_relocatable.specs.declared.object.ObjSymbol.{ObjSymbol}
+use Rattle.asm_relocatable.specs.Fields.{bytes_at}
 use Rattle.elf_write.specs.declared.parts.ImageParts.{ImageParts}
 use Rattle.elf_write.specs.declared.parts.OwnSymbol.{OwnSymbol}
 use Rattle.elf_write.specs.declared.parts.SymbolKind.TheVariants as kind
-use Rattle.eh_link.specs.Placed.{Placed}
-use Rattle.eh_link.specs.Linked.{linked}
+use Rattle.eh_link.specs.Placed.{PlacedObject}
+use Rattle.eh_link.specs.Linked.{link_result}
 use Rattle.link_laws.specs.MeaningLaw.{IsOneOf}
 use Rattle.link_laws.specs.LabelLaw.{Has, PartBegins, symbol_at}
 use Rattle.link_laws.specs.EntryLaw.{mapping_at}
@@ -23,9 +24,9 @@ use Rattle.link_laws.specs.EntryLaw.{mapping_at}
 abbrev pub data_at : ℕ → OwnSymbol
 data_at address = record { name = codes "$d"; value = address; size = 0; kind = kind.Words }
 
--- a symbol is `$d` where the first object's part of a section begins
+-- a symbol is `$d` at the start of the first object's part of a section
 pub record BeginsData (section : Section) (objects : List Object) (symbol : OwnSymbol) : Type 0 where
-  pub first : Placed
+  pub first : PlacedObject
   pub one : IsOneOf objects first
   pub leads : one.front ≡ []
   pub part : ℕ
@@ -45,21 +46,22 @@ is_data Extab = true
 is_data Init = false
 is_data Bss = false
 
--- where an object has read-only data, or exception tables, the image has it where those of the first object begin
+-- if an object has read-only data, or exception tables, the image has `$d` at the start of the first object's part of
+-- them
 abbrev pub DataIsMarked : Type 0
 DataIsMarked =
-    (section : Section) (objects : List Object) (entry : List ℕ) (image : ImageParts) (placed : Placed) (one : IsOneOf objects placed)
-    → linked objects entry ≡ Ok image → is_data section ≡ true → 0 < length (bytes_at section placed.object) → HasData section objects image
+    (section : Section) (objects : List Object) (entry : List ℕ) (image : ImageParts) (placed : PlacedObject) (one : IsOneOf objects placed)
+    → link_result objects entry ≡ Ok image → is_data section ≡ true → 0 < length (bytes_at section placed.object) → HasData section objects image
 
 -- and always where the index begins
 abbrev pub IndexesAreMarked : Type 0
-IndexesAreMarked = (objects : List Object) (entry : List ℕ) (image : ImageParts) → linked objects entry ≡ Ok image → Has image.symbols (data_at image.index.0)
+IndexesAreMarked = (objects : List Object) (entry : List ℕ) (image : ImageParts) → link_result objects entry ≡ Ok image → Has image.symbols (data_at image.index.0)
 
 -- ---- no others
 
--- a symbol is that of a label whose name isn't local
+-- a symbol is a label whose name isn't local
 pub record ShowsLabel (objects : List Object) (symbol : OwnSymbol) : Type 0 where
-  pub home : Placed
+  pub home : PlacedObject
   pub one : IsOneOf objects home
   pub label : ObjSymbol
   pub there : Has home.object.symbols label
@@ -70,7 +72,7 @@ pub record ShowsLabel (objects : List Object) (symbol : OwnSymbol) : Type 0 wher
 
 -- a symbol is the mapping symbol of a mark
 pub record ShowsMark (objects : List Object) (symbol : OwnSymbol) : Type 0 where
-  pub home : Placed
+  pub home : PlacedObject
   pub one : IsOneOf objects home
   pub mark : Mark
   pub there : Has home.object.marks mark
@@ -81,6 +83,6 @@ pub record ShowsMark (objects : List Object) (symbol : OwnSymbol) : Type 0 where
 abbrev pub NoOtherSymbols : Type 0
 NoOtherSymbols =
     (objects : List Object) (entry : List ℕ) (image : ImageParts) (symbol : OwnSymbol)
-    → linked objects entry ≡ Ok image → Has image.symbols symbol
+    → link_result objects entry ≡ Ok image → Has image.symbols symbol
     → ShowsLabel objects symbol
     ⊎ (ShowsMark objects symbol ⊎ (BeginsData Rodata objects symbol ⊎ (BeginsData Extab objects symbol ⊎ (symbol ≡ data_at image.index.0))))

@@ -1,5 +1,5 @@
-//! What sources are, assembled and linked: laws in the words of those who write sources and of those who run them (docs/objects.md,
-//! docs/linking.md).
+//! Laws on sources that are assembled and linked, in terms of the source and of a run (docs/rules/sources.md,
+//! docs/rules/linking.md).
 #![tactic(auto)]
 
 ghost use Rattle.link_laws.specs.AssembledLaw.{AssembledFieldsStandAlone};
@@ -15,8 +15,8 @@ ghost use Rattle.link_laws.specs.RightsLaw.{SegmentsHaveRights};
 ghost use Rattle.link_laws.specs.PoolLaw.{LoadsReadValues};
 ghost use Rattle.link_laws.specs.TargetLaw.{JumpsLeadTo, CondJumpsLeadTo, CallsLeadTo, WideJumpsLeadTo, ZeroJumpsLeadTo, AddressesLeadTo, LoadsLeadTo};
 
-/// A branch to a label in the text of its own source, an `adr` and a `ldr rt, name` lead to the label: the halfwords at the statement's
-/// place decode to the instruction, and the core, which counts from that place, comes to the label's.
+/// A branch to a label in the text of its own source, an `adr` or a `ldr rt, name` leads to the label: the halfwords at
+/// its place decode to an instruction that, executed from that place, reaches the label's.
 pub fn own_names_lead_to_their_labels()
     ensures branches { BranchesLead }
     ensures conditions { CondBranchesLead }
@@ -27,41 +27,41 @@ pub fn own_names_lead_to_their_labels()
     ensures loads { LoadsLead }
 {}
 
-/// Wherever objects link to an image, the name of each of their fields means a label.
+/// If objects link, the name of each of their relocations has a label.
 pub fn names_have_meanings()
     ensures { NamesHaveMeanings }
 {}
 
-/// A label is in an image at the address of its object's part of its section, and as many bytes further on as it stands after the
-/// start of that, in the zeroed data too: so say the symbols of the image, and so do the names of fields mean it.
+/// In a linked image a label's address is that of its object's section plus its offset in the section, also in bss. The
+/// symbols of the image and the meanings of names agree on it.
 pub fn labels_stand_in_their_parts()
     ensures symbols { LabelsAreSymbols }
     ensures meanings { MeaningsAreOfLabels }
 {}
 
-/// In the image that sources link to, the word at the address of a `.word name+n` is the address that the name means plus n, with bit 0
-/// set where the name means a function.
+/// In an image linked from sources, the word of a `.word name+n` is the address of the name plus n, with bit 0 set if
+/// the name is a function.
 pub fn words_are_sums()
     ensures { WordsAreSums }
 {}
 
-/// Each field of an object that the assembler gives shares no byte with another one, and lies within its section. So what the two
-/// laws beside this one say of fields holds of every field of a source.
+/// No two fields of an assembled object overlap, and each lies in its section. So the laws on single fields hold of
+/// every field of a source.
 pub fn assembled_fields_stand_alone()
     ensures { AssembledFieldsStandAlone }
 {}
 
-/// In the image that sources link to, each field that the assembler left to the linker has a kind, its name means a label, and what
-/// stands at the field's address is what the kind says of that: a word that is, or makes with its own address, the label's address, or
-/// a branch that decodes to the displacement to it.
+/// In an image linked from sources, each relocation of the assembler is applied: its kind is known, its name has a
+/// label, and its field holds what the kind says of that label. That is a word that is the label's address, or gives it
+/// relative to its own address, or a branch that decodes to the displacement to it.
 pub fn fields_are_filled()
     ensures { FieldsAreFilled }
 {}
 
-/// In the image that sources link to, the word at the address of each expression of a `.word` is what the expression says, and so are the
-/// halfwords and bytes of a `.half` and a `.byte`: a number, how far one label stands after another, or what the name means, in the
-/// relation to the word's own address that the source asks for. The bytes of a text are there, and after an `.asciz` a zero byte; those of a
-/// `.space` are zeros.
+/// In an image linked from sources, the word of each expression of a `.word` is what the expression says, and so are
+/// the halfwords and bytes of `.half` and `.byte`. That is a number, the distance of two labels, or the address of a
+/// name, relative to the word if the source asks for that. The bytes of texts are there, with a zero byte after
+/// `.asciz`, and those of `.space` are zeros.
 pub fn numbers_are_as_given()
     ensures words { WordsSay }
     ensures halves { HalvesSay }
@@ -71,9 +71,9 @@ pub fn numbers_are_as_given()
     ensures spaces { SpacesSay }
 {}
 
-/// In the image that sources link to, each branch, `adr` and `ldr rt, name` leads to what its name means there, whether the assembler or the
-/// linker gave it its offset: the halfwords at its address decode to the instruction, and the core, which counts from that address, comes
-/// to the label's.
+/// In an image linked from sources, each branch, `adr` and `ldr rt, name` leads to the label of its name, whether the
+/// assembler or the linker set its offset. The halfwords at its address decode to an instruction that, executed from
+/// that address, reaches the label's.
 pub fn names_lead_to_what_they_mean()
     ensures calls { CallsLeadTo }
     ensures jumps { JumpsLeadTo }
@@ -84,28 +84,28 @@ pub fn names_lead_to_what_they_mean()
     ensures loads { LoadsLeadTo }
 {}
 
-/// Each mark of an object is a mapping symbol of the image that it links to, `$t` where code begins and `$d` where data does, and the
-/// image's entry is where a global function of the entry's name begins.
+/// Each mark of an object is a mapping symbol of the linked image, `$t` for code and `$d` for data. The image's entry
+/// is the start of a global function with the entry's name.
 pub fn marks_and_entry_are_of_objects()
     ensures marks { MarksAreMapped }
     ensures entry { EntriesAreFunctions }
 {}
 
-/// Where one of the objects has read-only data or exception tables, `$d` stands in the image at the start of the first object's part of
-/// them, and always at the start of the index. Each other symbol is that of a label whose name isn't local, or of a mark.
+/// If an object has read-only data or exception tables, the image has `$d` at the start of the first object's part of
+/// them; it always has one at the start of the index. Every other symbol is a label whose name isn't local, or a mark.
 pub fn symbols_are_of_objects()
     ensures parts { DataIsMarked }
     ensures index { IndexesAreMarked }
     ensures others { NoOtherSymbols }
 {}
 
-/// The segment of an image with the texts may be run and not written, and any other one written and not run.
+/// The segment with the text is executable and not writable; any other is writable and not executable.
 pub fn code_is_apart()
     ensures { SegmentsHaveRights }
 {}
 
-/// In the image that sources link to, `ldr rt, =value` loads what the value says: the word at the address to which the core comes from
-/// the instruction is the number, how far one label stands after another, or what the name means.
+/// In an image linked from sources, `ldr rt, =value` loads the value: the word that the instruction addresses is the
+/// number, the distance of two labels, or the address of the name.
 pub fn loads_read_their_values()
     ensures { LoadsReadValues }
 {}

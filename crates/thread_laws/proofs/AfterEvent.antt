@@ -3,18 +3,18 @@ use Rattle.std.proofs.Common.{◌≡◌, ℕ, ◌<◌, inl, inr, List, [], lengt
 use Rattle.std.proofs.lemmas.Bool.{cases_eq}
 use Rattle.std.proofs.lemmas.List.{map-set}
 use Rattle.std.proofs.lemmas.Option.{same_Some}
-use Rattle.thread_run.specs.eh_bus.Guards.{insert_all, AreGuards}
-use Rattle.thread_run.specs.eh_bus.Memory.{Memory}
-use Rattle.thread_run.specs.frame_check.Accepts.{Accepted}
-use Rattle.thread_run.specs.two_machines.Activations.{Recorded, memory_of, bytes_of}
-use Rattle.thread_run.specs.stands_for.Stands.{Keeps}
-use Rattle.thread_run.specs.thread_memory.Homes.{home_of}
-use Rattle.thread_run.specs.thread_memory.declared.homes.TheConstants.{THREADS}
-use Rattle.thread_run.specs.declared.thread.Thread.{Thread}
-use Rattle.thread_run.specs.Threads.{put_thread}
-use Rattle.thread_run.specs.Elements.{Joint, as_entered, core_in, with_event}
-use Rattle.thread_run.specs.Tags.{tags_up_to}
-use Rattle.thread_laws.specs.RecordedThreads.{RecordedThread, RecordedThreads, Owned, slots_beside, state_for, thread_from, with_state, bare_option, thread_in}
+use Rattle.eh_bus.specs.Guards.{insert_all, AreGuards}
+use Rattle.eh_bus.specs.Memory.{Memory}
+use Rattle.frame_check.specs.Accepts.{Accepted}
+use Rattle.sim_machines.specs.Activations.{Recorded, memory_of, bytes_of}
+use Rattle.sim_relation.specs.Stands.{Keeps}
+use Rattle.thread_memory.specs.Homes.{home_of}
+use Rattle.thread_memory.specs.declared.homes.TheConstants.{THREADS}
+use Rattle.eh_threads.specs.declared.thread.Thread.{Thread}
+use Rattle.eh_threads.specs.Threads.{put_thread}
+use Rattle.eh_threads.specs.Elements.{Joint, switch_to, core_in, with_event}
+use Rattle.eh_threads.specs.Tags.{tags_up_to}
+use Rattle.thread_laws.specs.RecordedThreads.{RecordedThread, RecordedThreads, OwnedException, slots_beside, state_for, thread_from, with_state, bare_option, thread_in}
 use Rattle.thread_laws.specs.Standing.{all_slots, memory_for, ThreadsStand}
 use Rattle.thread_laws.specs.Leaving.{LeavesOthers}
 use Rattle.thread_laws.proofs.Lying.{StateLaws, slots_lie}
@@ -43,7 +43,7 @@ module _ (laws : StateLaws) (x : Accepted) (w : Joint) (v : RecordedThreads) (r 
   guards_are : (memory_of s).guards ≡ insert_all (all_slots now.threads) []
   guards_are = now_guards laws x v k t started r.numbered r.sized r.map.segments r.keeps s kept leaves home beyond ended
 
-  owned_after : (n : ℕ) (o : Owned) → get_or now.pool n None ≡ Some o → (u : RecordedThread) × (thread_in now o.owner ≡ Some u)
+  owned_after : (n : ℕ) (o : OwnedException) → get_or now.pool n None ≡ Some o → (u : RecordedThread) × (thread_in now o.owner ≡ Some u)
   owned_after n o e = elim (cases_eq o.owner k) [
     | inl mine ↦ (own, subst (λ (j : ℕ). thread_in now j ≡ Some own) (sym mine) is_own)
     | inr other ↦ elim (owner_after k s.entries v.pool n o e) [
@@ -67,7 +67,7 @@ module _ (laws : StateLaws) (x : Accepted) (w : Joint) (v : RecordedThreads) (r 
   unfolding built
   memory_after = ap (λ (gs : List ℕ). built gs s.home) guards_are ∙ ap (λ (at : ℕ × ℕ). built (insert_all (all_slots now.threads) []) at) home
 
-  pub stands_after : ThreadsStand x (with_event k (bytes_of s) (put_thread w.threads k (core_in (bytes_of s)) ended) (as_entered k w)) now
+  pub stands_after : ThreadsStand x (with_event k (bytes_of s) (put_thread w.threads k (core_in (bytes_of s)) ended) (switch_to k w)) now
   stands_after = record {
     threads =
         ap (λ (ts : List (Option Thread)). put_thread ts k (core_in (bytes_of s)) ended) r.threads ∙ sym (map-set bare_option v.threads k (Some own));

@@ -1,34 +1,33 @@
 -- One element, over bytes and with recorded activations.
 use Rattle.std.proofs.Common.{◌≡◌, ℕ, zero, suc, Bool, true, false, cond, List, [], ◌∷◌, get_or, Option, Some, None, refl, sym, ap, subst, ◌∙◌}
-use Rattle.thread_run.specs.event_runs.Runs.{Event, Goes, Ends}
-use Rattle.thread_run.specs.frame_check.Accepts.{Accepted}
-use Rattle.thread_run.specs.thumb_core.declared.ends.TrapKind.{TrapKind}
-use Rattle.thread_run.specs.thumb_core.declared.ends.End.{End}
-use Rattle.thread_run.specs.thumb_core.declared.ends.End.TheVariants.{Exit, Terminate, Trap, Budget, ReadFault, WriteFault}
-use Rattle.thread_run.specs.eh_gates.State.{State}
-use Rattle.thread_run.specs.two_machines.Machine.{machine_event}
-use Rattle.thread_run.specs.two_machines.Checked.{program_of}
-use Rattle.thread_run.specs.two_machines.Activations.{Recorded, bytes_of}
-use Rattle.thread_run.specs.two_machines.ActivationMachine.{recorded_event}
-use Rattle.thread_run.specs.two_machines.ActivationLaws.{Matches}
-use Rattle.thread_run.specs.two_machines.RecordedSlots.{LeavesBeyond}
-use Rattle.thread_run.proofs.two_machines.Beyond.{words_beyond_stay}
-use Rattle.thread_run.specs.stands_for.Stands.{Keeps, IsProgram, OnEvent}
-use Rattle.thread_run.specs.machines_agree.Beyond.{SameBeyond}
-use Rattle.thread_run.specs.machines_agree.Turned.{AreBytes, TurnsSame}
-use Rattle.thread_run.specs.machines_agree.Beyond.{BeyondStays}
-use Rattle.thread_run.proofs.machines_agree.RunsOn.{AlikeOn}
-use Rattle.thread_run.specs.declared.thread.Thread.{Thread}
-use Rattle.thread_run.specs.Threads as bytes_threads
-use Rattle.thread_run.specs.Threads.{all_over, core_of, put_thread}
-use Rattle.thread_run.specs.Starting as bytes_starting
-use Rattle.thread_run.specs.Starting.{start_refusal}
-use Rattle.thread_run.specs.Ending as bytes_ending
-use Rattle.thread_run.specs.Ending.{after_end, asks_to_start}
-use Rattle.thread_run.specs.Elements as bytes_elements
-use Rattle.thread_run.specs.Elements.{Joint, as_entered, core_in, state_in, with_event, by_outcome, element}
-use Rattle.thread_run.proofs.Elements.{element_by, element_passed}
-use Rattle.thread_laws.specs.RecordedThreads.{RecordedThread, RecordedThreads, state_for, with_state, bare, bare_option, bare_threads, going, unless_ended, numbered, thread_in, running, unless_refused, unless_over, at_end, after_event, element_of, recorded_element}
+use Rattle.run_events.specs.Runs.{Event, Goes, Ends}
+use Rattle.frame_check.specs.Accepts.{Accepted}
+use Rattle.thumb_core.specs.declared.ends.TrapKind.{TrapKind}
+use Rattle.thumb_core.specs.declared.ends.End.{End}
+use Rattle.thumb_core.specs.declared.ends.End.TheVariants.{Exit, Terminate, Trap, Budget, ReadFault, WriteFault}
+use Rattle.eh_gates.specs.State.{State}
+use Rattle.sim_machines.specs.Machine.{machine_event}
+use Rattle.sim_machines.specs.Checked.{program_of}
+use Rattle.sim_machines.specs.Activations.{Recorded, bytes_of}
+use Rattle.sim_machines.specs.ActivationMachine.{recorded_event}
+use Rattle.sim_machines.specs.ActivationLaws.{Matches}
+use Rattle.sim_machines.specs.RecordedSlots.{LeavesBeyond}
+use Rattle.sim_machines.proofs.Beyond.{words_beyond_stay}
+use Rattle.sim_relation.specs.Stands.{Keeps, IsProgram, OnEvent}
+use Rattle.sim_runs.specs.Beyond.{SameBeyond, BeyondStays}
+use Rattle.sim_runs.specs.Turned.{AreBytes, TurnsSame}
+use Rattle.sim_runs.proofs.RunsOn.{AlikeOn}
+use Rattle.eh_threads.specs.declared.thread.Thread.{Thread}
+use Rattle.eh_threads.specs.Threads as bytes_threads
+use Rattle.eh_threads.specs.Threads.{exit_number_of_all, core_of, put_thread}
+use Rattle.eh_threads.specs.Starting as bytes_starting
+use Rattle.eh_threads.specs.Starting.{start_refusal}
+use Rattle.eh_threads.specs.Ending as bytes_ending
+use Rattle.eh_threads.specs.Ending.{after_end, is_start_gate}
+use Rattle.eh_threads.specs.Elements as bytes_elements
+use Rattle.eh_threads.specs.Elements.{Joint, switch_to, core_in, state_in, with_event, by_outcome, element}
+use Rattle.eh_threads.proofs.Elements.{element_by, element_passed}
+use Rattle.thread_laws.specs.RecordedThreads.{RecordedThread, RecordedThreads, state_for, with_state, without_record, bare_option, bare_threads, running_thread, unless_ended, with_thread_number, thread_in, running, unless_refused, unless_over, at_end, after_event, element_of, recorded_element}
 use Rattle.thread_laws.specs.Standing.{ThreadsStand}
 use Rattle.thread_laws.specs.Leaving.{LeavesOthers, Leaves}
 use Rattle.thread_laws.proofs.AfterEvent.{stands_after}
@@ -51,9 +50,9 @@ Same x e d = AlikeOn Joint RecordedThreads End AreBytes (ThreadsStand x) e d
 abbrev pub StartsSame : Accepted → Type 0
 StartsSame x =
     (w : Joint) (v : RecordedThreads) (k : ℕ) (t : RecordedThread) (kind : TrapKind) (value pc : ℕ) (s : Recorded) (input : List ℕ) → ThreadsStand x w v → thread_in v k ≡ Some t → AreBytes input
-    → recorded_event (program_of x) (state_for k t v) input ≡ Ends (Trap kind value pc) s → asks_to_start kind value ≡ true
+    → recorded_event (program_of x) (state_for k t v) input ≡ Ends (Trap kind value pc) s → is_start_gate kind value ≡ true
     → start_refusal (program_of x) s.regs ≡ None
-    → Same x (by_outcome k (bytes_of s) (as_entered k w) (bytes_starting.start_gate (program_of x) k (core_in (bytes_of s)) w.threads) input)
+    → Same x (by_outcome k (bytes_of s) (switch_to k w) (bytes_starting.start_gate (program_of x) k (core_in (bytes_of s)) w.threads) input)
     (unless_refused (start_refusal (program_of x) s.regs) k s v input)
 
 module _ (laws : EventLaws) (x : Accepted) (is : IsProgram x) (starts : StartsSame x) (w : Joint) (v : RecordedThreads) (r : ThreadsStand x w v) (input : List ℕ) (fits : AreBytes input) where
@@ -62,7 +61,7 @@ module _ (laws : EventLaws) (x : Accepted) (is : IsProgram x) (starts : StartsSa
     old = state_for k t v
 
     abbrev entered : Joint
-    entered = as_entered k w
+    entered = switch_to k w
 
     pub record Left (s : Recorded) : Type 0 where
       pub kept : Keeps x s
@@ -87,8 +86,8 @@ module _ (laws : EventLaws) (x : Accepted) (is : IsProgram x) (starts : StartsSa
         let h = stands s l (Some number) in
         subst (λ (o : Option ℕ). Same x (by_outcome k (bytes_of s) entered (after_end (program_of x) k (core_in (bytes_of s)) (Exit number) w.threads) input)
         (unless_over o (with_state k (Some number) s v) input))
-        (ap all_over h.threads)
-        (over s number (all_over (put_thread w.threads k (core_in (bytes_of s)) (Some number))) h)
+        (ap exit_number_of_all h.threads)
+        (over s number (exit_number_of_all (put_thread w.threads k (core_in (bytes_of s)) (Some number))) h)
 
     refused : (s : Recorded) (o : Option End) → start_refusal (program_of x) s.regs ≡ o → Left s
         → (o ≡ None → Same x (by_outcome k (bytes_of s) entered (bytes_starting.unless_refused (start_refusal (program_of x) s.regs) k (core_in (bytes_of s)) w.threads) input) (unless_refused (start_refusal (program_of x) s.regs) k s v input))
@@ -99,12 +98,12 @@ module _ (laws : EventLaws) (x : Accepted) (is : IsProgram x) (starts : StartsSa
 
     traps : (s : Recorded) (kind : TrapKind) (value pc : ℕ) → Left s → recorded_event (program_of x) old input ≡ Ends (Trap kind value pc) s
         → Same x (by_outcome k (bytes_of s) entered (after_end (program_of x) k (core_in (bytes_of s)) (Trap kind value pc) w.threads) input) (at_end (program_of x) k v (Trap kind value pc) s input)
-    traps s kind value pc l e = go (asks_to_start kind value) refl
+    traps s kind value pc l e = go (is_start_gate kind value) refl
       where
-        go : (b : Bool) → asks_to_start kind value ≡ b
+        go : (b : Bool) → is_start_gate kind value ≡ b
             → Same x
             (by_outcome k (bytes_of s) entered
-            (cond b (bytes_starting.start_gate (program_of x) k (core_in (bytes_of s)) w.threads) (bytes_ending.stopped k (core_in (bytes_of s)) (Trap kind value pc) w.threads)) input)
+            (cond b (bytes_starting.start_gate (program_of x) k (core_in (bytes_of s)) w.threads) (bytes_ending.stop_thread k (core_in (bytes_of s)) (Trap kind value pc) w.threads)) input)
             (cond b (unless_refused (start_refusal (program_of x) s.regs) k s v input) (Ends (Trap kind value pc) (with_state k None s v)))
         go true asks =
             refused s (start_refusal (program_of x) s.regs) refl l (λ q. starts w v k t kind value pc s input r started fits e asks q)
@@ -136,7 +135,7 @@ module _ (laws : EventLaws) (x : Accepted) (is : IsProgram x) (starts : StartsSa
     together (Goes b text left) (Ends why s) e m kept leaves home beyond f = absurd m
     together (Ends end b) (Goes s said rest) e m kept leaves home beyond f = absurd m
 
-    event_same : Same x (bytes_elements.after_event (program_of x) k entered (machine_event (program_of x) (state_in (bare t).core entered) input) input)
+    event_same : Same x (bytes_elements.after_event (program_of x) k entered (machine_event (program_of x) (state_in (without_record t).core entered) input) input)
         (after_event (program_of x) k v (recorded_event (program_of x) old input) input)
     event_same =
         let kept = r.keeps k t started in
@@ -167,25 +166,25 @@ module _ (laws : EventLaws) (x : Accepted) (is : IsProgram x) (starts : StartsSa
       → Same x (element (program_of x) (Some k) w input) (recorded_element (program_of x) (Some k) v input)
   unfolding recorded_element
   goes k t e going_on =
-      let core : core_of (get_or w.threads k None) ≡ Some (bare t).core =
-      core_at k ∙ ap (λ (o : Option RecordedThread). core_of (bare_option o)) e ∙ ap (λ (o : Option ℕ). bytes_threads.unless_ended (bare t).core o) going_on in
-      let named : running v (Some k) ≡ Some (k, t) = ap (λ (o : Option RecordedThread). numbered k (going o)) e ∙ ap (λ (o : Option ℕ). numbered k (unless_ended t o)) going_on in
+      let core : core_of (get_or w.threads k None) ≡ Some (without_record t).core =
+      core_at k ∙ ap (λ (o : Option RecordedThread). core_of (bare_option o)) e ∙ ap (λ (o : Option ℕ). bytes_threads.unless_ended (without_record t).core o) going_on in
+      let named : running v (Some k) ≡ Some (k, t) = ap (λ (o : Option RecordedThread). with_thread_number k (running_thread o)) e ∙ ap (λ (o : Option ℕ). with_thread_number k (unless_ended t o)) going_on in
       subst (λ (o : Option (ℕ × RecordedThread)). Same x (element (program_of x) (Some k) w input) (element_of (program_of x) v input o)) (sym named)
       (subst (λ (y : Event Joint End). Same x y (after_event (program_of x) k v (recorded_event (program_of x) (state_for k t v) input) input))
-      (sym (element_by (program_of x) (Some k) w k (bare t).core input _ (ap (bytes_threads.numbered k) core) refl)) (event_same k t e))
+      (sym (element_by (program_of x) (Some k) w k (without_record t).core input _ (ap (bytes_threads.with_thread_number k) core) refl)) (event_same k t e))
 
   by_thread : (k : ℕ) (o : Option RecordedThread) → thread_in v k ≡ o → Same x (element (program_of x) (Some k) w input) (recorded_element (program_of x) (Some k) v input)
   by_thread k None e =
-      passed (Some k) (ap (bytes_threads.numbered k) (core_at k ∙ ap (λ (o : Option RecordedThread). core_of (bare_option o)) e)) (ap (λ (o : Option RecordedThread). numbered k (going o)) e)
+      passed (Some k) (ap (bytes_threads.with_thread_number k) (core_at k ∙ ap (λ (o : Option RecordedThread). core_of (bare_option o)) e)) (ap (λ (o : Option RecordedThread). with_thread_number k (running_thread o)) e)
   by_thread k (Some t) e = by_end t.ended refl
     where
       by_end : (o : Option ℕ) → t.ended ≡ o → Same x (element (program_of x) (Some k) w input) (recorded_element (program_of x) (Some k) v input)
       by_end None q = goes k t e q
       by_end (Some number) q =
           passed (Some k)
-          (ap (bytes_threads.numbered k)
-          (core_at k ∙ ap (λ (o : Option RecordedThread). core_of (bare_option o)) e ∙ ap (λ (o : Option ℕ). bytes_threads.unless_ended (bare t).core o) q))
-          (ap (λ (o : Option RecordedThread). numbered k (going o)) e ∙ ap (λ (o : Option ℕ). numbered k (unless_ended t o)) q)
+          (ap (bytes_threads.with_thread_number k)
+          (core_at k ∙ ap (λ (o : Option RecordedThread). core_of (bare_option o)) e ∙ ap (λ (o : Option ℕ). bytes_threads.unless_ended (without_record t).core o) q))
+          (ap (λ (o : Option RecordedThread). with_thread_number k (running_thread o)) e ∙ ap (λ (o : Option ℕ). with_thread_number k (unless_ended t o)) q)
 
   pub elements_same : (named : Option ℕ) → Same x (element (program_of x) named w input) (recorded_element (program_of x) named v input)
   elements_same None = passed None refl refl

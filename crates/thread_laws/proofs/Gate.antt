@@ -6,52 +6,53 @@ use Rattle.std.proofs.lemmas.Bool.{and_parts, cases_eq, eqb-true, lt-leb}
 use Rattle.std.proofs.lemmas.List.{get_or-set_other}
 use Rattle.std.proofs.lemmas.List.Elements.{Contains-append_left}
 use Rattle.std.proofs.lemmas.Option.{same_Some}
-use Rattle.thread_run.specs.event_runs.Runs.{Ends}
-use Rattle.thread_run.specs.eh_bus.Memory.{fetch}
-use Rattle.thread_run.proofs.flow.Work.{contains_head}
-use Rattle.thread_run.specs.frame_check.Accepts.{Accepted}
-use Rattle.thread_run.specs.frame_check.Roles.{look}
-use Rattle.thread_run.specs.frame_check.Roots.{flow_graph_of}
-use Rattle.thread_run.specs.frame_facts.Branches.{gate_changes}
-use Rattle.thread_run.specs.frame_facts.declared.cause.FrameCause.TheVariants.{Undecodable}
-use Rattle.thread_run.specs.frame_flow.Causes.{shown, causes_at}
-use Rattle.thread_run.specs.frame_graph.declared.places.Standing.{Standing}
-use Rattle.thread_run.specs.frame_graph.declared.places.Standing.TheVariants.{Instruction, Udf, Nothing}
-use Rattle.thread_run.specs.frame_graph.Edges.{is_undecodable, is_nothing}
-use Rattle.thread_run.specs.frame_graph.Places.{is_udf, standing_at, standing_by, halfword_of, of_decoded, wide_of}
-use Rattle.thread_run.specs.guest_gates.Gates.{with_r0}
-use Rattle.thread_run.specs.image_memory.Start.{begins_function}
-use Rattle.thread_run.specs.thumb_isa.declared.instr.Decoded.{Decoded}
-use Rattle.thread_run.specs.thumb_isa.declared.instr.Decoded.TheVariants.{Is, Undefined, Unpredictable, NotInProfile}
-use Rattle.thread_run.specs.thumb_isa.declared.instr.Instr.{Instr}
-use Rattle.thread_run.specs.thumb_isa.declared.instr.Instr.TheVariants.{Svc}
-use Rattle.thread_run.specs.thumb_isa.Rows.{decoded_of, late_decoded_of, decoded_for}
-use Rattle.thread_run.specs.thumb_isa.declared.profile.Profile.{Profile}
-use Rattle.thread_run.specs.thumb_isa.declared.profile.Profile.TheVariants.{One, Two}
-use Rattle.thread_run.specs.thumb_core.Laws.{Leaves}
-use Rattle.thread_run.specs.thumb_core.Step.{step_for, instr_for, instr_of}
-use Rattle.thread_run.specs.thumb_core.Words.{listed}
-use Rattle.thread_run.specs.thumb_core.declared.regs.Regs.{Regs}
-use Rattle.thread_run.specs.thumb_core.declared.regs.Stepped.{Stepped}
-use Rattle.thread_run.specs.thumb_core.declared.ends.TrapKind.{TrapKind}
-use Rattle.thread_run.specs.thumb_core.declared.ends.End.TheVariants.{Trap}
-use Rattle.thread_run.proofs.thumb_core.Acts.{step_acts}
-use Rattle.thread_run.specs.eh_gates.State.{at_next}
-use Rattle.thread_run.specs.two_machines.Program.{profile_in}
-use Rattle.thread_run.specs.two_machines.Activations.{Recorded, memory_of}
-use Rattle.thread_run.specs.two_machines.ActivationMachine.{recorded_event}
-use Rattle.thread_run.specs.two_machines.Checked.{program_of}
-use Rattle.thread_run.proofs.accepted_code.Fetch.{code_fetch}
-use Rattle.thread_run.specs.stands_for.Chain.{StandsAt, code}
-use Rattle.thread_run.specs.stands_for.Stands.{Keeps, IsProgram, DoesAt}
-use Rattle.thread_run.proofs.stands_for.Flows.{none_stands}
-use Rattle.thread_run.proofs.stands_for.Onward.{next_pc, next_even}
-use Rattle.thread_run.proofs.stands_for.SimpleTurns.{fetch as fetched_at}
-use Rattle.thread_run.proofs.steps_keep.Gated.{set_words}
-use Rattle.thread_run.proofs.steps_keep.Jumps.{not_found}
-use Rattle.state_laws.specs.Free.{FreeAfterGates}
-use Rattle.thread_run.specs.declared.starting.TheConstants.{START_GATE}
-use Rattle.thread_run.specs.Ending.{asks_to_start}
+use Rattle.run_events.specs.Runs.{Ends}
+use Rattle.eh_bus.specs.Memory.{fetch}
+use Rattle.frame_dataflow.proofs.Work.{contains_head}
+use Rattle.frame_check.specs.Accepts.{Accepted}
+use Rattle.frame_check.specs.Roles.{look}
+use Rattle.frame_check.specs.Roots.{flow_graph_of}
+use Rattle.frame_facts.specs.Branches.{gate_changes}
+use Rattle.frame_facts.specs.declared.cause.FrameCause.TheVariants.{Undecodable}
+use Rattle.frame_flow.specs.Causes.{cause_if, causes_at}
+use Rattle.frame_code.specs.declared.standing.Standing.{Standing}
+use Rattle.frame_code.specs.declared.standing.Standing.TheVariants.{Instruction, Udf, Nothing}
+use Rattle.frame_code.specs.Standing.{is_nothing, is_udf, standing_by, standing_of_decoded, wide_of}
+use Rattle.frame_graph.specs.Edges.{is_undecodable}
+use Rattle.frame_graph.specs.Places.{standing_at, halfword_of}
+use Rattle.run_gates.specs.Gates.{with_r0}
+use Rattle.run_images.specs.Start.{begins_function}
+use Rattle.thumb_isa.specs.declared.instr.Decoded.{Decoded}
+use Rattle.thumb_isa.specs.declared.instr.Decoded.TheVariants.{Is, Undefined, Unpredictable, NotInProfile}
+use Rattle.thumb_isa.specs.declared.instr.Instr.{Instr}
+use Rattle.thumb_isa.specs.declared.instr.Instr.TheVariants.{Svc}
+use Rattle.thumb_isa.specs.Rows.{decode_result, late_decode_result, decode_result_for}
+use Rattle.thumb_isa.specs.declared.profile.Profile.{Profile}
+use Rattle.thumb_isa.specs.declared.profile.Profile.TheVariants.{One, Two}
+use Rattle.thumb_core.specs.Laws.{Leaves}
+use Rattle.thumb_core.specs.Step.{step_for, instr_for, instr_of}
+use Rattle.thumb_core.specs.Words.{registers_of_list}
+use Rattle.thumb_core.specs.declared.regs.Regs.{Regs}
+use Rattle.thumb_core.specs.declared.regs.Stepped.{Stepped}
+use Rattle.thumb_core.specs.declared.ends.TrapKind.{TrapKind}
+use Rattle.thumb_core.specs.declared.ends.End.TheVariants.{Trap}
+use Rattle.thumb_core.proofs.Acts.{step_acts}
+use Rattle.eh_gates.specs.State.{at_next}
+use Rattle.sim_machines.specs.Program.{profile_in}
+use Rattle.sim_machines.specs.Activations.{Recorded, memory_of}
+use Rattle.sim_machines.specs.ActivationMachine.{recorded_event}
+use Rattle.sim_machines.specs.Checked.{program_of}
+use Rattle.sim_relation.proofs.sim_code.Fetch.{code_fetch}
+use Rattle.sim_relation.specs.Chain.{StandsAt, code}
+use Rattle.sim_relation.specs.Stands.{Keeps, IsProgram, DoesAt}
+use Rattle.sim_relation.proofs.Flows.{none_stands}
+use Rattle.sim_relation.proofs.Onward.{next_pc, next_even}
+use Rattle.sim_relation.proofs.SimpleTurns.{fetch as fetched_at}
+use Rattle.sim_changes.proofs.sim_steps.Gated.{set_words}
+use Rattle.sim_changes.proofs.sim_steps.Jumps.{not_found}
+use Rattle.sim_changes.specs.Free.{FreeAfterGates}
+use Rattle.eh_threads.specs.declared.starting.TheConstants.{START_GATE}
+use Rattle.eh_threads.specs.Ending.{is_start_gate}
 use Rattle.thread_laws.proofs.Asking.{asking, svc_size}
 
 -- ---- what stands at pc is an instruction
@@ -64,20 +65,20 @@ undefined NotInProfile = false
 
 all_undefined : Profile → ℕ → Bool
 all_undefined p zero = true
-all_undefined p (suc n) = undefined (decoded_for p (0xde00 + n) 0) && all_undefined p n
+all_undefined p (suc n) = undefined (decode_result_for p (0xde00 + n) 0) && all_undefined p n
 
 all : (p : Profile) → all_undefined p 256 ≡ true
-unfolding decoded_of late_decoded_of all_undefined
+unfolding decode_result late_decode_result all_undefined
 all One = refl
 all Two = refl
 
-among : (p : Profile) (n k : ℕ) → all_undefined p n ≡ true → k < n → undefined (decoded_for p (0xde00 + k) 0) ≡ true
+among : (p : Profile) (n k : ℕ) → all_undefined p n ≡ true → k < n → undefined (decode_result_for p (0xde00 + k) 0) ≡ true
 unfolding all_undefined
 among p zero k e h = absurd (omega (arith, h))
 among p (suc n) k e h =
-    let w = and_parts (undefined (decoded_for p (0xde00 + n) 0)) (all_undefined p n) e in
+    let w = and_parts (undefined (decode_result_for p (0xde00 + n) 0)) (all_undefined p n) e in
     elim (cases_eq k n) [
-      | inl same ↦ subst (λ j. undefined (decoded_for p (0xde00 + j) 0) ≡ true) (sym same) w.0
+      | inl same ↦ subst (λ j. undefined (decode_result_for p (0xde00 + j) 0) ≡ true) (sym same) w.0
       | inr other ↦ among p n k w.1 (omega (arith, h, other))
     ]
 
@@ -89,7 +90,7 @@ is_none NotInProfile e = absurd cc
 
 -- a gate may change r0
 r0_alone : (regs : Regs) (a j : ℕ) → list_any (λ (i : ℕ). i == j) gate_changes ≡ false → slice_index (set regs.r 0 a) j ≡ slice_index regs.r j
-unfolding listed
+unfolding registers_of_list
 r0_alone regs a zero h = absurd cc
 r0_alone regs a (suc j) h = get_or-set_other regs.r 0 (suc j) a 0 (λ e. absurd (omega (arith, e)))
 
@@ -105,9 +106,9 @@ module _ (x : Accepted) (is : IsProgram x) (s : Recorded) (k : Keeps x s) (numbe
   not_nothing e =
       let c = code x at.function at.marks in
       let yes : is_undecodable c.flow_graph at.place ≡ true = ap is_nothing e in
-      let first : Contains (shown (is_undecodable c.flow_graph at.place) Undecodable) Undecodable = rw yes (contains_head Undecodable []) in
+      let first : Contains (cause_if (is_undecodable c.flow_graph at.place) Undecodable) Undecodable = rw yes (contains_head Undecodable []) in
       not_found c at.place at.fact (none_stands x at.function at.marks is.sound at.of.among at.of.are) at.state Undecodable
-      (Contains-append_left (shown (is_undecodable c.flow_graph at.place) Undecodable) _ Undecodable first)
+      (Contains-append_left (cause_if (is_undecodable c.flow_graph at.place) Undecodable) _ Undecodable first)
 
   none_gate : ◌≡◌ {A = Option (Instr × ℕ)} None (Some (Svc number, size)) → ⊥
   none_gate e = cc
@@ -122,11 +123,11 @@ module _ (x : Accepted) (is : IsProgram x) (s : Recorded) (k : Keeps x s) (numbe
           let same : 0xde00 + (first - 0xde00) ≡ first = omega (arith, top) in
           let fetches : fetch (memory_of s) s.regs.pc ≡ Ok first = rw at.address (code_fetch x.image at.function s.segments is.image at.of.among k.image at.place first h) in
           let narrow : nat_le 0xe800 first ≡ false = lt-leb 0xe800 first (omega (arith, top)) in
-          let none : instr_of (decoded_for profile first 0) ≡ None =
-          subst (λ n. instr_of (decoded_for profile n 0) ≡ None) same (is_none (decoded_for profile (0xde00 + (first - 0xde00)) 0) (among profile 256 (first - 0xde00) (all profile) (omega (arith, top)))) in
+          let none : instr_of (decode_result_for profile first 0) ≡ None =
+          subst (λ n. instr_of (decode_result_for profile n 0) ≡ None) same (is_none (decode_result_for profile (0xde00 + (first - 0xde00)) 0) (among profile 256 (first - 0xde00) (all profile) (omega (arith, top)))) in
           rw (fetches, narrow) none
 
-      of_decoded_not : (d : Decoded) → of_decoded d ≡ Udf → ⊥
+      of_decoded_not : (d : Decoded) → standing_of_decoded d ≡ Udf → ⊥
       of_decoded_not (Is i size) h = absurd cc
       of_decoded_not Undefined h = absurd cc
       of_decoded_not Unpredictable h = absurd cc
@@ -134,12 +135,12 @@ module _ (x : Accepted) (is : IsProgram x) (s : Recorded) (k : Keeps x s) (numbe
 
       wide_not : (first : ℕ) (w : Option ℕ) → wide_of profile first w ≡ Udf → ⊥
       wide_not first None h = absurd cc
-      wide_not first (Some second) h = of_decoded_not (decoded_for profile first second) h
+      wide_not first (Some second) h = of_decoded_not (decode_result_for profile first second) h
 
       by_udf : (u b : Bool) (first : ℕ) (w : Option ℕ) → halfword_of (flow_graph_of x.image at.function) at.place ≡ Some first → is_udf first ≡ u
-          → cond u Udf (cond b (of_decoded (decoded_for profile first 0)) (wide_of profile first w)) ≡ Udf → ⊥
+          → cond u Udf (cond b (standing_of_decoded (decode_result_for profile first 0)) (wide_of profile first w)) ≡ Udf → ⊥
       by_udf true b first w h u g = none_gate (sym (none_at first h u) ∙ gate)
-      by_udf false true first w h u g = of_decoded_not (decoded_for profile first 0) g
+      by_udf false true first w h u g = of_decoded_not (decode_result_for profile first 0) g
       by_udf false false first w h u g = wide_not first w g
 
       by_halves : (o w : Option ℕ) → halfword_of (flow_graph_of x.image at.function) at.place ≡ o → standing_by profile o w ≡ Udf → ⊥
@@ -176,7 +177,7 @@ module _ (x : Accepted) (is : IsProgram x) (s : Recorded) (k : Keeps x s) (numbe
       (λ j h. r0_alone s.regs a j h)
 
 -- the gate at pc, from the end that asks for a start
-pub asked : (x : Accepted) (s t : Recorded) (input : List ℕ) (kind : TrapKind) (value pc : ℕ) → Keeps x s → recorded_event (program_of x) s input ≡ Ends (Trap kind value pc) t → asks_to_start kind value ≡ true
+pub asked : (x : Accepted) (s t : Recorded) (input : List ℕ) (kind : TrapKind) (value pc : ℕ) → Keeps x s → recorded_event (program_of x) s input ≡ Ends (Trap kind value pc) t → is_start_gate kind value ≡ true
     → (t ≡ s) × ((size : ℕ) × (instr_for (profile_in (program_of x)) (memory_of s) s.regs.pc ≡ Some (Svc START_GATE, size)))
 asked x s t input kind value pc k e h =
     let a = asking (program_of x) s input (Trap kind value pc) t e h in

@@ -2,11 +2,11 @@
 use Rattle.std.proofs.Common.{◌≡◌, ℕ, zero, suc, ◌+◌, ◌<◌, ◌⊎◌, inl, inr, ◌==◌, Bool, true, false, cond, List, [], ◌∷◌, ◌++◌, length, get_or, set, Option, Some, None, refl, sym, ap, subst, ◌∙◌, arith}
 use Rattle.std.proofs.lemmas.Bool.{eqb-true}
 use Rattle.std.proofs.lemmas.Bool.Decides.{nat_tests}
-use Rattle.thread_run.specs.eh_bus.Guards.{insert_all}
-use Rattle.thread_run.specs.eh_bus.Lists.{Has}
-use Rattle.thread_run.proofs.eh_bus.GuardLaws.{Rising, same_rising, inserted_rising, has_inserted, in_inserted, still_inserted}
-use Rattle.thread_run.specs.two_machines.Activations.{Activation, guarded_of, slots_of}
-use Rattle.thread_run.proofs.two_machines.Saving.{in_guarded}
+use Rattle.eh_bus.specs.Guards.{insert_all}
+use Rattle.eh_bus.specs.Lists.{Has}
+use Rattle.eh_bus.proofs.GuardLaws.{Rising, same_rising, inserted_rising, has_inserted, in_inserted, still_inserted}
+use Rattle.sim_machines.specs.Activations.{Activation, guarded_words, slots_of}
+use Rattle.sim_machines.proofs.Saving.{in_guarded}
 use Rattle.thread_laws.specs.RecordedThreads.{RecordedThread, slots_in, slots_beside}
 use Rattle.thread_laws.specs.Standing.{all_slots}
 
@@ -89,25 +89,25 @@ all_beside k i (t ∷ more) g h = elim (has_either (slots_in t) (all_slots more)
     first false e h = inl (has_new (slots_in t) (slots_beside k (suc i) more) g h)
 
 -- of the words that are guarded for an activation record
-of_guarded : (beyond : List ℕ) (acts : List Activation) (g : ℕ) → Has (guarded_of beyond acts) g → Has (slots_of acts) g ⊎ Has beyond g
+of_guarded : (beyond : List ℕ) (acts : List Activation) (g : ℕ) → Has (guarded_words beyond acts) g → Has (slots_of acts) g ⊎ Has beyond g
 of_guarded beyond [] g h = inr h
-of_guarded beyond (a ∷ more) g h = elim (has_either a.slots (guarded_of beyond more) g h) [
+of_guarded beyond (a ∷ more) g h = elim (has_either a.slots (guarded_words beyond more) g h) [
   | inl k ↦ inl (has_new a.slots (slots_of more) g k)
   | inr k ↦ elim (of_guarded beyond more g k) [ inl m ↦ inl (has_old a.slots (slots_of more) g m) | inr b ↦ inr b ]
 ]
 
 -- the same words are guarded for each thread
 pub guards_for : (threads : Threads) (k : ℕ) (t : RecordedThread) → get_or threads k None ≡ Some t
-    → insert_all (guarded_of (slots_beside k 0 threads) (t.first ∷ t.outer)) [] ≡ insert_all (all_slots threads) []
-guards_for threads k t e = same_guards (guarded_of (slots_beside k 0 threads) (t.first ∷ t.outer)) (all_slots threads) to from
+    → insert_all (guarded_words (slots_beside k 0 threads) (t.first ∷ t.outer)) [] ≡ insert_all (all_slots threads) []
+guards_for threads k t e = same_guards (guarded_words (slots_beside k 0 threads) (t.first ∷ t.outer)) (all_slots threads) to from
   where
-    to : (g : ℕ) → Has (guarded_of (slots_beside k 0 threads) (t.first ∷ t.outer)) g → Has (all_slots threads) g
+    to : (g : ℕ) → Has (guarded_words (slots_beside k 0 threads) (t.first ∷ t.outer)) g → Has (all_slots threads) g
     to g h = elim (of_guarded (slots_beside k 0 threads) (t.first ∷ t.outer) g h) [
       | inl mine ↦ of_all threads k g (subst (λ (o : Option RecordedThread). Has (slots_in o) g) (sym e) mine)
       | inr theirs ↦ beside_all k 0 threads g theirs
     ]
 
-    from : (g : ℕ) → Has (all_slots threads) g → Has (guarded_of (slots_beside k 0 threads) (t.first ∷ t.outer)) g
+    from : (g : ℕ) → Has (all_slots threads) g → Has (guarded_words (slots_beside k 0 threads) (t.first ∷ t.outer)) g
     from g h = elim (all_beside k 0 threads g h) [
       | inl theirs ↦ in_guarded (slots_beside k 0 threads) (t.first ∷ t.outer) g (inr theirs)
       | inr w ↦ in_guarded (slots_beside k 0 threads) (t.first ∷ t.outer) g

@@ -2,63 +2,63 @@
 use Rattle.std.proofs.Common.{◌≡◌, ℕ, zero, suc, ◌+◌, ◌*◌, ◌%◌, ◌<◌, ◌≤◌, inl, inr, ◌==◌, ◌&&◌, nat_lt, Bool, true, false, cond, List, [], ◌∷◌, ◌++◌, length, get_or, set, Option, Some, None, Result, Ok, Err, refl, sym, subst, ◌∙◌, arith, ℤ}
 use Rattle.std.specs.Prelude.{◌↔◌, is_some}
 use Rattle.std.proofs.lemmas.Bool.{cases_lt, le-leb, lt-ltb}
-use Rattle.thread_run.specs.event_runs.Runs.{Event, Goes, Ends}
-use Rattle.thread_run.specs.eh_bus.Lists.{Has}
-use Rattle.thread_run.specs.eh_bus.Memory.{Memory, loads, is_closed, host_load}
-use Rattle.thread_run.specs.eh_bus.Segment.{Segment, Apart}
-use Rattle.thread_run.specs.eh_bus.declared.map.TheConstants.{CLOSED_SIZE, POOL_END, POOL_START, SLOT_SIZE, STACK_START}
-use Rattle.thread_run.proofs.eh_bus.MapLaws.{map_refl}
-use Rattle.thread_run.proofs.eh_bus.PartLaws.{host_apart, host_other, guard_places}
-use Rattle.thread_run.specs.guest_gates.declared.gates.TheConstants.{INPUT_GATE}
-use Rattle.thread_run.specs.guest_gates.Gates.{gate_event}
-use Rattle.thread_run.specs.eh_cxa.Allocate.{zeros, allocate_at, allocate_of, free_by, free_of, first_slot}
-use Rattle.thread_run.specs.eh_cxa.Catch.{catch_fault, catch_by, catch_at, catch_in, begin_catch_of, Fall, stays, falls, ends, leaves, fall, end_catch_by, end_catch_at, end_catch_of, rethrow_by, rethrow_at, rethrow_of}
-use Rattle.thread_run.specs.eh_cxa.Cleanup.{cleanup_at, begin_cleanup_of}
-use Rattle.thread_run.specs.eh_cxa.Throw.{Throw, throw_by, start_throw_of, set_barrier_of, barrier_of, land_by, land_of}
-use Rattle.thread_run.specs.eh_cxa.ListCalls.{is_free, allocate_in, allocate_list, free_by_list, free_list, throw_by_list, throw_entry, throw_list, land_record, land_entry, land_list, catch_by_list, catch_entry, catch_list, fall_of, end_by_list, end_entry, end_from, end_list, rethrow_by_list, rethrow_entry, rethrow_from, rethrow_list}
-use Rattle.thread_run.specs.eh_cxa.Lists.{Record, Entry, Free, OutOfUse, Live, entry, slots, count_in, state_in, kept}
-use Rattle.thread_run.specs.eh_cxa.States.{named, is_fresh, is_flying, is_caught, may_be_freed}
-use Rattle.thread_run.specs.eh_cxa.Words.{Pool, Write, write, word, put, put_all, block, object, block_slot, object_slot}
-use Rattle.thread_run.specs.eh_cxa.declared.globals.BarrierWords.{BarrierWords}
-use Rattle.thread_run.specs.eh_cxa.declared.globals.CleanupWords.{CleanupWords}
-use Rattle.thread_run.specs.eh_cxa.declared.globals.CxaFault.{CxaFault}
-use Rattle.thread_run.specs.eh_cxa.declared.globals.CxaFault.TheVariants as fault
-use Rattle.thread_run.specs.eh_cxa.declared.globals.Globals.{Globals}
-use Rattle.thread_run.specs.eh_cxa.declared.layout.TheConstants.{SLOTS, SLOT_WORDS, CLOSED_WORDS, OBJECT_BYTES, COUNT}
-use Rattle.thread_run.specs.eh_cxa.declared.state.State.TheVariants.{Flying}
-use Rattle.thread_run.specs.eh_cxa.declared.state.TheConstants.{FREE}
-use Rattle.thread_run.proofs.eh_cxa.Pools.{slot_small, slot_block, object_small}
-use Rattle.thread_run.proofs.eh_cxa.Zeros.{first_passes}
-use Rattle.thread_run.specs.eh_phase.Frames.{covered_at}
-use Rattle.thread_run.specs.eh_phase.declared.phase1.Barrier.{Barrier}
-use Rattle.thread_run.specs.eh_phase.declared.phase2.Entered.{Entered}
-use Rattle.thread_run.specs.eh_phase.declared.phase2.Entered.TheVariants as enters
-use Rattle.thread_run.specs.eh_phase.declared.verdict.Thrown.{Thrown}
-use Rattle.thread_run.specs.eh_trace.declared.event.EventKind.{EventKind}
-use Rattle.thread_run.specs.eh_trace.declared.event.EventKind.TheVariants as event
-use Rattle.thread_run.specs.eh_types.Graph.{row_of}
-use Rattle.thread_run.specs.frame_check.Accepts.{Accepted}
-use Rattle.thread_run.specs.thumb_core.Laws.{KeepsMap}
-use Rattle.thread_run.specs.thumb_core.Outcome.{Outcome as Stepping}
-use Rattle.thread_run.specs.thumb_core.Step.{step_for}
-use Rattle.thread_run.proofs.thumb_core.Follows.{step_follows}
-use Rattle.thread_run.specs.thumb_core.declared.regs.Regs.{Regs}
-use Rattle.thread_run.specs.thumb_core.declared.regs.Stepped.{Stepped}
-use Rattle.thread_run.specs.thumb_core.declared.regs.Stepped.TheVariants.{Done, Call, Return, Gate, Trap}
-use Rattle.thread_run.specs.thumb_core.declared.ends.End.{End}
-use Rattle.thread_run.specs.thumb_core.declared.ends.End.TheVariants as the_end
-use Rattle.thread_run.specs.thumb_core.declared.ends.TrapKind.TheVariants as kind
-use Rattle.thread_run.specs.eh_gates.declared.gates.TheConstants.{ALLOCATE_GATE, FREE_GATE, THROW_GATE, BEGIN_CATCH_GATE, END_CATCH_GATE, RETHROW_GATE, END_CLEANUP_GATE, UNEXPECTED_GATE, TERMINATE_GATE, UNCAUGHT_GATE}
-use Rattle.thread_run.specs.eh_gates.declared.state.Turned.TheVariants.{Went, Ended}
-use Rattle.thread_run.specs.eh_gates.State.{Tables}
-use Rattle.thread_run.specs.eh_gates.Landing.{words_of}
-use Rattle.thread_run.specs.eh_gates.Throwing.{barrier_in, barrier_words, throw_event}
-use Rattle.thread_run.specs.two_machines.Program.{Program, program_tables, profile_in}
-use Rattle.thread_run.specs.two_machines.Activations.{Activation, InProgress, Recorded, reg_in, memory_of, state_word, count_word, words_in, heads, with_lists, with_words, lists_of, cleanups_in}
-use Rattle.thread_run.specs.two_machines.ActivationMachine as acts
-use Rattle.thread_run.specs.two_machines.Checked.{program_of}
-use Rattle.thread_run.proofs.two_machines.Saving.{are_guarded}
-use Rattle.thread_run.specs.stands_for.Stands.{Keeps}
+use Rattle.run_events.specs.Runs.{Event, Goes, Ends}
+use Rattle.eh_bus.specs.Lists.{Has}
+use Rattle.eh_bus.specs.Memory.{Memory, load_number, is_closed, host_load}
+use Rattle.eh_bus.specs.Segment.{Segment, Apart}
+use Rattle.eh_bus.specs.declared.map.TheConstants.{CLOSED_SIZE, POOL_END, POOL_START, SLOT_SIZE, STACK_START}
+use Rattle.eh_bus.proofs.MapLaws.{map_refl}
+use Rattle.eh_bus.proofs.PartLaws.{host_apart, host_other, guard_places}
+use Rattle.run_gates.specs.declared.gates.TheConstants.{INPUT_GATE}
+use Rattle.run_gates.specs.Gates.{gate_event}
+use Rattle.eh_cxa.specs.Allocate.{zeros, allocate_at, allocate_of, free_by, free_of, first_slot}
+use Rattle.eh_cxa.specs.Catch.{catch_fault, catch_by, catch_at, catch_in, begin_catch_of, Fall, stays, falls, ends, leaves, fall, end_catch_by, end_catch_at, end_catch_of, rethrow_by, rethrow_at, rethrow_of}
+use Rattle.eh_cxa.specs.Cleanup.{cleanup_at, begin_cleanup_of}
+use Rattle.eh_cxa.specs.Throw.{Throw, throw_by, start_throw_of, set_barrier_of, barrier_of, land_by, land_of}
+use Rattle.eh_cxa.specs.ListCalls.{is_free, allocate_in, allocate_list, free_by_list, free_list, throw_by_list, throw_entry, throw_list, land_record, land_entry, land_list, catch_by_list, catch_entry, catch_list, fall_of, end_by_list, end_entry, end_from, end_list, rethrow_by_list, rethrow_entry, rethrow_from, rethrow_list}
+use Rattle.eh_cxa.specs.Lists.{Record, Entry, Free, OutOfUse, Live, entry, slots, count_in, state_in, unchanged_lists}
+use Rattle.eh_cxa.specs.States.{state_of_word, is_fresh, is_flying, is_caught, may_be_freed}
+use Rattle.eh_cxa.specs.Words.{Pool, Write, write, word, set_slot_word, set_slot_words, block, object, block_slot, object_slot}
+use Rattle.eh_cxa.specs.declared.globals.BarrierWords.{BarrierWords}
+use Rattle.eh_cxa.specs.declared.globals.CleanupWords.{CleanupWords}
+use Rattle.eh_cxa.specs.declared.globals.CxaFault.{CxaFault}
+use Rattle.eh_cxa.specs.declared.globals.CxaFault.TheVariants as fault
+use Rattle.eh_cxa.specs.declared.globals.Globals.{Globals}
+use Rattle.eh_cxa.specs.declared.layout.TheConstants.{SLOTS, SLOT_WORDS, CLOSED_WORDS, OBJECT_BYTES, COUNT}
+use Rattle.eh_cxa.specs.declared.state.State.TheVariants.{Flying}
+use Rattle.eh_cxa.specs.declared.state.TheConstants.{FREE}
+use Rattle.eh_cxa.proofs.Pools.{slot_small, slot_block, object_small}
+use Rattle.eh_cxa.proofs.Zeros.{first_passes}
+use Rattle.eh_phase.specs.Frames.{entry_contents_at}
+use Rattle.eh_phase.specs.declared.phase1.Barrier.{Barrier}
+use Rattle.eh_phase.specs.declared.phase2.Entered.{Entered}
+use Rattle.eh_phase.specs.declared.phase2.Entered.TheVariants as enters
+use Rattle.eh_phase.specs.declared.verdict.Thrown.{Thrown}
+use Rattle.eh_trace.specs.declared.event.EventKind.{EventKind}
+use Rattle.eh_trace.specs.declared.event.EventKind.TheVariants as event
+use Rattle.eh_types.specs.Graph.{row_of}
+use Rattle.frame_check.specs.Accepts.{Accepted}
+use Rattle.thumb_core.specs.Laws.{KeepsMap}
+use Rattle.thumb_core.specs.Outcome.{Outcome as Stepping}
+use Rattle.thumb_core.specs.Step.{step_for}
+use Rattle.thumb_core.proofs.Follows.{step_follows}
+use Rattle.thumb_core.specs.declared.regs.Regs.{Regs}
+use Rattle.thumb_core.specs.declared.regs.Stepped.{Stepped}
+use Rattle.thumb_core.specs.declared.regs.Stepped.TheVariants.{Done, Call, Return, Gate, Trap}
+use Rattle.thumb_core.specs.declared.ends.End.{End}
+use Rattle.thumb_core.specs.declared.ends.End.TheVariants as the_end
+use Rattle.thumb_core.specs.declared.ends.TrapKind.TheVariants as kind
+use Rattle.eh_gates.specs.declared.gates.TheConstants.{ALLOCATE_GATE, FREE_GATE, THROW_GATE, BEGIN_CATCH_GATE, END_CATCH_GATE, RETHROW_GATE, END_CLEANUP_GATE, UNEXPECTED_GATE, TERMINATE_GATE, UNCAUGHT_GATE}
+use Rattle.eh_gates.specs.declared.state.Turned.TheVariants.{Went, Ended}
+use Rattle.eh_gates.specs.State.{Tables}
+use Rattle.eh_gates.specs.Landing.{words_of}
+use Rattle.eh_gates.specs.Throwing.{barrier_in, barrier_words, throw_event}
+use Rattle.sim_machines.specs.Program.{Program, program_tables, profile_in}
+use Rattle.sim_machines.specs.Activations.{Activation, InProgress, Recorded, reg_in, memory_of, state_word, count_word, words_in, heads, with_lists, with_words, lists_of, cleanups_in}
+use Rattle.sim_machines.specs.ActivationMachine as acts
+use Rattle.sim_machines.specs.Checked.{program_of}
+use Rattle.sim_machines.proofs.Saving.{are_guarded}
+use Rattle.sim_relation.specs.Stands.{Keeps}
 use Rattle.thread_laws.specs.Leaving.{LeavesOthers, Leaves, EventsLeaveOthers}
 
 -- ---- slots that are out of use
@@ -133,22 +133,22 @@ other_slot t n k j other h i = elim (cases_lt t n) [
   | inr high ↦ inr (omega (arith, high, other, h, i))
 ]
 
-put_word : (es : List Entry) (ws : List Write) (m : Memory) → AreOwn es ws → (n k : ℕ) → k < 128 → IsUnused es n → word (put_all ws m) n k ≡ word m n k
-unfolding put word
+put_word : (es : List Entry) (ws : List Write) (m : Memory) → AreOwn es ws → (n k : ℕ) → k < 128 → IsUnused es n → word (set_slot_words ws m) n k ≡ word m n k
+unfolding set_slot_word word
 put_word es [] m o n k h e = refl
 put_word es (w ∷ more) m o n k h e =
     let place = o.0.place in
-    put_word es more (put m w.slot w.place w.value) o.1 n k h e
+    put_word es more (set_slot_word m w.slot w.place w.value) o.1 n k h e
     ∙ host_other m (POOL_START + SLOT_SIZE * w.slot + 4 * w.place) w.value (POOL_START + SLOT_SIZE * n + 4 * k)
     (other_slot w.slot n w.place k (λ q. o.0.used (subst (λ t. IsUnused es t) (sym q) e)) (omega (arith, place)) h)
 
-put_load : (es : List Entry) (ws : List Write) (m : Memory) → AreOwn es ws → (g : ℕ) → STACK_START ≤ g → loads 4 (put_all ws m).segments g ≡ loads 4 m.segments g
-unfolding put
+put_load : (es : List Entry) (ws : List Write) (m : Memory) → AreOwn es ws → (g : ℕ) → STACK_START ≤ g → load_number 4 (set_slot_words ws m).segments g ≡ load_number 4 m.segments g
+unfolding set_slot_word
 put_load es [] m o g h = refl
 put_load es (w ∷ more) m o g h =
     let slot = o.0.slot in
     let place = o.0.place in
-    put_load es more (put m w.slot w.place w.value) o.1 g h
+    put_load es more (set_slot_word m w.slot w.place w.value) o.1 g h
     ∙ host_apart 4 m (POOL_START + SLOT_SIZE * w.slot + 4 * w.place) w.value g (let a : Apart (POOL_START + SLOT_SIZE * w.slot + 4 * w.place) 4 g 4 = inl (omega (arith, slot, place, h)) in a)
 
 -- the words of a header and of a control block are closed
@@ -166,7 +166,7 @@ closed_word m new closed n k h i = closed (POOL_START + SLOT_SIZE * n + 4 * k) (
 
 module _ (s : Recorded) (stack : (g : ℕ) → Has s.beyond g → STACK_START ≤ g) where
   pub record Left (es : List Entry) (ss : List Segment) : Type 0 where
-    pub words : (g : ℕ) → Has s.beyond g → loads 4 ss g ≡ loads 4 s.segments g
+    pub words : (g : ℕ) → Has s.beyond g → load_number 4 ss g ≡ load_number 4 s.segments g
     pub in_use : SameUse s.entries es
     pub closed : (n k : ℕ) → n < SLOTS → k < CLOSED_WORDS → IsUnused s.entries n → at_words ss n k ≡ at_words s.segments n k
 
@@ -180,12 +180,12 @@ module _ (s : Recorded) (stack : (g : ℕ) → Has s.beyond g → STACK_START �
   same = record { words = λ g h. refl; in_use = same_use s.entries; closed = λ n k h i e. refl }
 
   -- writes to slots in use, and lists with the same slots in use
-  written : (u : Recorded) (es : List Entry) (ws : List Write) → LeftIn u → AreOwn u.entries ws → SameUse u.entries es → Left es (put_all ws (memory_of u)).segments
+  written : (u : Recorded) (es : List Entry) (ws : List Write) → LeftIn u → AreOwn u.entries ws → SameUse u.entries es → Left es (set_slot_words ws (memory_of u)).segments
   written u es ws l o in_use = record {
     words = λ g h. put_load u.entries ws (memory_of u) o g (stack g h) ∙ l.words g h;
     in_use = then_use s.entries u.entries es l.in_use in_use;
     closed = λ n k h i e.
-        sym (word_in (put_all ws (memory_of u)) n k) ∙ put_word u.entries ws (memory_of u) o n k (omega (arith, i)) ((l.in_use n).0 e) ∙ word_in (memory_of u) n k ∙ l.closed n k h i e;
+        sym (word_in (set_slot_words ws (memory_of u)) n k) ∙ put_word u.entries ws (memory_of u) o n k (omega (arith, i)) ((l.in_use n).0 e) ∙ word_in (memory_of u) n k ∙ l.closed n k h i e;
   }
 
   -- ---- calls on exceptions
@@ -226,17 +226,17 @@ module _ (s : Recorded) (stack : (g : ℕ) → Has s.beyond g → STACK_START �
           set_use u.entries n _ (λ q. absurd (let f : false ≡ true = subst (λ (x : Entry). is_free x ≡ true) q w.1 in cc)) (live_used _)
 
       go : (b : Bool) (o : Option ℕ) → first_slot (λ n. is_free (at_slot u.entries n)) ≡ o
-          → SameUse u.entries (cond b (kept (Err fault.TooBig) (lists_of u)) (allocate_in (lists_of u) size o)).lists.entries
+          → SameUse u.entries (cond b (unchanged_lists (Err fault.TooBig) (lists_of u)) (allocate_in (lists_of u) size o)).lists.entries
       go true o e = same_use u.entries
       go false o e = at o e
 
   free_own : (u : Recorded) (o : Option ℕ) → ((n : ℕ) → o ≡ Some n → n < SLOTS) → Own u (free_of (words_in (lists_of u)) o).writes
   free_own u None small = tt
-  free_own u (Some n) small = go (may_be_freed (named (state_at u n))) refl
+  free_own u (Some n) small = go (may_be_freed (state_of_word (state_at u n))) refl
     where
-      go : (b : Bool) → may_be_freed (named (state_at u n)) ≡ b → Own u (free_by b n).writes
+      go : (b : Bool) → may_be_freed (state_of_word (state_at u n)) ≡ b → Own u (free_by b n).writes
       go true e =
-          let used : Used u n = λ q. absurd (let f : false ≡ true = subst (λ (x : Entry). may_be_freed (named (state_word x)) ≡ true) q e in cc) in
+          let used : Used u n = λ q. absurd (let f : false ≡ true = subst (λ (x : Entry). may_be_freed (state_of_word (state_word x)) ≡ true) q e in cc) in
           (own u.entries n _ _ (small n refl) (omega arith) used, tt)
       go false e = tt
 
@@ -250,11 +250,11 @@ module _ (s : Recorded) (stack : (g : ℕ) → Has s.beyond g → STACK_START �
 
   throw_own : (u : Recorded) (g : Globals) (o : Option ℕ) (t : Throw) → ((n : ℕ) → o ≡ Some n → n < SLOTS) → Own u (start_throw_of (words_in (lists_of u)) g o t).writes
   throw_own u g None t small = tt
-  throw_own u g (Some n) t small = go (is_fresh (named (state_at u n))) refl
+  throw_own u g (Some n) t small = go (is_fresh (state_of_word (state_at u n))) refl
     where
-      go : (b : Bool) → is_fresh (named (state_at u n)) ≡ b → Own u (throw_by b g n t).writes
+      go : (b : Bool) → is_fresh (state_of_word (state_at u n)) ≡ b → Own u (throw_by b g n t).writes
       go true e =
-          let used : Used u n = λ q. absurd (let f : false ≡ true = subst (λ (x : Entry). is_fresh (named (state_word x)) ≡ true) q e in cc) in
+          let used : Used u n = λ q. absurd (let f : false ≡ true = subst (λ (x : Entry). is_fresh (state_of_word (state_word x)) ≡ true) q e in cc) in
           let h = small n refl in (
             own u.entries n _ _ h (omega arith) used,
             (own u.entries n _ _ h (omega arith) used, (own u.entries n _ _ h (omega arith) used, (own u.entries n _ _ h (omega arith) used, (own u.entries n _ _ h (omega arith) used, tt)))),
@@ -275,11 +275,11 @@ module _ (s : Recorded) (stack : (g : ℕ) → Has s.beyond g → STACK_START �
       go (Live r) e = by r (is_fresh (Some r.state)) e
 
   land_own : (u : Recorded) (n : ℕ) → n < SLOTS → Own u (land_of (words_in (lists_of u)) (Some n))
-  land_own u n h = go (is_flying (named (state_at u n))) refl
+  land_own u n h = go (is_flying (state_of_word (state_at u n))) refl
     where
-      go : (b : Bool) → is_flying (named (state_at u n)) ≡ b → Own u (land_by b n)
+      go : (b : Bool) → is_flying (state_of_word (state_at u n)) ≡ b → Own u (land_by b n)
       go true e =
-          let used : Used u n = λ q. absurd (let f : false ≡ true = subst (λ (x : Entry). is_flying (named (state_word x)) ≡ true) q e in cc) in
+          let used : Used u n = λ q. absurd (let f : false ≡ true = subst (λ (x : Entry). is_flying (state_of_word (state_word x)) ≡ true) q e in cc) in
           (own u.entries n _ _ h (omega arith) used, tt)
       go false e = tt
 
@@ -305,15 +305,15 @@ module _ (s : Recorded) (stack : (g : ℕ) → Has s.beyond g → STACK_START �
       by n true h used = (own u.entries n _ _ h (omega arith) used, (own u.entries n _ _ h (omega arith) used, (own u.entries n _ _ h (omega arith) used, tt)))
       by n false h used = (own u.entries n _ _ h (omega arith) used, (own u.entries n _ _ h (omega arith) used, tt))
 
-      faulty : (n : ℕ) (o : Option CxaFault) → n < SLOTS → catch_fault (named (state_at u n)) (w n COUNT == 0) (g.caught == ucb) ≡ o → Own u (catch_at w g ucb n o).writes
+      faulty : (n : ℕ) (o : Option CxaFault) → n < SLOTS → catch_fault (state_of_word (state_at u n)) (w n COUNT == 0) (g.caught == ucb) ≡ o → Own u (catch_at w g ucb n o).writes
       faulty n (Some e) h q = tt
       faulty n None h q =
           by n (w n COUNT == 0) h
-          (λ x. absurd (let f : ◌≡◌ {A = Option CxaFault} (Some fault.BadUcb) None = subst (λ (y : Entry). catch_fault (named (state_word y)) (w n COUNT == 0) (g.caught == ucb) ≡ None) x q in cc))
+          (λ x. absurd (let f : ◌≡◌ {A = Option CxaFault} (Some fault.BadUcb) None = subst (λ (y : Entry). catch_fault (state_of_word (state_word y)) (w n COUNT == 0) (g.caught == ucb) ≡ None) x q in cc))
 
       at : (o : Option ℕ) → block_slot ucb ≡ o → Own u (catch_in w g ucb o).writes
       at None e = tt
-      at (Some n) e = faulty n (catch_fault (named (state_at u n)) (w n COUNT == 0) (g.caught == ucb)) (slot_small ucb n e) refl
+      at (Some n) e = faulty n (catch_fault (state_of_word (state_at u n)) (w n COUNT == 0) (g.caught == ucb)) (slot_small ucb n e) refl
 
   catch_use : (u : Recorded) (given : ℕ → ℕ) (o : Option ℕ) → SameUse u.entries (catch_list given (lists_of u) o).lists.entries
   catch_use u given None = same_use u.entries
@@ -374,15 +374,15 @@ module _ (s : Recorded) (stack : (g : ℕ) → Has s.beyond g → STACK_START �
       w : Pool
       w = words_in (lists_of u)
 
-      by : (n : ℕ) (b : Bool) → n < SLOTS → is_caught (named (state_at u n)) ≡ b → Own u (rethrow_by b w g n).writes
+      by : (n : ℕ) (b : Bool) → n < SLOTS → is_caught (state_of_word (state_at u n)) ≡ b → Own u (rethrow_by b w g n).writes
       by n true h e =
-          let used : Used u n = λ q. absurd (let f : false ≡ true = subst (λ (x : Entry). is_caught (named (state_word x)) ≡ true) q e in cc) in
+          let used : Used u n = λ q. absurd (let f : false ≡ true = subst (λ (x : Entry). is_caught (state_of_word (state_word x)) ≡ true) q e in cc) in
           (own u.entries n _ _ h (omega arith) used, (own u.entries n _ _ h (omega arith) used, tt))
       by n false h e = tt
 
       at : (o : Option ℕ) → block_slot g.caught ≡ o → Own u (rethrow_at w g o).writes
       at None e = tt
-      at (Some n) e = by n (is_caught (named (state_at u n))) (slot_small g.caught n e) refl
+      at (Some n) e = by n (is_caught (state_of_word (state_at u n))) (slot_small g.caught n e) refl
 
   rethrow_use : (u : Recorded) → SameUse u.entries (rethrow_list (lists_of u)).lists.entries
   rethrow_use u = from u.caught
@@ -448,17 +448,17 @@ module _ (s : Recorded) (stack : (g : ℕ) → Has s.beyond g → STACK_START �
   progress u outside blk w None in_use l = l
   progress u outside blk w (Some n) in_use l = written u u.entries (begin_cleanup_of (heads (lists_of u)) blk w).writes l (cleanup_own u (heads (lists_of u)) blk w in_use) (same_use u.entries)
 
-  flown : (u : Recorded) (blk : ℕ) (o : Option ℕ) → block_slot blk ≡ o → LeftIn u → LeftIn (acts.flown u o)
+  flown : (u : Recorded) (blk : ℕ) (o : Option ℕ) → block_slot blk ≡ o → LeftIn u → LeftIn (acts.land_exception u o)
   flown u blk None e l = l
   flown u blk (Some n) e l =
       written u (land_list (lists_of u) n).entries (land_of (words_in (lists_of u)) (Some n)) l (land_own u n (slot_small blk n e)) (land_use u n)
 
-  entered : (u : Recorded) (xs : List Activation) (blk object : ℕ) (e : Entered) → IsInUse u blk → LeftIn u → LeftBy (acts.entered u xs blk object e)
+  entered : (u : Recorded) (xs : List Activation) (blk object : ℕ) (e : Entered) → IsInUse u blk → LeftIn u → LeftBy (acts.enter_landing u xs blk object e)
   entered u xs blk object (enters.Cleanup vrs pad next site) in_use l =
       at_pad (acts.in_progress u (acts.outside_of xs) blk (words_of vrs.r next site) (block_slot blk)) xs vrs.r pad 0
       (progress u (acts.outside_of xs) blk (words_of vrs.r next site) (block_slot blk) in_use l)
-  entered u xs blk object (enters.Catch vrs pad) in_use l = at_pad (acts.flown u (block_slot blk)) xs vrs.r pad blk (flown u blk (block_slot blk) refl l)
-  entered u xs blk object (enters.Spec vrs pad) in_use l = at_pad (acts.flown u (block_slot blk)) xs vrs.r pad blk (flown u blk (block_slot blk) refl l)
+  entered u xs blk object (enters.Catch vrs pad) in_use l = at_pad (acts.land_exception u (block_slot blk)) xs vrs.r pad blk (flown u blk (block_slot blk) refl l)
+  entered u xs blk object (enters.Spec vrs pad) in_use l = at_pad (acts.land_exception u (block_slot blk)) xs vrs.r pad blk (flown u blk (block_slot blk) refl l)
   entered u xs blk object enters.Unexpected in_use l = l
   entered u xs blk object (enters.Terminate why) in_use l = l
 
@@ -471,19 +471,19 @@ module _ (s : Recorded) (stack : (g : ℕ) → Has s.beyond g → STACK_START �
       entered (with_words ws u) _ blk _ _ in_use (written u u.entries ws l (barrier_own u blk (barrier_words blk b) in_use) (same_use u.entries))
 
   sought : (g : Tables) (u : Recorded) (what : EventKind) (thrown : Thrown) (further : Barrier → Recorded → acts.Outcome)
-      → ((b : Barrier) → LeftBy (further b (acts.logged u (throw_event what (memory_of u) thrown (acts.size_of (lists_of u) (object_slot thrown.object))))))
-      → LeftIn u → LeftBy (acts.from_barrier further (acts.sought g u what thrown))
-  unfolding acts.sought
+      → ((b : Barrier) → LeftBy (further b (acts.log_event u (throw_event what (memory_of u) thrown (acts.size_of (lists_of u) (object_slot thrown.object))))))
+      → LeftIn u → LeftBy (acts.from_barrier further (acts.find_barrier g u what thrown))
+  unfolding acts.find_barrier
   sought g u what thrown further f l = go (is_some (row_of g.types thrown.ty))
     where
-      by_found : (r : Result Barrier End) → LeftBy (acts.from_barrier further (r, acts.logged u (throw_event what (memory_of u) thrown (acts.size_of (lists_of u) (object_slot thrown.object)))))
+      by_found : (r : Result Barrier End) → LeftBy (acts.from_barrier further (r, acts.log_event u (throw_event what (memory_of u) thrown (acts.size_of (lists_of u) (object_slot thrown.object)))))
       by_found (Ok b) = f b
       by_found (Err end) = l
 
       go : (c : Bool) → LeftBy (acts.from_barrier further (cond c
-          (barrier_in u.regs.pc (acts.searched g u thrown), acts.logged u (throw_event what (memory_of u) thrown (acts.size_of (lists_of u) (object_slot thrown.object))))
+          (barrier_in u.regs.pc (acts.phase1_result g u thrown), acts.log_event u (throw_event what (memory_of u) thrown (acts.size_of (lists_of u) (object_slot thrown.object))))
           (Err (the_end.Trap kind.BadType thrown.ty u.regs.pc), u)))
-      go true = by_found (barrier_in u.regs.pc (acts.searched g u thrown))
+      go true = by_found (barrier_in u.regs.pc (acts.phase1_result g u thrown))
       go false = l
 
   block_is : (a b : ℕ) → ◌≡◌ {A = Result ℕ CxaFault} (Ok a) (Ok b) → a ≡ b
@@ -539,22 +539,22 @@ module _ (s : Recorded) (stack : (g : ℕ) → Has s.beyond g → STACK_START �
   flies_again_to g site blk b u in_use l =
       throw_to g site blk b (acts.flies_again u) (moves_use u (acts.flies_again u) blk (rethrow_use u) in_use) (flies_again u l)
 
-  throws : (g : Tables) (r : Result ℕ CxaFault) → (acts.first_flight s).answer ≡ r → LeftBy (acts.throws g s r)
+  throws : (g : Tables) (r : Result ℕ CxaFault) → (acts.first_flight s).answer ≡ r → LeftBy (acts.throw_outcome g s r)
   throws g (Ok blk) e =
       let in_use = flight_uses s (object_slot (reg_in s 0)) (acts.thrown_words s) blk e in
-      sought g s event.Throw (acts.thrown_first s) (λ b t. acts.throw_to g s.regs.pc blk b (acts.flies_first t))
+      sought g s event.Throw (acts.gate_thrown s) (λ b t. acts.throw_to g s.regs.pc blk b (acts.flies_first t))
       (λ b. flies_to g s.regs.pc blk b
-      (acts.logged s (throw_event event.Throw (memory_of s) (acts.thrown_first s) (acts.size_of (lists_of s) (object_slot (acts.thrown_first s).object)))) in_use
+      (acts.log_event s (throw_event event.Throw (memory_of s) (acts.gate_thrown s) (acts.size_of (lists_of s) (object_slot (acts.gate_thrown s).object)))) in_use
       (record { words = same.words; in_use = same.in_use; closed = same.closed }))
       same
   throws g (Err why) e = same
 
-  rethrows : (g : Tables) (r : Result ℕ CxaFault) → (rethrow_list (lists_of s)).answer ≡ r → LeftBy (acts.rethrows g s r)
+  rethrows : (g : Tables) (r : Result ℕ CxaFault) → (rethrow_list (lists_of s)).answer ≡ r → LeftBy (acts.rethrow_outcome g s r)
   rethrows g (Ok blk) e =
       let in_use = rethrow_uses s blk e in
-      let thrown = acts.thrown_of_slot (lists_of s) (block_slot blk) in
+      let thrown = acts.slot_thrown (lists_of s) (block_slot blk) in
       sought g s event.Rethrow thrown (λ b t. acts.throw_to g s.regs.pc blk b (acts.flies_again t))
-      (λ b. flies_again_to g s.regs.pc blk b (acts.logged s (throw_event event.Rethrow (memory_of s) thrown (acts.size_of (lists_of s) (object_slot thrown.object)))) in_use
+      (λ b. flies_again_to g s.regs.pc blk b (acts.log_event s (throw_event event.Rethrow (memory_of s) thrown (acts.size_of (lists_of s) (object_slot thrown.object)))) in_use
       (record { words = same.words; in_use = same.in_use; closed = same.closed }))
       same
   rethrows g (Err why) e = same
@@ -567,31 +567,31 @@ module _ (s : Recorded) (stack : (g : ℕ) → Has s.beyond g → STACK_START �
     resumes_in g p more (a ∷ outer) used = go ((s.first.caller.sp == p.cleanup.sp) && (length outer == p.place))
       where
         go : (b : Bool)
-            → LeftBy (cond b (acts.goes_on g (record s { cleanups = more }) p.cleanup s.first.caller a outer (barrier_of (word (memory_of s)) (Some p.cleanup.slot))) (acts.refused fault.CleanupElsewhere s.first.caller.sp s))
+            → LeftBy (cond b (acts.continue_flight g (record s { cleanups = more }) p.cleanup s.first.caller a outer (barrier_of (word (memory_of s)) (Some p.cleanup.slot))) (acts.refusal_outcome fault.CleanupElsewhere s.first.caller.sp s))
         go true = entered (record s { cleanups = more }) _ (block p.cleanup.slot) _ _ (block_used (record s { cleanups = more }) p.cleanup.slot used) (record { words = same.words; in_use = same.in_use; closed = same.closed })
         go false = same
 
-    resumes : (g : Tables) (ps : List InProgress) → ((n : ℕ) → Has (slots (cleanups_in ps)) n → IsUnused s.entries n → ⊥) → LeftBy (acts.resumes g s ps)
+    resumes : (g : Tables) (ps : List InProgress) → ((n : ℕ) → Has (slots (cleanups_in ps)) n → IsUnused s.entries n → ⊥) → LeftBy (acts.resume_outcome g s ps)
     resumes g [] used = same
-    resumes g (p ∷ more) used = go (acts.can_unwind (covered_at g.image s.regs.pc))
+    resumes g (p ∷ more) used = go (acts.can_unwind (entry_contents_at g.image s.regs.pc))
       where
-        go : (b : Bool) → LeftBy (cond b (acts.resumes_in g s p more s.outer) (acts.refused fault.CleanupElsewhere 0 s))
+        go : (b : Bool) → LeftBy (cond b (acts.resumes_in g s p more s.outer) (acts.refusal_outcome fault.CleanupElsewhere 0 s))
         go true = resumes_in g p more s.outer (used p.cleanup.slot (inl refl))
         go false = same
 
-    allocated : (next : ℕ) (new : Recorded) (r : Result ℕ CxaFault) → LeftIn new → LeftBy (acts.allocated next s new r)
+    allocated : (next : ℕ) (new : Recorded) (r : Result ℕ CxaFault) → LeftIn new → LeftBy (acts.allocate_outcome next s new r)
     allocated next new (Ok object) n = record { words = n.words; in_use = n.in_use; closed = n.closed }
     allocated next new (Err why) n = same
 
-    freed_by : (next : ℕ) (new : Recorded) (r : Result (Unit {0}) CxaFault) → LeftIn new → LeftBy (acts.freed next s new r)
+    freed_by : (next : ℕ) (new : Recorded) (r : Result (Unit {0}) CxaFault) → LeftIn new → LeftBy (acts.free_outcome next s new r)
     freed_by next new (Ok done) n = record { words = n.words; in_use = n.in_use; closed = n.closed }
     freed_by next new (Err why) n = same
 
-    caught : (next : ℕ) (new : Recorded) (r : Result ℕ CxaFault) → LeftIn new → LeftBy (acts.caught next s new r)
+    caught : (next : ℕ) (new : Recorded) (r : Result ℕ CxaFault) → LeftIn new → LeftBy (acts.begin_catch_outcome next s new r)
     caught next new (Ok object) n = record { words = n.words; in_use = n.in_use; closed = n.closed }
     caught next new (Err why) n = same
 
-    dropped : (next : ℕ) (new : Recorded) (r : Result (ℕ × ℕ) CxaFault) → LeftIn new → LeftBy (acts.dropped next s new r)
+    dropped : (next : ℕ) (new : Recorded) (r : Result (ℕ × ℕ) CxaFault) → LeftIn new → LeftBy (acts.end_catch_outcome next s new r)
     dropped next new (Ok (object, destructor)) n = record { words = n.words; in_use = n.in_use; closed = n.closed }
     dropped next new (Err why) n = same
 
@@ -613,7 +613,7 @@ module _ (s : Recorded) (stack : (g : ℕ) → Has s.beyond g → STACK_START �
         (either (number == THROW_GATE) _ _ (throws g (acts.first_flight s).answer refl)
         (either (number == BEGIN_CATCH_GATE) _ _
         (caught next (with_lists (acts.begin_catch s).lists (begin_catch_of (words_in l) (heads l) (reg_in s 0)).writes s) (acts.begin_catch s).answer
-        (written s (acts.begin_catch s).lists.entries (begin_catch_of (words_in l) (heads l) (reg_in s 0)).writes same (catch_own s (heads l) (reg_in s 0)) (catch_use s (acts.given s) (block_slot (reg_in s 0)))))
+        (written s (acts.begin_catch s).lists.entries (begin_catch_of (words_in l) (heads l) (reg_in s 0)).writes same (catch_own s (heads l) (reg_in s 0)) (catch_use s (acts.handler_address s) (block_slot (reg_in s 0)))))
         (either (number == END_CATCH_GATE) _ _
         (dropped next (with_lists (end_list l).lists (end_catch_of (words_in l) (heads l)).writes s) (end_list l).answer
         (written s (end_list l).lists.entries (end_catch_of (words_in l) (heads l)).writes same (end_own s (heads l)) (end_use s)))
@@ -645,7 +645,7 @@ module _ (s : Recorded) (stack : (g : ℕ) → Has s.beyond g → STACK_START �
       low_gate (Goes regs text left) = as_before (record s { regs = regs }) refl refl
       low_gate (Ends end regs) = as_before (record s { regs = regs }) refl refl
 
-      gated : (number : ℕ) (regs : Regs) → Leaves s (acts.gated p number s regs input)
+      gated : (number : ℕ) (regs : Regs) → Leaves s (acts.event_at_gate p number s regs input)
       gated number regs = go (nat_lt INPUT_GATE number)
         where
           go : (b : Bool) → Leaves s (cond b (acts.event_of (acts.gate_of (program_tables p) number regs.pc s) input) (acts.in_state s (gate_event number s.regs regs input)))
@@ -660,42 +660,42 @@ module _ (s : Recorded) (stack : (g : ℕ) → Has s.beyond g → STACK_START �
         closed = λ n j h i e. sym (word_in m n j) ∙ closed_word (memory_of s) m k.closed n j h i ∙ word_in (memory_of s) n j;
       }
 
-      left_by : (xs : List Activation) (u : Recorded) → LeftIn u → LeftIn (acts.left_by xs u)
+      left_by : (xs : List Activation) (u : Recorded) → LeftIn u → LeftIn (acts.with_remaining xs u)
       left_by [] u l = l
       left_by (a ∷ more) u l = record { words = l.words; in_use = l.in_use; closed = l.closed }
 
-      tested : (what : Stepped) (regs : Regs) (m : Memory) → KeepsMap (memory_of s) m → (o : Option End) → Leaves s (acts.onward p s (acts.tested p s what regs m o) input)
+      tested : (what : Stepped) (regs : Regs) (m : Memory) → KeepsMap (memory_of s) m → (o : Option End) → Leaves s (acts.event_after_pass p s (acts.pass_tests p s what regs m o) input)
       tested what regs m k (Some end) = leaves_it s same
-      tested Done regs m k None = let l = stepped_left m k in leaves_it (acts.recorded_after p s Done regs m) (record { words = l.words; in_use = l.in_use; closed = l.closed })
+      tested Done regs m k None = let l = stepped_left m k in leaves_it (acts.record_step p s Done regs m) (record { words = l.words; in_use = l.in_use; closed = l.closed })
       tested (Call target ret) regs m k None =
-          let l = stepped_left m k in leaves_it (acts.recorded_after p s (Call target ret) regs m) (record { words = l.words; in_use = l.in_use; closed = l.closed })
+          let l = stepped_left m k in leaves_it (acts.record_step p s (Call target ret) regs m) (record { words = l.words; in_use = l.in_use; closed = l.closed })
       tested (Return to) regs m k None =
           let l = stepped_left m k in
-          let base = acts.reguarded_at p s regs (record s { regs = regs; segments = m.segments }) in
-          leaves_it (acts.left_by base.outer base) (left_by base.outer base (record { words = l.words; in_use = l.in_use; closed = l.closed }))
+          let base = acts.update_slots_at p s regs (record s { regs = regs; segments = m.segments }) in
+          leaves_it (acts.with_remaining base.outer base) (left_by base.outer base (record { words = l.words; in_use = l.in_use; closed = l.closed }))
       tested (Gate number) regs m k None = gated number regs
       tested (Trap trap) regs m k None =
-          let l = stepped_left m k in leaves_it (acts.recorded_after p s (Trap trap) regs m) (record { words = l.words; in_use = l.in_use; closed = l.closed })
+          let l = stepped_left m k in leaves_it (acts.record_step p s (Trap trap) regs m) (record { words = l.words; in_use = l.in_use; closed = l.closed })
 
-      stepped : (o : Stepping) → KeepsMap (memory_of s) o.2 → Leaves s (acts.onward p s (acts.stepped p s o) input)
+      stepped : (o : Stepping) → KeepsMap (memory_of s) o.2 → Leaves s (acts.event_after_pass p s (acts.pass_step p s o) input)
       stepped (Trap trap, regs, m) k = go (acts.pops_back p s)
         where
-          go : (o : Option Regs) → Leaves s (acts.onward p s (acts.trapped_by p s trap o) input)
+          go : (o : Option Regs) → Leaves s (acts.event_after_pass p s (acts.trap_or_return p s trap o) input)
           go None = leaves_it s same
           go (Some after) =
-              tested (Return s.first.caller.back) (acts.returned s.first.caller after) (memory_of s)
+              tested (Return s.first.caller.back) (acts.caller_registers s.first.caller after) (memory_of s)
               (record { map = map_refl s.segments; guards = refl; home = refl; guarded = λ g h. refl; closed = λ a l c. refl }) _
       stepped (Done, regs, m) k = tested Done regs m k _
       stepped (Call target ret, regs, m) k = tested (Call target ret) regs m k _
-      stepped (Return to, regs, m) k = tested (Return to) (acts.returned s.first.caller regs) m k _
+      stepped (Return to, regs, m) k = tested (Return to) (acts.caller_registers s.first.caller regs) m k _
       stepped (Gate number, regs, m) k = tested (Gate number) regs m k _
 
-      checked : (b : Bool) → Leaves s (acts.onward p s (acts.checked p s b) input)
+      checked : (b : Bool) → Leaves s (acts.event_after_pass p s (acts.pass_if_checked p s b) input)
       checked true = stepped (step_for (profile_in p) s.regs (memory_of s)) (step_follows (profile_in p) s.regs (memory_of s)).memory
       checked false = leaves_it s same
 
       event_leaves : Leaves s (acts.recorded_event p s input)
-      unfolding acts.recorded_event acts.passed
+      unfolding acts.recorded_event acts.pass_instruction
       event_leaves = checked (p.look s.regs.pc).is_instr
 
 in_stack : (x : Accepted) (s : Recorded) → Keeps x s → (g : ℕ) → Has s.beyond g → STACK_START ≤ g

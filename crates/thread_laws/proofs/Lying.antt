@@ -2,25 +2,25 @@
 use Rattle.std.proofs.Common.{◌≡◌, ℕ, ◌+◌, ◌≤◌, inl, inr, ◌==◌, Bool, true, false, cond, List, [], ◌∷◌, Option, Some, None, refl, sym, ap, ◌∙◌, arith}
 use Rattle.std.proofs.lemmas.Bool.{eqb-true}
 use Rattle.std.proofs.lemmas.Option.{same_Some}
-use Rattle.thread_run.specs.eh_bus.Lists.{Has}
-use Rattle.thread_run.specs.eh_bus.Map.{SameSegment, SameMap}
-use Rattle.thread_run.specs.eh_bus.Memory.{loads}
-use Rattle.thread_run.specs.eh_bus.Segment.{Segment}
-use Rattle.thread_run.specs.eh_cxa.Lists.{Entry, Free, OutOfUse, Live}
-use Rattle.thread_run.specs.eh_cxa.Stands.{entry_of, live_at}
-use Rattle.thread_run.specs.eh_cxa.States.{code, named}
-use Rattle.thread_run.specs.eh_cxa.Words.{Pool}
-use Rattle.thread_run.specs.eh_cxa.declared.layout.TheConstants.{STATE}
-use Rattle.thread_run.specs.eh_cxa.declared.state.TheConstants.{FREE, FRESH, FLYING, LANDED, CAUGHT, ENDED}
-use Rattle.thread_run.specs.eh_cxa.declared.state.State.{State}
-use Rattle.thread_run.specs.eh_cxa.declared.state.State.TheVariants.{Fresh, Flying, Landed, Caught, Ended}
-use Rattle.thread_run.specs.frame_check.Accepts.{Accepted}
-use Rattle.thread_run.specs.two_machines.Activations.{Activation, Recorded, slots_of, state_word}
-use Rattle.thread_run.specs.stands_for.Holds.{AllSameAt}
-use Rattle.thread_run.specs.stands_for.Stands.{Keeps}
-use Rattle.thread_run.proofs.stands_for.Goes.{chain_top}
-use Rattle.thread_run.proofs.stands_for.Moved.{AllLieIn, chain_lies}
-use Rattle.state_laws.specs.Free.{IsIdle, FreeMemory, FreeStarts, FreeAfterGates}
+use Rattle.eh_bus.specs.Lists.{Has}
+use Rattle.eh_bus.specs.Map.{SameSegment, SameMap}
+use Rattle.eh_bus.specs.Memory.{load_number}
+use Rattle.eh_bus.specs.Segment.{Segment}
+use Rattle.eh_cxa.specs.Lists.{Entry, Free, OutOfUse, Live}
+use Rattle.eh_cxa.specs.Stands.{entry_of, live_at}
+use Rattle.eh_cxa.specs.States.{code, state_of_word}
+use Rattle.eh_cxa.specs.Words.{Pool}
+use Rattle.eh_cxa.specs.declared.layout.TheConstants.{STATE}
+use Rattle.eh_cxa.specs.declared.state.TheConstants.{FREE, FRESH, FLYING, LANDED, CAUGHT, ENDED}
+use Rattle.eh_cxa.specs.declared.state.State.{State}
+use Rattle.eh_cxa.specs.declared.state.State.TheVariants.{Fresh, Flying, Landed, Caught, Ended}
+use Rattle.frame_check.specs.Accepts.{Accepted}
+use Rattle.sim_machines.specs.Activations.{Activation, Recorded, slots_of, state_word}
+use Rattle.sim_relation.specs.Holds.{AllSameAt}
+use Rattle.sim_relation.specs.Stands.{Keeps}
+use Rattle.sim_relation.proofs.Goes.{chain_top}
+use Rattle.sim_relation.proofs.Moved.{AllLieIn, chain_lies}
+use Rattle.sim_changes.specs.Free.{IsIdle, FreeMemory, FreeStarts, FreeAfterGates}
 use Rattle.thread_laws.proofs.GuardedSlots.{has_either, has_old, has_new}
 
 -- the laws of one thread's states
@@ -46,7 +46,7 @@ slots_lie x s k =
       chain_lies x s.segments s.home s.first.caller s.outer (omega (arith, k.low, k.high)) k.chain,
     )
 
-pub all_words_same : (old new : List Segment) (acts : List Activation) → ((g : ℕ) → Has (slots_of acts) g → loads 4 new g ≡ loads 4 old g) → AllSameAt old new acts
+pub all_words_same : (old new : List Segment) (acts : List Activation) → ((g : ℕ) → Has (slots_of acts) g → load_number 4 new g ≡ load_number 4 old g) → AllSameAt old new acts
 all_words_same old new [] h = tt
 all_words_same old new (a ∷ more) h =
     ((λ g k. h g (has_new a.slots (slots_of more) g k)), all_words_same old new more (λ g k. h g (has_old a.slots (slots_of more) g k)))
@@ -79,7 +79,7 @@ some_state a b e = same_Some a b e
 no_state : (b : State) → ◌≡◌ {A = Option State} None (Some b) → ⊥
 no_state b e = cc
 
-named_is : (n : ℕ) (state : State) → named n ≡ Some state → n ≡ code state
+named_is : (n : ℕ) (state : State) → state_of_word n ≡ Some state → n ≡ code state
 named_is n state e = go (n == FRESH) refl (n == FLYING) refl (n == LANDED) refl (n == CAUGHT) refl (n == ENDED) refl e
   where
     go : (a : Bool) → (n == FRESH) ≡ a → (b : Bool) → (n == FLYING) ≡ b → (c : Bool) → (n == LANDED) ≡ c → (d : Bool) → (n == CAUGHT) ≡ d → (f : Bool) → (n == ENDED) ≡ f
@@ -93,15 +93,15 @@ named_is n state e = go (n == FRESH) refl (n == FLYING) refl (n == LANDED) refl 
 
 -- the state word of a slot that is in use
 pub state_of_entry : (w : Pool) (n : ℕ) (e : Entry) → e ≡ entry_of w n → (e ≡ OutOfUse → ⊥) → w n STATE ≡ state_word e
-state_of_entry w n e is used = go (w n STATE == FREE) refl (named (w n STATE)) refl is
+state_of_entry w n e is used = go (w n STATE == FREE) refl (state_of_word (w n STATE)) refl is
   where
-    go : (b : Bool) → (w n STATE == FREE) ≡ b → (o : Option State) → named (w n STATE) ≡ o → e ≡ cond b Free (live_at o w n) → w n STATE ≡ state_word e
+    go : (b : Bool) → (w n STATE == FREE) ≡ b → (o : Option State) → state_of_word (w n STATE) ≡ o → e ≡ cond b Free (live_at o w n) → w n STATE ≡ state_word e
     go true z o p q = eqb-true (w n STATE) FREE z ∙ sym (ap state_word q)
     go false z None p q = absurd (used q)
     go false z (Some state) p q = named_is (w n STATE) state p ∙ sym (ap state_word q)
 
 -- an entry without an exception is what its state word shows
 pub idle_shown : (w : Pool) (n : ℕ) (e : Entry) → IsIdle e → w n STATE ≡ state_word e → e ≡ entry_of w n
-idle_shown w n Free idle is = sym (ap (λ (m : ℕ). cond (m == FREE) Free (live_at (named m) w n)) is)
-idle_shown w n OutOfUse idle is = sym (ap (λ (m : ℕ). cond (m == FREE) Free (live_at (named m) w n)) is)
+idle_shown w n Free idle is = sym (ap (λ (m : ℕ). cond (m == FREE) Free (live_at (state_of_word m) w n)) is)
+idle_shown w n OutOfUse idle is = sym (ap (λ (m : ℕ). cond (m == FREE) Free (live_at (state_of_word m) w n)) is)
 idle_shown w n (Live r) idle is = absurd (no_state r.state (sym idle))

@@ -3,27 +3,27 @@ use Rattle.std.proofs.Common.{◌≡◌, ℕ, zero, suc, ◌+◌, ◌-◌, ◌*�
 use Rattle.std.proofs.lemmas.Bool.{eqb-true, ne_eqb}
 use Rattle.std.proofs.lemmas.List.{take-append-drop, drop-drop, length-drop}
 use Rattle.std.proofs.lemmas.List.Elements.{All-drop}
-use Rattle.thread_run.specs.eh_bus.Map.{AreSegments, IsMap, IsHome, SameMap}
-use Rattle.thread_run.specs.eh_bus.Memory.{Memory, loads, written, number_in, host_store}
-use Rattle.thread_run.specs.eh_bus.Segment.{Segment, AreBytes, Apart, holds, number_at, with_number_at}
-use Rattle.thread_run.specs.eh_bus.declared.map.TheConstants.{POOL_START, SLOT_SIZE, STACK_START, STACK_END}
-use Rattle.thread_run.proofs.eh_bus.ByteLaws.{bytes_back}
-use Rattle.thread_run.proofs.eh_bus.Kept.{inside}
-use Rattle.thread_run.proofs.eh_bus.PartLaws.{host_other}
+use Rattle.eh_bus.specs.Map.{AreSegments, IsMap, IsHome, SameMap}
+use Rattle.eh_bus.specs.Memory.{Memory, load_number, store_number, number_in, host_store}
+use Rattle.eh_bus.specs.Segment.{Segment, AreBytes, Apart, holds, number_at, with_number_at}
+use Rattle.eh_bus.specs.declared.map.TheConstants.{POOL_START, SLOT_SIZE, STACK_START, STACK_END}
+use Rattle.eh_bus.proofs.ByteLaws.{bytes_back}
+use Rattle.eh_bus.proofs.Kept.{inside}
+use Rattle.eh_bus.proofs.PartLaws.{host_other}
 use Rattle.byteorder.specs.Endian.{little_bytes}
-use Rattle.thread_run.specs.eh_cxa.Lists.{Entry, Free, OutOfUse, Live}
-use Rattle.thread_run.specs.eh_cxa.States.{code}
-use Rattle.thread_run.specs.eh_cxa.Words.{Pool, Write, write, word, put, with_word, with_all, put_all}
-use Rattle.thread_run.specs.eh_cxa.declared.layout.TheConstants.{SLOTS, SLOT_WORDS, STATE}
-use Rattle.thread_run.specs.eh_cxa.declared.state.State.{State}
-use Rattle.thread_run.specs.eh_cxa.declared.state.State.TheVariants.{Fresh, Flying, Landed, Caught, Ended}
-use Rattle.thread_run.proofs.eh_cxa.Pools.{AllFit, Agrees, all_agree, all_is_map, put_is_map}
-use Rattle.thread_run.specs.two_machines.Activations.{state_word}
-use Rattle.thread_run.proofs.stands_for.Tame.{AreTame, tame_keeps}
-use Rattle.thread_run.specs.thread_memory.Homes.{home_of}
-use Rattle.thread_run.specs.thread_memory.Owners.{seen_by, changes_from}
-use Rattle.thread_run.specs.thread_memory.declared.homes.TheConstants.{THREADS}
-use Rattle.thread_laws.specs.RecordedThreads.{Owned, entry_for, entries_for, states_from, with_states}
+use Rattle.eh_cxa.specs.Lists.{Entry, Free, OutOfUse, Live}
+use Rattle.eh_cxa.specs.States.{code}
+use Rattle.eh_cxa.specs.Words.{Pool, Write, write, word, set_slot_word, with_word, with_all, set_slot_words}
+use Rattle.eh_cxa.specs.declared.layout.TheConstants.{SLOTS, SLOT_WORDS, STATE}
+use Rattle.eh_cxa.specs.declared.state.State.{State}
+use Rattle.eh_cxa.specs.declared.state.State.TheVariants.{Fresh, Flying, Landed, Caught, Ended}
+use Rattle.eh_cxa.proofs.Pools.{AllFit, Agrees, all_agree, all_is_map, put_is_map}
+use Rattle.sim_machines.specs.Activations.{state_word}
+use Rattle.sim_relation.proofs.Tame.{AreTame, tame_keeps}
+use Rattle.thread_memory.specs.Homes.{home_of}
+use Rattle.thread_memory.specs.Owners.{state_seen_by, changes_from}
+use Rattle.thread_memory.specs.declared.homes.TheConstants.{THREADS}
+use Rattle.thread_laws.specs.RecordedThreads.{OwnedException, entry_for, entries_for, states_from, with_states}
 use Rattle.thread_laws.specs.Standing.{holding}
 
 -- ---- a word that stands there already
@@ -39,18 +39,18 @@ seg_same n a s h b =
     let o = bytes_back n (drop i s.bytes) room (All-drop (λ x. x < 256) i s.bytes b) in
     ap (λ (bs : List ℕ). record s { bytes = bs }) (list_same i n (little_bytes n (number_at n s a)) s.bytes o)
 
-written_same : (n a : ℕ) (ss : List Segment) → ((k : ℕ) (d : Segment) → k < length ss → AreBytes (get_or ss k d).bytes) → written n ss a (number_in n ss a) ≡ ss
+written_same : (n a : ℕ) (ss : List Segment) → ((k : ℕ) (d : Segment) → k < length ss → AreBytes (get_or ss k d).bytes) → store_number n ss a (number_in n ss a) ≡ ss
 written_same n a [] b = refl
 written_same n a (s ∷ more) b = go (holds s a n) refl (written_same n a more (λ k d l. b (suc k) d (omega arith)))
   where
-    go : (t : Bool) → holds s a n ≡ t → written n more a (number_in n more a) ≡ more
-        → cond t (with_number_at n s a (cond t (number_at n s a) (number_in n more a)) ∷ more) (s ∷ written n more a (cond t (number_at n s a) (number_in n more a))) ≡ s ∷ more
+    go : (t : Bool) → holds s a n ≡ t → store_number n more a (number_in n more a) ≡ more
+        → cond t (with_number_at n s a (cond t (number_at n s a) (number_in n more a)) ∷ more) (s ∷ store_number n more a (cond t (number_at n s a) (number_in n more a))) ≡ s ∷ more
     go true h next = ap (λ (x : Segment). x ∷ more) (seg_same n a s h (b 0 s (omega arith)))
     go false h next = ap (λ (ss : List Segment). s ∷ ss) next
 
 -- to write it changes nothing
-pub put_same : (m : Memory) (n k v : ℕ) → IsMap m → word m n k ≡ v → put m n k v ≡ m
-unfolding word put
+pub put_same : (m : Memory) (n k v : ℕ) → IsMap m → word m n k ≡ v → set_slot_word m n k v ≡ m
+unfolding word set_slot_word
 put_same m n k v x e =
     ap (λ (u : ℕ). host_store m (POOL_START + SLOT_SIZE * n + 4 * k) u) (sym e)
     ∙ ap (λ (ss : List Segment). record m { segments = ss }) (written_same 4 (POOL_START + SLOT_SIZE * n + 4 * k) m.segments ((x.segments).bytes))
@@ -60,12 +60,12 @@ put_same m n k v x e =
 abbrev pub bare_memory : List Segment → Memory
 bare_memory segments = record { segments = segments; guards = []; home = home_of 0 }
 
-pub put_segments : (ws : List Write) (m new : Memory) → m.segments ≡ new.segments → (put_all ws m).segments ≡ (put_all ws new).segments
-unfolding put
+pub put_segments : (ws : List Write) (m new : Memory) → m.segments ≡ new.segments → (set_slot_words ws m).segments ≡ (set_slot_words ws new).segments
+unfolding set_slot_word
 put_segments [] m new e = e
 put_segments (x ∷ more) m new e =
-    put_segments more (put m x.slot x.place x.value) (put new x.slot x.place x.value)
-    (ap (λ (ss : List Segment). written 4 ss (POOL_START + SLOT_SIZE * x.slot + 4 * x.place) x.value) e)
+    put_segments more (set_slot_word m x.slot x.place x.value) (set_slot_word new x.slot x.place x.value)
+    (ap (λ (ss : List Segment). store_number 4 ss (POOL_START + SLOT_SIZE * x.slot + 4 * x.place) x.value) e)
 
 pub word_segments : (m new : Memory) → m.segments ≡ new.segments → (n k : ℕ) → word m n k ≡ word new n k
 unfolding word
@@ -124,7 +124,7 @@ here i (suc j) (e ∷ more) w l =
 
 module _ (es : List Entry) (segments : List Segment) (x : AreSegments segments) (sized : length es ≡ SLOTS) where
   abbrev new : Memory
-  new = put_all (states_from 0 es) (bare_memory segments)
+  new = set_slot_words (states_from 0 es) (bare_memory segments)
 
   room : 0 + length es ≤ SLOTS
   room = omega (arith, sized)
@@ -143,19 +143,19 @@ module _ (es : List Entry) (segments : List Segment) (x : AreSegments segments) 
   pub states_other : (m : Memory) → m.segments ≡ with_states es segments → (n k : ℕ) → n < SLOTS → k < SLOT_WORDS → (k ≡ STATE → ⊥) → word m n k ≡ word (bare_memory segments) n k
   states_other m e n k h l d = word_segments m new e n k ∙ agrees n k h l ∙ other_place 0 es (word (bare_memory segments)) n k d
 
-  pub states_loads : (g : ℕ) → STACK_START ≤ g → loads 4 (with_states es segments) g ≡ loads 4 segments g
+  pub states_loads : (g : ℕ) → STACK_START ≤ g → load_number 4 (with_states es segments) g ≡ load_number 4 segments g
   states_loads g h = (tame_keeps [] (states_from 0 es) (bare_memory segments) (bare_map segments x) (states_tame 0 es room)).loads g h
 
   pub states_map : SameMap segments (with_states es segments)
   states_map = (tame_keeps [] (states_from 0 es) (bare_memory segments) (bare_map segments x) (states_tame 0 es room)).map
 
 -- where they stand there already nothing changes
-none_changes : (i : ℕ) (es : List Entry) (m : Memory) → IsMap m → ((j : ℕ) → j < length es → word m (i + j) STATE ≡ state_word (get_or es j OutOfUse)) → put_all (states_from i es) m ≡ m
+none_changes : (i : ℕ) (es : List Entry) (m : Memory) → IsMap m → ((j : ℕ) → j < length es → word m (i + j) STATE ≡ state_word (get_or es j OutOfUse)) → set_slot_words (states_from i es) m ≡ m
 none_changes i [] m x h = refl
 none_changes i (e ∷ more) m x h =
     let z : i + 0 ≡ i = omega arith in
-    let first : put m i STATE (state_word e) ≡ m = put_same m i STATE (state_word e) x (subst (λ (k : ℕ). word m k STATE ≡ state_word e) z (h 0 (omega arith))) in
-    ap (λ (o : Memory). put_all (states_from (suc i) more) o) first
+    let first : set_slot_word m i STATE (state_word e) ≡ m = put_same m i STATE (state_word e) x (subst (λ (k : ℕ). word m k STATE ≡ state_word e) z (h 0 (omega arith))) in
+    ap (λ (o : Memory). set_slot_words (states_from (suc i) more) o) first
     ∙ none_changes (suc i) more m x (λ j l. let s : i + suc j ≡ suc i + j = omega arith in subst (λ (k : ℕ). word m k STATE ≡ state_word (get_or more j OutOfUse)) s (h (suc j) (omega (arith, l))))
 
 pub states_stand : (es : List Entry) (segments : List Segment) (m : Memory) → AreSegments segments → m.segments ≡ segments
@@ -167,7 +167,7 @@ states_stand es segments m x e h =
 
 -- ---- a switch writes those that change
 
-pub seen_state : (thread : ℕ) (o : Option Owned) → seen_by thread (holding o) ≡ state_word (entry_for thread o)
+pub seen_state : (thread : ℕ) (o : Option OwnedException) → state_seen_by thread (holding o) ≡ state_word (entry_for thread o)
 seen_state thread None = refl
 seen_state thread (Some o) = go (o.owner == thread)
   where
@@ -175,36 +175,36 @@ seen_state thread (Some o) = go (o.owner == thread)
     go true = refl
     go false = refl
 
-apart : (i j v : ℕ) (m : Memory) → word (put m i STATE v) (suc i + j) STATE ≡ word m (suc i + j) STATE
-unfolding word put
+apart : (i j v : ℕ) (m : Memory) → word (set_slot_word m i STATE v) (suc i + j) STATE ≡ word m (suc i + j) STATE
+unfolding word set_slot_word
 apart i j v m =
     host_other m (POOL_START + SLOT_SIZE * i + 4 * STATE) v (POOL_START + SLOT_SIZE * (suc i + j) + 4 * STATE)
     (let a : Apart (POOL_START + SLOT_SIZE * i + 4 * STATE) 4 (POOL_START + SLOT_SIZE * (suc i + j) + 4 * STATE) 4 = inl (omega arith) in a)
 
 module _ (old new : ℕ) where
-  pub switch_same : (i : ℕ) (pool : List (Option Owned)) (m : Memory) → IsMap m → i + length pool ≤ SLOTS
-      → ((j : ℕ) → j < length pool → word m (i + j) STATE ≡ seen_by old (holding (get_or pool j None)))
-      → put_all (changes_from old new i (map holding pool)) m ≡ put_all (states_from i (entries_for new pool)) m
+  pub switch_same : (i : ℕ) (pool : List (Option OwnedException)) (m : Memory) → IsMap m → i + length pool ≤ SLOTS
+      → ((j : ℕ) → j < length pool → word m (i + j) STATE ≡ state_seen_by old (holding (get_or pool j None)))
+      → set_slot_words (changes_from old new i (map holding pool)) m ≡ set_slot_words (states_from i (entries_for new pool)) m
   switch_same i [] m x l h = refl
-  switch_same i (o ∷ more) m x l h = go (seen_by old (holding o) == seen_by new (holding o)) refl (switch_same (suc i) more)
+  switch_same i (o ∷ more) m x l h = go (state_seen_by old (holding o) == state_seen_by new (holding o)) refl (switch_same (suc i) more)
     where
       v : ℕ
       v = state_word (entry_for new o)
 
-      first : word m i STATE ≡ seen_by old (holding o)
-      first = let z : i + 0 ≡ i = omega arith in subst (λ (k : ℕ). word m k STATE ≡ seen_by old (holding o)) z (h 0 (omega arith))
+      first : word m i STATE ≡ state_seen_by old (holding o)
+      first = let z : i + 0 ≡ i = omega arith in subst (λ (k : ℕ). word m k STATE ≡ state_seen_by old (holding o)) z (h 0 (omega arith))
 
-      later : (j : ℕ) → j < length more → word m (suc i + j) STATE ≡ seen_by old (holding (get_or more j None))
-      later j k = let s : i + suc j ≡ suc i + j = omega arith in subst (λ (n : ℕ). word m n STATE ≡ seen_by old (holding (get_or more j None))) s (h (suc j) (omega (arith, k)))
+      later : (j : ℕ) → j < length more → word m (suc i + j) STATE ≡ state_seen_by old (holding (get_or more j None))
+      later j k = let s : i + suc j ≡ suc i + j = omega arith in subst (λ (n : ℕ). word m n STATE ≡ state_seen_by old (holding (get_or more j None))) s (h (suc j) (omega (arith, k)))
 
-      go : (b : Bool) → (seen_by old (holding o) == seen_by new (holding o)) ≡ b
-          → ((n : Memory) → IsMap n → suc i + length more ≤ SLOTS → ((j : ℕ) → j < length more → word n (suc i + j) STATE ≡ seen_by old (holding (get_or more j None)))
-          → put_all (changes_from old new (suc i) (map holding more)) n ≡ put_all (states_from (suc i) (entries_for new more)) n)
-          → put_all (cond b [] (write i STATE (seen_by new (holding o)) ∷ []) ++ changes_from old new (suc i) (map holding more)) m
-          ≡ put_all (states_from (suc i) (entries_for new more)) (put m i STATE (state_word (entry_for new o)))
+      go : (b : Bool) → (state_seen_by old (holding o) == state_seen_by new (holding o)) ≡ b
+          → ((n : Memory) → IsMap n → suc i + length more ≤ SLOTS → ((j : ℕ) → j < length more → word n (suc i + j) STATE ≡ state_seen_by old (holding (get_or more j None)))
+          → set_slot_words (changes_from old new (suc i) (map holding more)) n ≡ set_slot_words (states_from (suc i) (entries_for new more)) n)
+          → set_slot_words (cond b [] (write i STATE (state_seen_by new (holding o)) ∷ []) ++ changes_from old new (suc i) (map holding more)) m
+          ≡ set_slot_words (states_from (suc i) (entries_for new more)) (set_slot_word m i STATE (state_word (entry_for new o)))
       go true e next =
-          let same : put m i STATE v ≡ m = put_same m i STATE v x (first ∙ eqb-true _ _ e ∙ seen_state new o) in
-          next m x (omega (arith, l)) later ∙ ap (λ (n : Memory). put_all (states_from (suc i) (entries_for new more)) n) (sym same)
+          let same : set_slot_word m i STATE v ≡ m = put_same m i STATE v x (first ∙ eqb-true _ _ e ∙ seen_state new o) in
+          next m x (omega (arith, l)) later ∙ ap (λ (n : Memory). set_slot_words (states_from (suc i) (entries_for new more)) n) (sym same)
       go false e next =
-          ap (λ (u : ℕ). put_all (changes_from old new (suc i) (map holding more)) (put m i STATE u)) (seen_state new o)
-          ∙ next (put m i STATE v) (put_is_map m i STATE v x) (omega (arith, l)) (λ j k. apart i j (state_word (entry_for new o)) m ∙ later j k)
+          ap (λ (u : ℕ). set_slot_words (changes_from old new (suc i) (map holding more)) (set_slot_word m i STATE u)) (seen_state new o)
+          ∙ next (set_slot_word m i STATE v) (put_is_map m i STATE v x) (omega (arith, l)) (λ j k. apart i j (state_word (entry_for new o)) m ∙ later j k)

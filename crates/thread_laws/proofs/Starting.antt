@@ -4,36 +4,36 @@ use Rattle.std.specs.Option.{option_or}
 use Rattle.std.proofs.lemmas.Bool.{cases_eq, eqb-true}
 use Rattle.std.proofs.lemmas.List.{get_or-set_same, get_or-set_other, length-map, length-set, map-set}
 use Rattle.std.proofs.lemmas.Option.{same_Some}
-use Rattle.thread_run.specs.event_runs.Runs.{Goes}
-use Rattle.thread_run.specs.eh_bus.Guards.{insert_all, AreGuards}
-use Rattle.thread_run.specs.eh_bus.Map.{IsMap}
-use Rattle.thread_run.specs.eh_bus.Memory.{Memory}
-use Rattle.thread_run.specs.eh_cxa.Lists.{OutOfUse, Live}
-use Rattle.thread_run.specs.eh_cxa.Words.{word}
-use Rattle.thread_run.specs.eh_cxa.declared.layout.TheConstants.{SLOTS, CLOSED_WORDS, STATE}
-use Rattle.thread_run.specs.frame_check.Accepts.{Accepted}
-use Rattle.thread_run.specs.guest_gates.Gates.{r0}
-use Rattle.thread_run.specs.image_memory.Start.{begins_function}
-use Rattle.thread_run.specs.thumb_core.Laws.{AreSound}
-use Rattle.thread_run.specs.thumb_core.declared.regs.Regs.{Regs}
-use Rattle.thread_run.specs.thumb_core.declared.ends.TrapKind.TheVariants as kind
-use Rattle.thread_run.specs.thumb_core.declared.ends.End.{End}
-use Rattle.thread_run.specs.thumb_core.declared.ends.End.TheVariants.{Trap}
-use Rattle.thread_run.specs.two_machines.Activations.{Recorded, bytes_of, memory_of}
-use Rattle.thread_run.specs.two_machines.Checked.{program_of}
-use Rattle.thread_run.specs.two_machines.RecordedSlots.{AreOutside}
-use Rattle.thread_run.specs.stands_for.Stands.{Keeps, IsProgram}
-use Rattle.thread_run.specs.machines_agree.Turned.{AreBytes}
-use Rattle.state_laws.specs.Free.{IsIdle}
-use Rattle.thread_run.specs.thread_memory.Homes.{home_of}
-use Rattle.thread_run.specs.thread_memory.declared.homes.TheConstants.{THREADS}
-use Rattle.thread_run.specs.declared.starting.TheConstants.{NO_THREAD, START_GATE}
-use Rattle.thread_run.specs.declared.thread.Thread.{Thread}
-use Rattle.thread_run.specs.Threads.{put_thread}
-use Rattle.thread_run.specs.Starting as bytes_starting
-use Rattle.thread_run.specs.Starting.{next_pc, new_regs, new_core, start_refusal, target_refusal, unstarted_from}
-use Rattle.thread_run.specs.Elements.{Joint, as_entered, core_in, with_event, by_outcome}
-use Rattle.thread_laws.specs.RecordedThreads.{RecordedThread, RecordedThreads, Owned, entry_for, entries_for, slots_in, slots_beside, state_for, with_state, bare_option, bare_threads, begun, answered, with_new, unless_refused, thread_in}
+use Rattle.run_events.specs.Runs.{Goes}
+use Rattle.eh_bus.specs.Guards.{insert_all, AreGuards}
+use Rattle.eh_bus.specs.Map.{IsMap}
+use Rattle.eh_bus.specs.Memory.{Memory}
+use Rattle.eh_cxa.specs.Lists.{OutOfUse, Live}
+use Rattle.eh_cxa.specs.Words.{word}
+use Rattle.eh_cxa.specs.declared.layout.TheConstants.{SLOTS, CLOSED_WORDS, STATE}
+use Rattle.frame_check.specs.Accepts.{Accepted}
+use Rattle.run_gates.specs.Gates.{r0}
+use Rattle.run_images.specs.Start.{begins_function}
+use Rattle.thumb_core.specs.Laws.{AreSound}
+use Rattle.thumb_core.specs.declared.regs.Regs.{Regs}
+use Rattle.thumb_core.specs.declared.ends.TrapKind.TheVariants as kind
+use Rattle.thumb_core.specs.declared.ends.End.{End}
+use Rattle.thumb_core.specs.declared.ends.End.TheVariants.{Trap}
+use Rattle.sim_machines.specs.Activations.{Recorded, bytes_of, memory_of}
+use Rattle.sim_machines.specs.Checked.{program_of}
+use Rattle.sim_machines.specs.RecordedSlots.{AreOutside}
+use Rattle.sim_relation.specs.Stands.{Keeps, IsProgram}
+use Rattle.sim_runs.specs.Turned.{AreBytes}
+use Rattle.sim_changes.specs.Free.{IsIdle}
+use Rattle.thread_memory.specs.Homes.{home_of}
+use Rattle.thread_memory.specs.declared.homes.TheConstants.{THREADS}
+use Rattle.eh_threads.specs.declared.starting.TheConstants.{NO_THREAD, START_GATE}
+use Rattle.eh_threads.specs.declared.thread.Thread.{Thread}
+use Rattle.eh_threads.specs.Threads.{put_thread}
+use Rattle.eh_threads.specs.Starting as bytes_starting
+use Rattle.eh_threads.specs.Starting.{next_pc, new_regs, new_core, start_refusal, target_refusal, first_unstarted}
+use Rattle.eh_threads.specs.Elements.{Joint, switch_to, core_in, with_event, by_outcome}
+use Rattle.thread_laws.specs.RecordedThreads.{RecordedThread, RecordedThreads, OwnedException, entry_for, entries_for, slots_in, slots_beside, state_for, with_state, bare_option, bare_threads, new_recorded_thread, with_gate_answer, with_new, unless_refused, thread_in}
 use Rattle.thread_laws.specs.Standing.{all_slots, memory_for, ThreadsStand}
 use Rattle.thread_laws.proofs.AfterEvent.{stands_after}
 use Rattle.thread_laws.proofs.Alike.{Same, StartsSame}
@@ -51,7 +51,7 @@ pub record NeverStarted (threads : List (Option RecordedThread)) (number : ℕ) 
   pub inside : number < length threads
   pub none : get_or threads number None ≡ None
 
-unstarted : (i : ℕ) (threads : List (Option RecordedThread)) (number : ℕ) → unstarted_from i (bare_threads threads) ≡ Some number → (j : ℕ) × ((number ≡ i + j) × NeverStarted threads j)
+unstarted : (i : ℕ) (threads : List (Option RecordedThread)) (number : ℕ) → first_unstarted i (bare_threads threads) ≡ Some number → (j : ℕ) × ((number ≡ i + j) × NeverStarted threads j)
 unstarted i [] number e = absurd (none_some number e)
   where
     none_some : (n : ℕ) → ◌≡◌ {A = Option ℕ} None (Some n) → ⊥
@@ -66,7 +66,7 @@ unstarted i (Some t ∷ more) number e =
     let inside = further.1.1.inside in
     (suc further.0, (omega arith, record { inside = omega (arith, inside); none = further.1.1.none }))
 
-never_started : (threads : List (Option RecordedThread)) (number : ℕ) → unstarted_from 0 (bare_threads threads) ≡ Some number → NeverStarted threads number
+never_started : (threads : List (Option RecordedThread)) (number : ℕ) → first_unstarted 0 (bare_threads threads) ≡ Some number → NeverStarted threads number
 never_started threads number e =
     let w = unstarted 0 threads number e in
     subst (λ (j : ℕ). NeverStarted threads j) (let s : w.0 ≡ number = (let q = w.1.0 in omega arith) in s) w.1.1
@@ -130,11 +130,11 @@ module _ (laws : StateLaws) (x : Accepted) (is : IsProgram x) (w : Joint) (v : R
   none_some : (u : RecordedThread) → ◌≡◌ {A = Option RecordedThread} None (Some u) → ⊥
   none_some u e = cc
 
-  module _ (free : NotRefused x old.regs) (after : (a : ℕ) → a < 2 ^ 32 → Keeps x (answered a old)) where
-    none_left : ThreadsStand x (with_event k (bytes_of (answered NO_THREAD old)) (put_thread w.threads k (core_in (bytes_of (answered NO_THREAD old))) None) (as_entered k w))
-        (with_state k None (answered NO_THREAD old) v)
+  module _ (free : NotRefused x old.regs) (after : (a : ℕ) → a < 2 ^ 32 → Keeps x (with_gate_answer a old)) where
+    none_left : ThreadsStand x (with_event k (bytes_of (with_gate_answer NO_THREAD old)) (put_thread w.threads k (core_in (bytes_of (with_gate_answer NO_THREAD old))) None) (switch_to k w))
+        (with_state k None (with_gate_answer NO_THREAD old) v)
     none_left =
-        stands_after laws x w v r k t started (answered NO_THREAD old) (after NO_THREAD (omega arith))
+        stands_after laws x w v r k t started (with_gate_answer NO_THREAD old) (after NO_THREAD (omega arith))
         (record { words = λ g h. refl; unused = λ n. ((λ e. e), (λ e. e)); closed = λ n i h l e. refl }) refl refl None
 
     module _ (number : ℕ) (unused : NeverStarted v.threads number) where
@@ -142,7 +142,7 @@ module _ (laws : StateLaws) (x : Accepted) (is : IsProgram x) (w : Joint) (v : R
       regs = new_regs number (r0 old.regs - 1) (slice_index old.regs.r 1)
 
       abbrev new : Option RecordedThread
-      new = Some (begun regs)
+      new = Some (new_recorded_thread regs)
 
       abbrev v1 : RecordedThreads
       v1 = record v { threads = set v.threads number new }
@@ -172,7 +172,7 @@ module _ (laws : StateLaws) (x : Accepted) (is : IsProgram x) (w : Joint) (v : R
       none_owned : (n : ℕ) → IsIdle (entry_for number (get_or v.pool n None))
       none_owned n = by (get_or v.pool n None) refl
         where
-          by : (o : Option Owned) → get_or v.pool n None ≡ o → IsIdle (entry_for number o)
+          by : (o : Option OwnedException) → get_or v.pool n None ≡ o → IsIdle (entry_for number o)
           by None e = refl
           by (Some o) e = go (o.owner == number) refl
             where
@@ -189,7 +189,7 @@ module _ (laws : StateLaws) (x : Accepted) (is : IsProgram x) (w : Joint) (v : R
       target_even : (r0 old.regs - 1) % 2 ≡ 0
       target_even = let odd : (r0 old.regs % 2 ≡ 0 → ⊥) = (λ e. let f : (r0 old.regs % 2 == 0) ≡ true = ap (λ (n : ℕ). n == 0) e in let g = free.odd in cc) in omega (arith, odd)
 
-      keeps_new : Keeps x (state_for number (begun regs) v1)
+      keeps_new : Keeps x (state_for number (new_recorded_thread regs) v1)
       keeps_new =
           begun_keeps laws.starts x is v1 number regs small r.sized r.map.segments r.image word_small none_owned
           (subst (λ (more : List ℕ). AreOutside (home_of number) more) (sym (beside number)) (beside_outside x v r.numbered r.keeps number small))
@@ -201,11 +201,11 @@ module _ (laws : StateLaws) (x : Accepted) (is : IsProgram x) (w : Joint) (v : R
       keeps_after : (j : ℕ) (u : RecordedThread) → thread_in v1 j ≡ Some u → Keeps x (state_for j u v1)
       keeps_after j u e = elim (cases_eq j number) [
         | inl same ↦ subst (λ (i : ℕ). Keeps x (state_for i u v1)) (sym same)
-            (subst (λ (y : RecordedThread). Keeps x (state_for number y v1)) (same_Some (begun regs) u (sym is_new ∙ subst (λ (i : ℕ). thread_in v1 i ≡ Some u) same e)) keeps_new)
+            (subst (λ (y : RecordedThread). Keeps x (state_for number y v1)) (same_Some (new_recorded_thread regs) u (sym is_new ∙ subst (λ (i : ℕ). thread_in v1 i ≡ Some u) same e)) keeps_new)
         | inr other ↦ subst (λ (more : List ℕ). Keeps x (record (state_for j u v) { beyond = more })) (sym (beside j)) (r.keeps j u (sym (is_other j other) ∙ e))
       ]
 
-      owned_after : (n : ℕ) (o : Owned) → get_or v.pool n None ≡ Some o → (u : RecordedThread) × (thread_in v1 o.owner ≡ Some u)
+      owned_after : (n : ℕ) (o : OwnedException) → get_or v.pool n None ≡ Some o → (u : RecordedThread) × (thread_in v1 o.owner ≡ Some u)
       owned_after n o e = let u = r.owned n o e in (u.0, is_other o.owner (apart o.owner u.0 u.1) ∙ u.1)
 
       built : List ℕ → Memory
@@ -234,36 +234,36 @@ module _ (laws : StateLaws) (x : Accepted) (is : IsProgram x) (w : Joint) (v : R
         keeps = keeps_after;
       }
 
-      started_first : ThreadsStand x (with_event k (bytes_of (answered number old)) (put_thread w1.threads k (core_in (bytes_of (answered number old))) None) (as_entered k w1))
-          (with_state k None (answered number old) v1)
+      started_first : ThreadsStand x (with_event k (bytes_of (with_gate_answer number old)) (put_thread w1.threads k (core_in (bytes_of (with_gate_answer number old))) None) (switch_to k w1))
+          (with_state k None (with_gate_answer number old) v1)
       unfolding word
       started_first =
-          stands_after laws x w1 v1 begins k t (is_other k (apart k t started) ∙ started) (answered number old) (after number (omega (arith, small)))
+          stands_after laws x w1 v1 begins k t (is_other k (apart k t started) ∙ started) (with_gate_answer number old) (after number (omega (arith, small)))
           (record { words = λ g h. refl; unused = λ n. ((λ e. e), (λ e. e)); closed = λ n i h l e. refl }) refl (sym (beside k)) None
 
-    by_first : (o : Option ℕ) → unstarted_from 0 (bare_threads v.threads) ≡ o
-        → Same x (by_outcome k (bytes_of old) (as_entered k w)
-        (bytes_starting.went_on k (core_in (bytes_of old)) (bytes_starting.begun (r0 old.regs - 1) (slice_index old.regs.r 1) w.threads o)) input)
+    by_first : (o : Option ℕ) → first_unstarted 0 (bare_threads v.threads) ≡ o
+        → Same x (by_outcome k (bytes_of old) (switch_to k w)
+        (bytes_starting.go_on_with_thread k (core_in (bytes_of old)) (bytes_starting.start_thread (r0 old.regs - 1) (slice_index old.regs.r 1) w.threads o)) input)
         (Goes (with_new o k old v) [] input)
     by_first None e = (none_left, refl, refl, fits)
     by_first (Some number) e = (started_first number (never_started v.threads number e), refl, refl, fits)
 
     gate_same : start_refusal (program_of x) old.regs ≡ None
-        → Same x (by_outcome k (bytes_of old) (as_entered k w) (bytes_starting.start_gate (program_of x) k (core_in (bytes_of old)) w.threads) input)
+        → Same x (by_outcome k (bytes_of old) (switch_to k w) (bytes_starting.start_gate (program_of x) k (core_in (bytes_of old)) w.threads) input)
         (unless_refused (start_refusal (program_of x) old.regs) k old v input)
     gate_same q =
-        subst (λ (o : Option End). Same x (by_outcome k (bytes_of old) (as_entered k w) (bytes_starting.unless_refused o k (core_in (bytes_of old)) w.threads) input) (unless_refused o k old v input)) (sym q)
-        (subst (λ (o : Option ℕ). Same x (by_outcome k (bytes_of old) (as_entered k w)
-        (bytes_starting.went_on k (core_in (bytes_of old)) (bytes_starting.begun (r0 old.regs - 1) (slice_index old.regs.r 1) w.threads o)) input)
-        (Goes (with_new (unstarted_from 0 (bare_threads v.threads)) k old v) [] input))
-        (sym (ap (λ (ts : List (Option Thread)). unstarted_from 0 ts) r.threads))
-        (by_first (unstarted_from 0 (bare_threads v.threads)) refl))
+        subst (λ (o : Option End). Same x (by_outcome k (bytes_of old) (switch_to k w) (bytes_starting.unless_refused o k (core_in (bytes_of old)) w.threads) input) (unless_refused o k old v input)) (sym q)
+        (subst (λ (o : Option ℕ). Same x (by_outcome k (bytes_of old) (switch_to k w)
+        (bytes_starting.go_on_with_thread k (core_in (bytes_of old)) (bytes_starting.start_thread (r0 old.regs - 1) (slice_index old.regs.r 1) w.threads o)) input)
+        (Goes (with_new (first_unstarted 0 (bare_threads v.threads)) k old v) [] input))
+        (sym (ap (λ (ts : List (Option Thread)). first_unstarted 0 ts) r.threads))
+        (by_first (first_unstarted 0 (bare_threads v.threads)) refl))
 
 pub starts_same : StateLaws → (x : Accepted) → IsProgram x → StartsSame x
 starts_same laws x is w v k t kind value pc s input r started fits e asks q =
     let a = asked x (state_for k t v) s input kind value pc (r.keeps k t started) e asks in
     subst (λ (u : Recorded). start_refusal (program_of x) u.regs ≡ None
-    → Same x (by_outcome k (bytes_of u) (as_entered k w) (bytes_starting.start_gate (program_of x) k (core_in (bytes_of u)) w.threads) input) (unless_refused (start_refusal (program_of x) u.regs) k u v input))
+    → Same x (by_outcome k (bytes_of u) (switch_to k w) (bytes_starting.start_gate (program_of x) k (core_in (bytes_of u)) w.threads) input) (unless_refused (start_refusal (program_of x) u.regs) k u v input))
     (sym a.0)
     (λ q. let free = not_refused x (state_for k t v).regs q in
     gate_same laws x is w v r k t started input fits free

@@ -1,12 +1,12 @@
 -- Each thread's state stands for its recorded one, and the slots of all are guarded for each.
 use Rattle.std.proofs.Common.{◌≡◌, ℕ, List, sym, subst, Err}
-use Rattle.thread_run.specs.eh_bus.Lists.{Has}
-use Rattle.thread_run.specs.eh_bus.Memory.{Memory, store, store_run}
-use Rattle.thread_run.specs.eh_bus.declared.fault.BusFault.TheVariants.{SavedSlot}
-use Rattle.thread_run.proofs.eh_bus.PartLaws.{guarded_refused}
-use Rattle.memory_laws.specs.Runs.{word_address, CanStore}
-use Rattle.memory_laws.proofs.Guarded.{runs_refused}
-use Rattle.thread_run.specs.two_machines.Activations.{memory_of}
+use Rattle.eh_bus.specs.Lists.{Has}
+use Rattle.eh_bus.specs.Memory.{Memory, store, store_run}
+use Rattle.eh_bus.specs.declared.fault.BusFault.TheVariants.{SavedSlot}
+use Rattle.eh_bus.proofs.PartLaws.{guarded_refused}
+use Rattle.mem_laws.specs.Runs.{word_address, CanStore}
+use Rattle.mem_laws.proofs.Guarded.{runs_refused}
+use Rattle.sim_machines.specs.Activations.{memory_of}
 use Rattle.thread_laws.specs.RecordedThreads.{state_for}
 use Rattle.thread_laws.specs.Laws.{EachStands, SlotsAreGuarded, SlotsStopRuns}
 use Rattle.thread_laws.proofs.GuardedSlots.{guards_for, in_all, of_all}

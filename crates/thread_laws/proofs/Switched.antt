@@ -2,22 +2,22 @@
 use Rattle.std.proofs.Common.{◌≡◌, ℕ, ◌+◌, ◌<◌, ◌==◌, Bool, true, false, cond, List, [], get_or, map, Option, Some, None, refl, sym, ap, subst, ◌∙◌, arith}
 use Rattle.std.proofs.lemmas.Bool.{eqb-true}
 use Rattle.std.proofs.lemmas.List.{get_or-map, length-map}
-use Rattle.thread_run.specs.eh_bus.Guards.{insert_all}
-use Rattle.thread_run.specs.eh_bus.Map.{IsMap}
-use Rattle.thread_run.specs.eh_bus.Memory.{Memory}
-use Rattle.thread_run.specs.eh_bus.Segment.{Segment}
-use Rattle.thread_run.specs.eh_cxa.Lists.{OutOfUse}
-use Rattle.thread_run.specs.eh_cxa.Words.{word}
-use Rattle.thread_run.specs.eh_cxa.declared.layout.TheConstants.{SLOTS, STATE}
-use Rattle.thread_run.specs.eh_trace.Trace.{Trace}
-use Rattle.thread_run.specs.frame_check.Accepts.{Accepted}
-use Rattle.thread_run.specs.two_machines.Activations.{memory_of, bytes_of, state_word}
-use Rattle.thread_run.proofs.two_machines.FirstEvent.{segments_alone}
-use Rattle.thread_run.specs.thread_memory.Homes.{home_of}
-use Rattle.thread_run.specs.thread_memory.Owners.{owners_after, switched}
-use Rattle.thread_run.specs.thread_memory.declared.owners.Holding.{Holding}
-use Rattle.thread_run.specs.Elements.{Joint, owners_seen, memory_seen, as_entered, state_in}
-use Rattle.thread_laws.specs.RecordedThreads.{RecordedThread, RecordedThreads, Owned, entry_for, entries_for, states_from, with_states, state_for, bare, thread_in}
+use Rattle.eh_bus.specs.Guards.{insert_all}
+use Rattle.eh_bus.specs.Map.{IsMap}
+use Rattle.eh_bus.specs.Memory.{Memory}
+use Rattle.eh_bus.specs.Segment.{Segment}
+use Rattle.eh_cxa.specs.Lists.{OutOfUse}
+use Rattle.eh_cxa.specs.Words.{word}
+use Rattle.eh_cxa.specs.declared.layout.TheConstants.{SLOTS, STATE}
+use Rattle.eh_trace.specs.Trace.{Trace}
+use Rattle.frame_check.specs.Accepts.{Accepted}
+use Rattle.sim_machines.specs.Activations.{memory_of, bytes_of, state_word}
+use Rattle.sim_machines.proofs.FirstEvent.{segments_alone}
+use Rattle.thread_memory.specs.Homes.{home_of}
+use Rattle.thread_memory.specs.Owners.{owners_after, switch_thread}
+use Rattle.thread_memory.specs.declared.owners.Holding.{Holding}
+use Rattle.eh_threads.specs.Elements.{Joint, owners_at_switch, memory_at_switch, switch_to, state_in}
+use Rattle.thread_laws.specs.RecordedThreads.{RecordedThread, RecordedThreads, OwnedException, entry_for, entries_for, states_from, with_states, state_for, without_record, thread_in}
 use Rattle.thread_laws.specs.Standing.{holding, AllMoved, OwnersStand, all_slots, ThreadsStand}
 use Rattle.thread_laws.proofs.GuardedSlots.{guards_for}
 use Rattle.thread_laws.proofs.Owning.{owners_are, then_all}
@@ -56,11 +56,11 @@ module _ (x : Accepted) (w : Joint) (v : RecordedThreads) (r : ThreadsStand x w 
         ∙ ap (λ (ss : List Segment). built ss (insert_all (all_slots v.threads) []) (home_of k)) (sym stand)
         ∙ ap (λ (gs : List ℕ). built (with_states (entries_for k v.pool) v.segments) gs (home_of k)) same_guards
 
-    when_switched : switched w.entered k (owners_after w.entered (word w.memory) w.owners) w.memory ≡ memory_of (state_for k t v)
+    when_switched : switch_thread w.entered k (owners_after w.entered (word w.memory) w.owners) w.memory ≡ memory_of (state_for k t v)
     unfolding built
     when_switched =
         let at_home : Memory → Memory = λ m. record m { home = home_of k } in
-        ap (λ (os : List Holding). switched w.entered k os w.memory) owners_told
+        ap (λ (os : List Holding). switch_thread w.entered k os w.memory) owners_told
         ∙ ap at_home (switch_same w.entered k 0 v.pool w.memory is_map (let e = r.sized in omega (arith, e))
         (λ j l. let z : 0 + j ≡ j = omega arith in rw z (r.states j (let e = r.sized in omega (arith, l, e)) ∙ sym (seen_state w.entered (get_or v.pool j None)))))
         ∙ ap at_home (segments_alone (states_from 0 (entries_for k v.pool)) w.memory)
@@ -68,20 +68,20 @@ module _ (x : Accepted) (w : Joint) (v : RecordedThreads) (r : ThreadsStand x w 
         (put_segments (states_from 0 (entries_for k v.pool)) w.memory (bare_memory v.segments) (ap (λ (m : Memory). m.segments) r.memory))
         ∙ ap (λ (gs : List ℕ). built (with_states (entries_for k v.pool) v.segments) gs (home_of k)) (ap (λ (m : Memory). m.guards) r.memory ∙ same_guards)
 
-    pub memory_is : memory_seen k w.entered w.memory w.owners ≡ memory_of (state_for k t v)
+    pub memory_is : memory_at_switch k w.entered w.memory w.owners ≡ memory_of (state_for k t v)
     memory_is = go (k == w.entered) refl
       where
-        go : (b : Bool) → (k == w.entered) ≡ b → cond b w.memory (switched w.entered k (owners_after w.entered (word w.memory) w.owners) w.memory) ≡ memory_of (state_for k t v)
+        go : (b : Bool) → (k == w.entered) ≡ b → cond b w.memory (switch_thread w.entered k (owners_after w.entered (word w.memory) w.owners) w.memory) ≡ memory_of (state_for k t v)
         go true e = while_entered e
         go false e = when_switched
 
     -- the thread's own state as it is entered
-    pub entered_is : state_in (bare t).core (as_entered k w) ≡ bytes_of (state_for k t v)
+    pub entered_is : state_in (without_record t).core (switch_to k w) ≡ bytes_of (state_for k t v)
     entered_is =
         ap (λ (m : Memory). record (bytes_of (state_for k t v)) { memory = m; events = w.events }) memory_is
         ∙ ap (λ (e : Trace). record (bytes_of (state_for k t v)) { events = e }) r.events
 
-  pub owners_stand_in : (k : ℕ) (pool : List (Option Owned)) → AllMoved k v.pool pool → OwnersStand k (owners_seen k w.entered w.memory w.owners) pool
+  pub owners_stand_in : (k : ℕ) (pool : List (Option OwnedException)) → AllMoved k v.pool pool → OwnersStand k (owners_at_switch k w.entered w.memory w.owners) pool
   owners_stand_in k pool moved = go (k == w.entered) refl
     where
       go : (b : Bool) → (k == w.entered) ≡ b → OwnersStand k (cond b w.owners (owners_after w.entered (word w.memory) w.owners)) pool

@@ -2,27 +2,27 @@
 use Rattle.std.proofs.Common.{◌≡◌, ℕ, ◌+◌, ◌^◌, ◌<◌, ◌≤◌, ◌⊎◌, inl, inr, ◌==◌, not, Bool, true, false, cond, List, [], ◌∷◌, length, get_or, Option, Some, None, refl, sym, ap, subst, ◌∙◌, arith}
 use Rattle.std.proofs.lemmas.Bool.{cases_eq, cases_lt, eqb-true}
 use Rattle.std.proofs.lemmas.List.{get_or-map, get_or_past, get_or-set_same, get_or-set_other, length-set, length-map}
-use Rattle.thread_run.specs.eh_bus.Guards.{insert_all, AreGuards}
-use Rattle.thread_run.specs.eh_bus.Lists.{Has}
-use Rattle.thread_run.specs.eh_bus.Map.{AreSegments, IsMap, SameMap}
-use Rattle.thread_run.specs.eh_bus.Memory.{Memory, loads}
-use Rattle.thread_run.specs.eh_bus.Segment.{Segment}
-use Rattle.thread_run.specs.eh_bus.declared.map.TheConstants.{STACK_START}
-use Rattle.thread_run.proofs.eh_bus.MapLaws.{map_trans}
-use Rattle.thread_run.specs.eh_cxa.Lists.{Entry, Free, OutOfUse, Live, entry}
-use Rattle.thread_run.specs.eh_cxa.Words.{word}
-use Rattle.thread_run.specs.eh_cxa.declared.layout.TheConstants.{SLOTS, SLOT_WORDS, CLOSED_WORDS, STATE}
-use Rattle.thread_run.specs.eh_trace.Trace.{Trace}
-use Rattle.thread_run.specs.frame_check.Accepts.{Accepted}
-use Rattle.thread_run.specs.image_memory.Start.{image_start}
-use Rattle.thread_run.specs.two_machines.Activations.{Recorded, guarded_of, slots_of, lists_of, memory_of, state_word, with_exceptions}
-use Rattle.thread_run.specs.two_machines.RecordedSlots.{AreOutside}
-use Rattle.thread_run.specs.stands_for.Stands.{Keeps}
-use Rattle.state_laws.specs.Free.{IsIdle, SameRecords, SameParts, over}
-use Rattle.thread_run.specs.thread_memory.Homes.{home_of}
-use Rattle.thread_run.specs.thread_memory.declared.homes.TheConstants.{THREADS}
-use Rattle.thread_laws.specs.RecordedThreads.{RecordedThread, RecordedThreads, Owned, entry_for, entries_for, with_states, slots_in, slots_beside, state_for, thread_from, with_state, thread_in}
-use Rattle.thread_laws.specs.Standing.{is_others, Moved, AllMoved, all_slots}
+use Rattle.eh_bus.specs.Guards.{insert_all, AreGuards}
+use Rattle.eh_bus.specs.Lists.{Has}
+use Rattle.eh_bus.specs.Map.{AreSegments, IsMap, SameMap}
+use Rattle.eh_bus.specs.Memory.{Memory, load_number}
+use Rattle.eh_bus.specs.Segment.{Segment}
+use Rattle.eh_bus.specs.declared.map.TheConstants.{STACK_START}
+use Rattle.eh_bus.proofs.MapLaws.{map_trans}
+use Rattle.eh_cxa.specs.Lists.{Entry, Free, OutOfUse, Live, entry}
+use Rattle.eh_cxa.specs.Words.{word}
+use Rattle.eh_cxa.specs.declared.layout.TheConstants.{SLOTS, SLOT_WORDS, CLOSED_WORDS, STATE}
+use Rattle.eh_trace.specs.Trace.{Trace}
+use Rattle.frame_check.specs.Accepts.{Accepted}
+use Rattle.run_images.specs.Start.{image_start}
+use Rattle.sim_machines.specs.Activations.{Recorded, guarded_words, slots_of, lists_of, memory_of, state_word, with_exceptions}
+use Rattle.sim_machines.specs.RecordedSlots.{AreOutside}
+use Rattle.sim_relation.specs.Stands.{Keeps}
+use Rattle.sim_changes.specs.Free.{IsIdle, SameRecords, SameParts, memory_over}
+use Rattle.thread_memory.specs.Homes.{home_of}
+use Rattle.thread_memory.specs.declared.homes.TheConstants.{THREADS}
+use Rattle.thread_laws.specs.RecordedThreads.{RecordedThread, RecordedThreads, OwnedException, entry_for, entries_for, with_states, slots_in, slots_beside, state_for, thread_from, with_state, thread_in}
+use Rattle.thread_laws.specs.Standing.{is_others, MovesSlot, AllMoved, all_slots}
 use Rattle.thread_laws.specs.Leaving.{LeavesOthers}
 use Rattle.thread_laws.proofs.GuardedSlots.{guards_for, beside_set, beside_has, of_others}
 use Rattle.thread_laws.proofs.Lying.{StateLaws, slots_lie, all_words_same, both_maps, state_of_entry, idle_shown}
@@ -110,7 +110,7 @@ module _ (laws : StateLaws) (x : Accepted) (v : RecordedThreads) (k : ℕ) (t : 
   same_length : length s.entries ≡ length v.pool
   same_length = entries_sized ∙ sym sized
 
-  entry_at : (j n : ℕ) (pool : List (Option Owned)) → n < length pool → get_or (entries_for j pool) n OutOfUse ≡ entry_for j (get_or pool n None)
+  entry_at : (j n : ℕ) (pool : List (Option OwnedException)) → n < length pool → get_or (entries_for j pool) n OutOfUse ≡ entry_for j (get_or pool n None)
   entry_at j n pool h = get_or-map (entry_for j) pool n None OutOfUse h
 
   out_before : (n : ℕ) → n < length v.pool → get_or s.entries n OutOfUse ≡ OutOfUse → entry_for k (get_or v.pool n None) ≡ OutOfUse
@@ -131,7 +131,7 @@ module _ (laws : StateLaws) (x : Accepted) (v : RecordedThreads) (k : ℕ) (t : 
   entry_now : (n : ℕ) → n < SLOTS → get_or s.entries n OutOfUse ≡ entry_for k (get_or now.pool n None)
   entry_now n h = ap (λ (es : List Entry). get_or es n OutOfUse) (sym now_entries) ∙ entry_at k n now.pool (omega (arith, h, now_sized))
 
-  sized_for : (j : ℕ) (pool : List (Option Owned)) → length pool ≡ SLOTS → length (entries_for j pool) ≡ SLOTS
+  sized_for : (j : ℕ) (pool : List (Option OwnedException)) → length pool ≡ SLOTS → length (entries_for j pool) ≡ SLOTS
   sized_for j pool e = length-map pool (entry_for j) ∙ e
 
   old_word : (n : ℕ) → n < SLOTS → word (memory_of old) n STATE ≡ state_word (get_or old.entries n OutOfUse)
@@ -187,7 +187,7 @@ module _ (laws : StateLaws) (x : Accepted) (v : RecordedThreads) (k : ℕ) (t : 
 
   pub now_guards : (memory_of s).guards ≡ insert_all (all_slots now.threads) []
   now_guards =
-      ap (λ (more : List ℕ). insert_all (guarded_of more (s.first ∷ s.outer)) []) (sym now_beside) ∙ guards_for now.threads k own now_own
+      ap (λ (more : List ℕ). insert_all (guarded_words more (s.first ∷ s.outer)) []) (sym now_beside) ∙ guards_for now.threads k own now_own
 
   -- ---- the others
 
@@ -211,7 +211,7 @@ module _ (laws : StateLaws) (x : Accepted) (v : RecordedThreads) (k : ℕ) (t : 
     new_segments = states_segments (entries_for j now.pool) s.segments kept.corresponds.map.segments (sized_for j now.pool now_sized)
 
     abbrev m : Memory
-    m = over theirs after.segments after.beyond
+    m = memory_over theirs after.segments after.beyond
 
     own_home : (g : ℕ) → Has (slots_in (thread_in now k)) g → ((home_of k).0 ≤ g) × (g + 4 ≤ (home_of k).1)
     own_home g has =
@@ -244,7 +244,7 @@ module _ (laws : StateLaws) (x : Accepted) (v : RecordedThreads) (k : ℕ) (t : 
         both_maps (image_start x.image).memory.segments theirs.segments after.segments kj.image
         (map_trans (image_start x.image).memory.segments s.segments after.segments kept.image (states_map (entries_for j now.pool) s.segments kept.corresponds.map.segments (sized_for j now.pool now_sized)))
 
-    same_words : (g : ℕ) → Has (slots_of (u.first ∷ u.outer)) g → loads 4 after.segments g ≡ loads 4 theirs.segments g
+    same_words : (g : ℕ) → Has (slots_of (u.first ∷ u.outer)) g → load_number 4 after.segments g ≡ load_number 4 theirs.segments g
     same_words g has =
         let stack : STACK_START ≤ g = let at = lies g has in omega (arith, at.0, low) in
         let beside : Has (slots_beside k 0 v.threads) g = beside_has k 0 j v.threads g (λ e. other (omega (arith, e))) (subst (λ (o : Option RecordedThread). Has (slots_in o) g) (sym is) has) in
@@ -267,11 +267,11 @@ module _ (laws : StateLaws) (x : Accepted) (v : RecordedThreads) (k : ℕ) (t : 
       | inr d ↦ subst (λ (a : ℕ). a < 2 ^ 32) (sym (new_other n i h (omega (arith, l)) d)) (kept.corresponds.stands.shows.small n i h l)
     ]
 
-    moved : (n : ℕ) → Moved k (get_or v.pool n None) (get_or now.pool n None)
+    moved : (n : ℕ) → MovesSlot k (get_or v.pool n None) (get_or now.pool n None)
     moved = moved_at k v.pool now.pool now_moved
 
     -- what isn't the other thread's is no exception of this one
-    idle_own : (o : Option Owned) → is_others k o ≡ false → IsIdle (entry_for j o)
+    idle_own : (o : Option OwnedException) → is_others k o ≡ false → IsIdle (entry_for j o)
     idle_own None e = refl
     idle_own (Some o) e = go (o.owner == j) refl
       where

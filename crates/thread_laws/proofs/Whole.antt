@@ -1,7 +1,7 @@
 -- What is told of whole runs from the start.
-use Rattle.thread_run.specs.two_machines.Checked.{program_of}
-use Rattle.thread_run.specs.two_machines.Start.{start_of}
-use Rattle.thread_run.specs.Elements.{joint_over}
+use Rattle.sim_machines.specs.Checked.{program_of}
+use Rattle.sim_machines.specs.Start.{start_of}
+use Rattle.eh_threads.specs.Elements.{joint_over}
 use Rattle.thread_laws.specs.RecordedThreads.{threads_at_start}
 use Rattle.thread_laws.specs.Laws.{SchedulesSame}
 use Rattle.thread_laws.proofs.Fresh.{starts_stand_for}

@@ -1,24 +1,25 @@
--- What an event leaves of other threads: the guarded words beyond the running stack, and the slots that are out of use (docs/threads.md, "Laws").
+-- An event leaves these parts of other threads: the guarded words beyond the running stack, and the slots that are out of use
+-- (docs/guide/walks-and-threads.md, "What is proved").
 use Rattle.std.specs.Prelude.{◌≡◌, ◌↔◌, ℕ, ◌<◌, List}
-use Rattle.thread_run.specs.event_runs.Runs.{Event, Goes, Ends}
-use Rattle.thread_run.specs.eh_bus.Lists.{Has}
-use Rattle.thread_run.specs.eh_bus.Memory.{loads}
-use Rattle.thread_run.specs.eh_cxa.Lists.{OutOfUse, entry}
-use Rattle.thread_run.specs.eh_cxa.Words.{word}
-use Rattle.thread_run.specs.eh_cxa.declared.layout.TheConstants.{SLOTS, CLOSED_WORDS}
-use Rattle.thread_run.specs.frame_check.Accepts.{Accepted}
-use Rattle.thread_run.specs.thumb_core.declared.ends.End.{End}
-use Rattle.thread_run.specs.two_machines.Activations.{Recorded, memory_of, lists_of}
-use Rattle.thread_run.specs.two_machines.ActivationMachine.{recorded_event}
-use Rattle.thread_run.specs.two_machines.Checked.{program_of}
-use Rattle.thread_run.specs.stands_for.Stands.{Keeps}
+use Rattle.run_events.specs.Runs.{Event, Goes, Ends}
+use Rattle.eh_bus.specs.Lists.{Has}
+use Rattle.eh_bus.specs.Memory.{load_number}
+use Rattle.eh_cxa.specs.Lists.{OutOfUse, entry}
+use Rattle.eh_cxa.specs.Words.{word}
+use Rattle.eh_cxa.specs.declared.layout.TheConstants.{SLOTS, CLOSED_WORDS}
+use Rattle.frame_check.specs.Accepts.{Accepted}
+use Rattle.thumb_core.specs.declared.ends.End.{End}
+use Rattle.sim_machines.specs.Activations.{Recorded, memory_of, lists_of}
+use Rattle.sim_machines.specs.ActivationMachine.{recorded_event}
+use Rattle.sim_machines.specs.Checked.{program_of}
+use Rattle.sim_relation.specs.Stands.{Keeps}
 
 pub record LeavesOthers (s t : Recorded) : Type 0 where
-  -- the words that are guarded beyond the running stack hold what they held
-  pub words : (g : ℕ) → Has s.beyond g → loads 4 t.segments g ≡ loads 4 s.segments g
+  -- the guarded words beyond the running stack are unchanged
+  pub words : (g : ℕ) → Has s.beyond g → load_number 4 t.segments g ≡ load_number 4 s.segments g
   -- the same slots are out of use
   pub unused : (n : ℕ) → (entry (lists_of s) n ≡ OutOfUse) ↔ (entry (lists_of t) n ≡ OutOfUse)
-  -- and their headers and control blocks are as they were
+  -- and their headers and control blocks are unchanged
   pub closed :
       (n k : ℕ) → n < SLOTS → k < CLOSED_WORDS → entry (lists_of s) n ≡ OutOfUse
       → word (memory_of t) n k ≡ word (memory_of s) n k

@@ -1,7 +1,7 @@
 -- Homes and guards: what a release leaves, and that stores miss.
 use Rattle.std.proofs.Common.{◌≡◌, ℕ, ◌-◌, ◌/◌, ◌<◌, ◌≤◌, ◌⊎◌, inl, inr, Bool, true, false, ◌||◌, nat_le, refl, sym, ◌∙◌, arith, le-leb}
 use Rattle.std.proofs.lemmas.Bool.{cases_lt, lt-ltb, le-ltb, lt-leb}
-use Rattle.stack_guards.specs.declared.guards.TheConstants.{HOME_SIZE}
+use Rattle.mem_guards.specs.declared.guards.TheConstants.{HOME_SIZE}
 use Rattle.eh_bus.specs.Memory.{stays_guarded}
 use Rattle.eh_bus.specs.declared.map.TheConstants.{STACK_END}
 use Rattle.eh_bus.proofs.AccessLaws.{store_misses, store_keeps}
@@ -9,7 +9,7 @@ use Rattle.eh_bus.proofs.GuardLaws.{has_filter, in_filter}
 use Rattle.eh_bus.proofs.PartLaws.{guarded_refused}
 use Rattle.thread_memory.specs.Homes.{home_of}
 use Rattle.thread_memory.specs.Laws.{HomesPart, HomesAreApart, ReleasesNoOthers, ReleasesItsOwn, StoresMissGuards, GuardedStoresAreRefused}
-use Rattle.thread_memory.specs.Seen.{seen}
+use Rattle.thread_memory.specs.Seen.{thread_view}
 
 pub law_of_homes : HomesPart
 law_of_homes a l h = ((STACK_END - 1 - a) / HOME_SIZE, (omega arith, record { low = omega arith; high = omega arith }))
@@ -45,9 +45,9 @@ law_of_own m guards thread a g at h has =
 
 pub law_of_misses : StoresMissGuards
 law_of_misses n m guards thread a v g m' e has = record {
-  apart = store_misses n (seen m guards thread) a v m' g e has;
-  same = store_keeps n (seen m guards thread) a v m' g e has;
+  apart = store_misses n (thread_view m guards thread) a v m' g e has;
+  same = store_keeps n (thread_view m guards thread) a v m' g e has;
 }
 
 pub law_of_refused : GuardedStoresAreRefused
-law_of_refused n m guards thread a v g map w e has l u = guarded_refused n (seen m guards thread) a v g map w e has l u
+law_of_refused n m guards thread a v g map w e has l u = guarded_refused n (thread_view m guards thread) a v g map w e has l u

@@ -4,7 +4,7 @@ use Rattle.std.proofs.lemmas.Bool.{eqb-true, le-ltb}
 use Rattle.eh_bus.specs.Guards.{AreGuards}
 use Rattle.eh_bus.specs.Segment.{Segment, holds}
 use Rattle.eh_bus.specs.Map.{AreSegments}
-use Rattle.eh_bus.specs.Memory.{Memory, fault_in, store_run, run_fault, run_written, first_fault, store_fault, slot_fault, guard_hit, is_closed, unless_fault}
+use Rattle.eh_bus.specs.Memory.{Memory, fault_in, store_run, run_fault, store_words, first_fault, store_fault, slot_fault, guard_hit, is_closed, unless_fault}
 use Rattle.eh_bus.specs.declared.fault.BusFault.{BusFault}
 use Rattle.eh_bus.specs.declared.fault.BusFault.TheVariants.{SavedSlot}
 use Rattle.eh_bus.specs.declared.map.TheConstants.{STACK_END, STACK_START, POOL_START, POOL_END}
@@ -13,7 +13,7 @@ use Rattle.eh_bus.proofs.AccessLaws.{passes, fault_some}
 use Rattle.eh_bus.proofs.Kept.{inside}
 use Rattle.eh_bus.proofs.PartLaws.{parts, stack_fault, guard_places}
 use Rattle.eh_bus.proofs.UndoLaws.{fault_top}
-use Rattle.thread_memory.specs.Seen.{seen, aligned_hit, IsOutside}
+use Rattle.thread_memory.specs.Seen.{thread_view, aligned_hit, IsOutside}
 use Rattle.thread_memory.proofs.Stores.{fault_same, fault_free, reaches, hit_found}
 
 open_above : (a : ℕ) → POOL_END ≤ a → is_closed a ≡ false
@@ -110,19 +110,19 @@ run_reaches m a g ws e = rw e refl
 
 -- any other is the run below
 pub run_through : (m : Memory) (guards : List ℕ) (thread a : ℕ) (ws : List ℕ) (r : Result (Unit {0}) BusFault) (m' : Memory)
-    → m.guards ≡ [] → run_fault guards m.segments a ws ≡ run_fault [] m.segments a ws → (r, m') ≡ store_run m a ws → (r, seen m' guards thread) ≡ store_run (seen m guards thread) a ws
+    → m.guards ≡ [] → run_fault guards m.segments a ws ≡ run_fault [] m.segments a ws → (r, m') ≡ store_run m a ws → (r, thread_view m' guards thread) ≡ store_run (thread_view m guards thread) a ws
 run_through m guards thread a ws r m' z e s =
     let same : run_fault guards m.segments a ws ≡ run_fault m.guards m.segments a ws = rw z e in
     rw same (go (run_fault m.guards m.segments a ws) s)
   where
-    go : (o : Option BusFault) → (r, m') ≡ unless_fault o m (record m { segments = run_written m.segments a ws })
-        → (r, seen m' guards thread) ≡ unless_fault o (seen m guards thread) (record (seen m guards thread) { segments = run_written m.segments a ws })
-    go (Some x) s = ap (λ (p : Result (Unit {0}) BusFault × Memory). (p.0, seen p.1 guards thread)) s
-    go None s = ap (λ (p : Result (Unit {0}) BusFault × Memory). (p.0, seen p.1 guards thread)) s
+    go : (o : Option BusFault) → (r, m') ≡ unless_fault o m (record m { segments = store_words m.segments a ws })
+        → (r, thread_view m' guards thread) ≡ unless_fault o (thread_view m guards thread) (record (thread_view m guards thread) { segments = store_words m.segments a ws })
+    go (Some x) s = ap (λ (p : Result (Unit {0}) BusFault × Memory). (p.0, thread_view p.1 guards thread)) s
+    go None s = ap (λ (p : Result (Unit {0}) BusFault × Memory). (p.0, thread_view p.1 guards thread)) s
 
 pub run_plain : (m : Memory) (a : ℕ) (ws : List ℕ) (r : Result (Unit {0}) BusFault) (m' : Memory) → m.guards ≡ [] → (r, m') ≡ store_run m a ws → m'.guards ≡ []
 run_plain m a ws r m' z s = go (run_fault m.guards m.segments a ws) s
   where
-    go : (o : Option BusFault) → (r, m') ≡ unless_fault o m (record m { segments = run_written m.segments a ws }) → m'.guards ≡ []
+    go : (o : Option BusFault) → (r, m') ≡ unless_fault o m (record m { segments = store_words m.segments a ws }) → m'.guards ≡ []
     go (Some x) s = ap (λ (p : Result (Unit {0}) BusFault × Memory). p.1.guards) s ∙ z
     go None s = ap (λ (p : Result (Unit {0}) BusFault × Memory). p.1.guards) s ∙ z

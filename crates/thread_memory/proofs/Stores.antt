@@ -5,12 +5,12 @@ use Rattle.eh_bus.specs.Segment.{Segment, holds}
 use Rattle.eh_bus.specs.Lists.{Has}
 use Rattle.eh_bus.specs.Place.{IsWidth}
 use Rattle.eh_bus.specs.Map.{IsMap}
-use Rattle.eh_bus.specs.Memory.{Memory, fault_in, written, store, store_fault, slot_fault, guard_hit, unless_fault}
+use Rattle.eh_bus.specs.Memory.{Memory, fault_in, store_number, store, store_fault, slot_fault, guard_hit, unless_fault}
 use Rattle.eh_bus.specs.declared.fault.BusFault.{BusFault}
 use Rattle.eh_bus.specs.declared.fault.BusFault.TheVariants.{Unaligned, ReadOnly, SavedSlot}
 use Rattle.eh_bus.proofs.PartLaws.{guarded_refused, guard_places}
 use Rattle.eh_bus.specs.declared.map.TheConstants.{STACK_START}
-use Rattle.thread_memory.specs.Seen.{seen, aligned_hit}
+use Rattle.thread_memory.specs.Seen.{thread_view, aligned_hit}
 
 -- a fault that is the same in each segment is the same
 pub fault_same : (n a : ℕ) (f g : Segment → Option BusFault) (ss : List Segment) → ((s : Segment) → f s ≡ g s) → fault_in f n ss a ≡ fault_in g n ss a
@@ -78,22 +78,22 @@ store_reaches n m a v g x w e =
 
 -- any other is the store below
 pub store_through : (n : ℕ) (m : Memory) (guards : List ℕ) (thread a v : ℕ) (r : Result (Unit {0}) BusFault) (m' : Memory)
-    → m.guards ≡ [] → aligned_hit guards n a ≡ None → (r, m') ≡ store n m a v → (r, seen m' guards thread) ≡ store n (seen m guards thread) a v
+    → m.guards ≡ [] → aligned_hit guards n a ≡ None → (r, m') ≡ store n m a v → (r, thread_view m' guards thread) ≡ store n (thread_view m guards thread) a v
 store_through n m guards thread a v r m' z e s =
     let same : fault_in (λ t. store_fault n guards t a) n m.segments a ≡ fault_in (λ t. store_fault n m.guards t a) n m.segments a =
     rw z (fault_same n a (λ t. store_fault n guards t a) (λ t. store_fault n [] t a) m.segments (λ t. fault_free n guards t a e))
     in
     rw same (go (fault_in (λ t. store_fault n m.guards t a) n m.segments a) s)
   where
-    go : (o : Option BusFault) → (r, m') ≡ unless_fault o m (record m { segments = written n m.segments a v })
-        → (r, seen m' guards thread) ≡ unless_fault o (seen m guards thread) (record (seen m guards thread) { segments = written n m.segments a v })
-    go (Some x) s = ap (λ (p : Result (Unit {0}) BusFault × Memory). (p.0, seen p.1 guards thread)) s
-    go None s = ap (λ (p : Result (Unit {0}) BusFault × Memory). (p.0, seen p.1 guards thread)) s
+    go : (o : Option BusFault) → (r, m') ≡ unless_fault o m (record m { segments = store_number n m.segments a v })
+        → (r, thread_view m' guards thread) ≡ unless_fault o (thread_view m guards thread) (record (thread_view m guards thread) { segments = store_number n m.segments a v })
+    go (Some x) s = ap (λ (p : Result (Unit {0}) BusFault × Memory). (p.0, thread_view p.1 guards thread)) s
+    go None s = ap (λ (p : Result (Unit {0}) BusFault × Memory). (p.0, thread_view p.1 guards thread)) s
 
 -- and the memory below stays without guarded words
 pub store_plain : (n : ℕ) (m : Memory) (a v : ℕ) (r : Result (Unit {0}) BusFault) (m' : Memory) → m.guards ≡ [] → (r, m') ≡ store n m a v → m'.guards ≡ []
 store_plain n m a v r m' z s = go (fault_in (λ t. store_fault n m.guards t a) n m.segments a) s
   where
-    go : (o : Option BusFault) → (r, m') ≡ unless_fault o m (record m { segments = written n m.segments a v }) → m'.guards ≡ []
+    go : (o : Option BusFault) → (r, m') ≡ unless_fault o m (record m { segments = store_number n m.segments a v }) → m'.guards ≡ []
     go (Some x) s = ap (λ (p : Result (Unit {0}) BusFault × Memory). p.1.guards) s ∙ z
     go None s = ap (λ (p : Result (Unit {0}) BusFault × Memory). p.1.guards) s ∙ z

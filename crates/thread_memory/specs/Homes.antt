@@ -1,6 +1,6 @@
--- The stacks of threads: homes of one size, that of thread 0 at the end of the stack and each further one below it (docs/threads.md).
+-- The stacks of threads: homes of one size, thread 0's at the end of the stack and each further one below it (docs/guide/walks-and-threads.md).
 use Rattle.std.specs.Prelude.{ℕ, ◌+◌, ◌-◌, ◌*◌, ◌<◌, ◌≤◌}
-use Rattle.stack_guards.specs.declared.guards.TheConstants.{HOME_SIZE}
+use Rattle.mem_guards.specs.declared.guards.TheConstants.{HOME_SIZE}
 use Rattle.eh_bus.specs.declared.map.TheConstants.{STACK_END}
 
 abbrev pub home_of : ℕ → ℕ × ℕ

@@ -1,8 +1,8 @@
--- What threads that share a memory keep from each other (docs/threads.md).
+-- What threads that share a memory keep from each other (docs/guide/walks-and-threads.md).
 use Rattle.std.specs.Prelude.{◌≡◌, ℕ, ◌+◌, ◌%◌, ◌<◌, ◌≤◌, ◌==◌, List, length, slice_index_or, Some, None, true, Ok, Err}
 use Rattle.eh_bus.specs.Lists.{Has}
 use Rattle.eh_bus.specs.Map.{IsMap}
-use Rattle.eh_bus.specs.Memory.{Memory, load, store, released}
+use Rattle.eh_bus.specs.Memory.{Memory, load, store, without_guards_below}
 use Rattle.eh_bus.specs.Place.{IsWidth}
 use Rattle.eh_bus.specs.Segment.{Apart}
 use Rattle.eh_bus.specs.declared.fault.BusFault.TheVariants.{SavedSlot}
@@ -16,77 +16,77 @@ use Rattle.eh_cxa.specs.declared.globals.Globals.{Globals}
 use Rattle.eh_cxa.specs.declared.layout.TheConstants.{SLOTS, SLOT_WORDS, STATE}
 use Rattle.eh_cxa.specs.declared.state.TheConstants.{FREE}
 use Rattle.thread_memory.specs.Homes.{home_of, IsAtHome}
-use Rattle.thread_memory.specs.Owners.{AreWords, held_after, is_others, seen_by, switched}
-use Rattle.thread_memory.specs.Seen.{seen}
+use Rattle.thread_memory.specs.Owners.{AreWords, holding_after, is_others, state_seen_by, switch_thread}
+use Rattle.thread_memory.specs.Seen.{thread_view}
 use Rattle.thread_memory.specs.declared.homes.TheConstants.{THREADS}
 use Rattle.thread_memory.specs.declared.owners.Holding.{Holding}
 use Rattle.thread_memory.specs.declared.owners.TheConstants.{OUT_OF_USE}
 
 -- ---- homes
 
--- each address of the stack is in the home of one thread
+-- each address of the stack lies in the home of one thread
 abbrev pub HomesPart : Type 0
 HomesPart = (a : ℕ) → STACK_START ≤ a → a < STACK_END → (thread : ℕ) × ((thread < THREADS) × IsAtHome thread a)
 
--- and in that of no other
+-- and in the home of no other
 abbrev pub HomesAreApart : Type 0
 HomesAreApart = (one other a : ℕ) → one < THREADS → other < THREADS → IsAtHome one a → IsAtHome other a → one ≡ other
 
 -- ---- guards
 
--- where sp rises within a thread's home, no guarded word of another thread's is released
+-- when sp rises within a thread's home, no guarded word of another thread is released
 abbrev pub ReleasesNoOthers : Type 0
 ReleasesNoOthers =
     (m : Memory) (guards : List ℕ) (thread other a g : ℕ) → thread < THREADS → other < THREADS → (other ≡ thread → ⊥) → a ≤ (home_of thread).1
-    → Has guards g → IsAtHome other g → Has (released (seen m guards thread) a).guards g
+    → Has guards g → IsAtHome other g → Has (without_guards_below (thread_view m guards thread) a).guards g
 
--- but each of its own below it is
+-- but each of its own words below sp is
 abbrev pub ReleasesItsOwn : Type 0
-ReleasesItsOwn = (m : Memory) (guards : List ℕ) (thread a g : ℕ) → IsAtHome thread g → g < a → Has (released (seen m guards thread) a).guards g → ⊥
+ReleasesItsOwn = (m : Memory) (guards : List ℕ) (thread a g : ℕ) → IsAtHome thread g → g < a → Has (without_guards_below (thread_view m guards thread) a).guards g → ⊥
 
--- a store that is done reaches no guarded word, whichever thread's it is, and changes nothing that stands there
+-- a store that succeeds overwrites no guarded word of any thread
 pub record Misses (n : ℕ) (m m' : Memory) (a g : ℕ) : Type 0 where
   pub apart : Apart a n g 4
   pub same : load 4 m' g ≡ load 4 m g
 
 abbrev pub StoresMissGuards : Type 0
 StoresMissGuards =
-    (n : ℕ) (m : Memory) (guards : List ℕ) (thread a v g : ℕ) (m' : Memory) → store n (seen m guards thread) a v ≡ (Ok tt, m') → Has guards g
-    → Misses n (seen m guards thread) m' a g
+    (n : ℕ) (m : Memory) (guards : List ℕ) (thread a v g : ℕ) (m' : Memory) → store n (thread_view m guards thread) a v ≡ (Ok tt, m') → Has guards g
+    → Misses n (thread_view m guards thread) m' a g
 
--- an aligned store to a guarded word is refused with its address and changes nothing, whichever thread stores and whichever thread's word it is
+-- an aligned store to a guarded word is refused with its address and changes nothing, whichever thread stores and whoever owns the word
 abbrev pub GuardedStoresAreRefused : Type 0
 GuardedStoresAreRefused =
-    (n : ℕ) (m : Memory) (guards : List ℕ) (thread a v g : ℕ) → IsMap (seen m guards thread) → IsWidth n → (a % n == 0) ≡ true → Has guards g → g ≤ a → a < g + 4
-    → store n (seen m guards thread) a v ≡ (Err (SavedSlot g), seen m guards thread)
+    (n : ℕ) (m : Memory) (guards : List ℕ) (thread a v g : ℕ) → IsMap (thread_view m guards thread) → IsWidth n → (a % n == 0) ≡ true → Has guards g → g ≤ a → a < g + 4
+    → store n (thread_view m guards thread) a v ≡ (Err (SavedSlot g), thread_view m guards thread)
 
 -- ---- exceptions
 
--- what the thread reads that has run is what it is then told to read
+-- the thread that has run will read again what it reads now
 abbrev pub RunnersReadTheirOwn : Type 0
-RunnersReadTheirOwn = (thread state : ℕ) (h : Holding) → seen_by thread (held_after thread state h) ≡ state
+RunnersReadTheirOwn = (thread state : ℕ) (h : Holding) → state_seen_by thread (holding_after thread state h) ≡ state
 
--- a slot that reads as the thread saw it is as it was; one that it has freed is nobody's, and any other its own
+-- a slot whose state reads as before is unchanged; one that the thread freed is nobody's, and any other is its own
 abbrev pub UntouchedStay : Type 0
-UntouchedStay = (thread : ℕ) (h : Holding) → held_after thread (seen_by thread h) h ≡ h
+UntouchedStay = (thread : ℕ) (h : Holding) → holding_after thread (state_seen_by thread h) h ≡ h
 
 abbrev pub FreedAreNobodys : Type 0
-FreedAreNobodys = (thread : ℕ) (h : Holding) → (FREE ≡ seen_by thread h → ⊥) → (held_after thread FREE h).owner ≡ None
+FreedAreNobodys = (thread : ℕ) (h : Holding) → (FREE ≡ state_seen_by thread h → ⊥) → (holding_after thread FREE h).owner ≡ None
 
 abbrev pub MadeAreItsOwn : Type 0
 MadeAreItsOwn =
-    (thread state : ℕ) (h : Holding) → (state ≡ seen_by thread h → ⊥) → (state ≡ FREE → ⊥) → (held_after thread state h).owner ≡ Some thread
+    (thread state : ℕ) (h : Holding) → (state ≡ state_seen_by thread h → ⊥) → (state ≡ FREE → ⊥) → (holding_after thread state h).owner ≡ Some thread
 
--- after a switch each slot's state reads as the thread that is entered is to see it, and no other word of the pool has changed
+-- after a switch each slot's state reads as the entered thread sees it, and no other word of the pool has changed
 pub record Shows (new : ℕ) (owners : List Holding) (m m' : Memory) : Type 0 where
-  pub states : (s : ℕ) (d : Holding) → s < SLOTS → word m' s STATE ≡ seen_by new (slice_index_or owners s d)
+  pub states : (s : ℕ) (d : Holding) → s < SLOTS → word m' s STATE ≡ state_seen_by new (slice_index_or owners s d)
   pub others : (s k : ℕ) → s < SLOTS → k < SLOT_WORDS → (k ≡ STATE → ⊥) → word m' s k ≡ word m s k
 
 abbrev pub SwitchesShow : Type 0
 SwitchesShow =
     (m : Memory) (old new : ℕ) (owners : List Holding) → IsMap m → length owners ≡ SLOTS → AreWords owners
-    → ((s : ℕ) (d : Holding) → s < SLOTS → word m s STATE ≡ seen_by old (slice_index_or owners s d))
-    → Shows new owners m (switched old new owners m)
+    → ((s : ℕ) (d : Holding) → s < SLOTS → word m s STATE ≡ state_seen_by old (slice_index_or owners s d))
+    → Shows new owners m (switch_thread old new owners m)
 
 -- an exception of another thread can't be freed, thrown or caught, and its slot isn't handed out
 pub record Shut (w : Pool) (s : ℕ) : Type 0 where
@@ -97,11 +97,11 @@ pub record Shut (w : Pool) (s : ℕ) : Type 0 where
 
 abbrev pub OthersAreShut : Type 0
 OthersAreShut =
-    (w : Pool) (thread s : ℕ) (h : Holding) → s < SLOTS → is_others thread h.owner ≡ true → w s STATE ≡ seen_by thread h → Shut w s
+    (w : Pool) (thread s : ℕ) (h : Holding) → s < SLOTS → is_others thread h.owner ≡ true → w s STATE ≡ state_seen_by thread h → Shut w s
 
--- its own a thread reads as it is, and what is nobody's
+-- a thread reads its own exceptions and nobody's as they are
 abbrev pub OwnersReadTheirOwn : Type 0
-OwnersReadTheirOwn = (thread state : ℕ) → seen_by thread (record { owner = Some thread; state = state }) ≡ state
+OwnersReadTheirOwn = (thread state : ℕ) → state_seen_by thread (record { owner = Some thread; state = state }) ≡ state
 
 -- ---- in digits
 

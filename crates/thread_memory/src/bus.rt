@@ -1,4 +1,4 @@
-//! The memory of a run of several threads, as the thread sees it that runs; docs/threads.md states its rules.
+//! The memory of a run of several threads, as the running thread sees it; docs/guide/walks-and-threads.md states its rules.
 ghost use Rattle.std.specs.Prelude.{◌≡◌, ℕ, ◌+◌, ◌*◌, ◌%◌, ◌^◌, ◌<◌, ◌≤◌, ◌==◌, [], List, length, Option, Some, None, IfOk, IfSome, IfNone, IsTrue, true, false};
 ghost use Rattle.eh_bus.specs.Guards.{AreGuards, AreGuards-prop};
 ghost use Rattle.eh_bus.specs.Map.{AreSegments, IsHome, SameMap};
@@ -9,8 +9,8 @@ ghost use Rattle.eh_bus.specs.Segment.{Segment};
 ghost use Rattle.eh_bus.specs.declared.fault.BusFault.TheVariants.{SavedSlot};
 ghost use Rattle.eh_cxa.specs.Words.{word};
 ghost use Rattle.eh_cxa.specs.declared.layout.TheConstants.{SLOTS};
-ghost use Rattle.thread_memory.specs.Seen.{seen, aligned_hit, IsOutside};
-ghost use Rattle.thread_memory.specs.Owners.{owners_after, switched, AreFree};
+ghost use Rattle.thread_memory.specs.Seen.{thread_view, aligned_hit, IsOutside};
+ghost use Rattle.thread_memory.specs.Owners.{owners_after, switch_thread, AreFree};
 ghost use Rattle.thread_memory.specs.declared.homes.TheConstants.{THREADS};
 ghost use Rattle.thread_memory.specs.declared.bus.ThreadMemory.TheVariants.{OutOfMemory};
 
@@ -20,12 +20,13 @@ use eh_bus::bus::Bus;
 use eh_bus::fault::BusFault;
 use eh_bus::map::{POOL_START, SLOT_SIZE, STACK_END, STACK_START};
 use eh_cxa::layout::SLOTS;
-use stack_guards::guards::Guards;
+use mem_guards::guards::Guards;
 use std::alloc::{AllocError, Global};
 
 /// There was no memory for the guards.
 #[derive(Clone, Copy)]
 pub enum ThreadMemory {
+    /// An allocation failed.
     OutOfMemory,
 }
 
@@ -37,16 +38,16 @@ impl From<AllocError> for ThreadMemory {
     }
 }
 
-/// A memory that several threads share, as the one sees it that is entered: its home is that thread's, the guarded words are those of all
-/// stacks, and the slots of exceptions read as it may see them. The memory below it has no guarded words of its own.
+/// A memory shared by several threads, as the entered thread sees it. Its running stack is that thread's home, its guarded words are those
+/// of all stacks, and the other threads' exceptions read as out of use. The memory below it has no guarded words of its own.
 #[derive(Drop)]
 pub struct ThreadBus<B: Bus> {
     inner: B,
     guards: Guards,
     thread: usize,
-    /// The home of that thread.
+    /// The stack of that thread: its first address and the one after its last.
     home: (u32, u32),
-    /// From this slot of the pool on each is free.
+    /// Each slot of the pool from this number on is free.
     used: u32,
     ghost rising: { AreGuards guards } by { AreGuards-prop guards },
     ghost within: { thread < THREADS },
@@ -58,10 +59,10 @@ pub struct ThreadBus<B: Bus> {
 }
 
 impl<B: Bus + Drop> ThreadBus<B> {
-    /// A memory without guarded words, as thread 0 sees it.
+    /// A memory without guarded words, as thread 0 sees it. `OutOfMemory` if there was none for the guards.
     pub fn over(alloc: Global, inner: B) -> Result<ThreadBus<B>, ThreadMemory>
         requires { (B.memory inner).guards ≡ [] }
-        ensures { IfOk result (λ bus. seen (B.memory bus.inner) bus.guards bus.thread ≡ seen (B.memory inner) [] 0) }
+        ensures { IfOk result (λ bus. thread_view (B.memory bus.inner) bus.guards bus.thread ≡ thread_view (B.memory inner) [] 0) }
     {
         let guards = Guards::new(alloc)?;
         Ok(ThreadBus {
@@ -75,16 +76,16 @@ impl<B: Bus + Drop> ThreadBus<B> {
 }
 
 impl<B: Bus> ThreadBus<B> {
-    /// Enters a thread after another one, which has run. What each slot holds is told by the states that the one that ran reads now, and the
-    /// slots read as the thread sees them that is entered. Guarded words stay, and so does the map.
+    /// Switches from thread `ran`, which has run, to `thread`. What each slot holds follows from the states that `ran` reads now.
+    /// Afterwards the slots read as the entered thread sees them. Guarded words and the memory map stay.
     pub fn enter(&mut self, owners: &mut Owners, ran: usize, thread: usize)
         requires { thread < THREADS }
         ensures owners { owners.new.slots ≡ owners_after ran (word (B.memory self.old.inner)) owners.old.slots }
-        ensures memory { seen (B.memory self.new.inner) self.new.guards self.new.thread ≡ switched ran thread owners.new.slots (seen (B.memory self.old.inner) self.old.guards self.old.thread) }
+        ensures memory { thread_view (B.memory self.new.inner) self.new.guards self.new.thread ≡ switch_thread ran thread owners.new.slots (thread_view (B.memory self.old.inner) self.old.guards self.old.thread) }
         ensures thread { self.new.thread ≡ thread }
         ensures map { SameMap (B.memory self.old.inner).segments (B.memory self.new.inner).segments }
     {
-        owners.note(ran, self.used, &self.inner);
+        owners.update_after(ran, self.used, &self.inner);
         owners.show(ran, thread, &mut self.inner);
         self.used = owners.used;
         self.thread = thread;
@@ -99,19 +100,19 @@ impl<B: Bus> ThreadBus<B> {
     }
 }
 
-/// The guarded word that an aligned store of `n` bytes at `a` would reach.
+/// The guarded word that an aligned store of `n` bytes at `a` would overwrite, if any.
 fn aligned_hit(guards: &Guards, a: u32, n: u32) -> Option<u32>
     requires { IsWidth n }
     ensures { result ≡ aligned_hit guards.now n a }
 {
     if a & (n - 1) == 0 {
-        guards.hit(a, n)
+        guards.guard_hit(a, n)
     } else {
         None
     }
 }
 
-/// Whether a word of the stack stands at `a`.
+/// Whether `a` is the address of a word of the stack.
 fn is_stack_word(a: u32) -> bool
     ensures word { IsTrue result → ((a % 4 == 0) ≡ true) × ((STACK_START ≤ a) × (a + 4 ≤ STACK_END)) }
     ensures outside { result ≡ false → IsOutside a }
@@ -119,7 +120,7 @@ fn is_stack_word(a: u32) -> bool
     a % 4 == 0 && (STACK_START..STACK_END).contains(&a)
 }
 
-/// The first guarded word among `count` words from `a` on, as far as they are words of the stack.
+/// The first guarded word among the words stored from `a` on, as far as they lie in the stack.
 fn run_hit(guards: &Guards, a: u32, words: &[u32]) -> Option<u32>
     requires { AreGuards guards.now }
     ensures some { IfSome result (λ g. (ss : List Segment) → AreSegments ss → run_fault guards.now ss a words.now ≡ Some (SavedSlot g)) }
@@ -130,7 +131,7 @@ fn run_hit(guards: &Guards, a: u32, words: &[u32]) -> Option<u32>
         if !is_stack_word(at) {
             return None;
         }
-        if let Some(g) = guards.hit(at, 4) {
+        if let Some(g) = guards.guard_hit(at, 4) {
             return Some(g);
         }
         at = at.wrapping_add(4);
@@ -139,7 +140,7 @@ fn run_hit(guards: &Guards, a: u32, words: &[u32]) -> Option<u32>
 }
 
 impl<B: Bus> Bus for ThreadBus<B> {
-    ghost memory = { λ bus. seen (B.memory bus.inner) bus.guards bus.thread };
+    ghost memory = { λ bus. thread_view (B.memory bus.inner) bus.guards bus.thread };
 
     fn load8(&self, a: u32) -> Result<u8, BusFault> {
         self.inner.load8(a)

@@ -1,5 +1,5 @@
-//! One memory for several threads: each has a stack of its own, the guarded words of all stacks stay, and the exceptions of another thread are
-//! out of use (docs/threads.md).
+//! One memory for several threads. Each has its own stack, the guarded words of all stacks stay, and exceptions of other threads are out of
+//! use (docs/guide/walks-and-threads.md).
 #![tactic(auto)]
 
 pub mod bus;

@@ -1,4 +1,4 @@
--- What a schedule's text says (docs/threads.md).
+-- What a schedule's text says (docs/guide/walks-and-threads.md).
 use Rattle.std.specs.Prelude.{◌≡◌, ℕ, Bool, not, ◌&&◌, ◌||◌, ◌==◌, nat_le, List, [], ◌∷◌, length, filter, Option, Some, None, Result, Ok, Err}
 use Rattle.std.specs.List.{position_from}
 use Rattle.thread_schedule.specs.declared.schedule.ScheduleFault.{ScheduleFault}

@@ -1,8 +1,8 @@
-//! What schedules and tagged lines are, a text at a time (docs/threads.md): laws above the definitions.
+//! Laws of schedules and tagged lines, a text at a time (docs/guide/walks-and-threads.md).
 ghost use Rattle.thread_schedule.specs.Laws.{DigitsAreRead, LineFeedsPass, FirstBadIsNamed, NoDigitIsNamed, LinesAreTagged, LastLineIsTagged, NoTagChangesNothing, NoLineIsTagged, InDigits};
 
-/// A text of digits is its schedule, and line feeds between them change nothing. The first other byte is named by its offset; a text of line
-/// feeds alone by its length.
+/// A text of digits is its own schedule, and line feeds between them change nothing. The first other byte is named by its offset in bytes;
+/// a text of line feeds alone by its length.
 pub fn schedules_are_their_digits()
     ensures digits { DigitsAreRead }
     ensures feeds { LineFeedsPass }
@@ -10,7 +10,7 @@ pub fn schedules_are_their_digits()
     ensures none { NoDigitIsNamed }
 {}
 
-/// A line has its tag before it, a last line without a line feed too, and what is behind the tags or the lines is as it was.
+/// Each line has its tag before it, also a last line without a line feed. Text or tags beyond the other's number change nothing.
 pub fn lines_have_their_tags()
     ensures lines { LinesAreTagged }
     ensures last { LastLineIsTagged }
@@ -18,7 +18,7 @@ pub fn lines_have_their_tags()
     ensures empty { NoLineIsTagged }
 {}
 
-/// The bytes of digits, line feeds and blanks.
+/// The byte values of digits, line feeds and blanks.
 pub fn numbers_in_digits()
     ensures { InDigits }
 {}

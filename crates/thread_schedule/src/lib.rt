@@ -1,5 +1,5 @@
-//! The text of a schedule, whose digits say which thread does the next event, and the lines of a trace with the thread of each
-//! (docs/threads.md).
+//! The text of a schedule, whose digits say which thread does the next event, and the trace lines with the thread of each
+//! (docs/guide/walks-and-threads.md).
 #![tactic(auto)]
 
 pub mod laws;

@@ -1,10 +1,10 @@
-//! The digits of a schedule's text; docs/threads.md states its rules.
+//! The digits of a schedule's text; docs/guide/walks-and-threads.md states its rules.
 ghost use Rattle.std.specs.Prelude.{◌≡◌, Ok, Err, IfOk, IfErr};
 ghost use Rattle.thread_schedule.specs.Schedules.{schedule_of, Refuses};
 ghost use Rattle.thread_schedule.specs.declared.schedule.ScheduleFault.TheVariants.{OutOfMemory};
 
 use crate::push::push;
-use stack_guards::guards::HOMES;
+use mem_guards::guards::HOMES;
 use std::alloc::{AllocError, Global};
 
 /// The byte that a schedule's text may have between its digits.
@@ -19,7 +19,7 @@ pub const LAST_DIGIT: u8 = FIRST_DIGIT + (HOMES as u8 - 1);
 /// Why a text is no schedule.
 #[derive(Clone, Copy)]
 pub enum ScheduleFault {
-    /// The first byte that is neither a digit of a thread nor a line feed, by its offset; the text's length where it has no digit.
+    /// The offset in bytes of the first byte that is neither a thread's digit nor a line feed. The text's length if it has no digit.
     BadSchedule(usize),
     /// There was no memory for the digits.
     OutOfMemory,
@@ -40,7 +40,7 @@ fn is_digit(byte: u8) -> bool
     (FIRST_DIGIT..=LAST_DIGIT).contains(&byte)
 }
 
-/// The digits of a schedule's text, in order.
+/// The digits of a schedule's text, in order. `BadSchedule` if another byte is found or there is no digit; `OutOfMemory` if there was none.
 pub fn read_schedule(alloc: Global, text: &[u8]) -> Result<Vec<u8>, ScheduleFault>
     ensures read { IfOk result (λ digits. schedule_of text.now ≡ Ok digits.items) }
     ensures refused { IfErr result (λ why. Refuses text.now why) }

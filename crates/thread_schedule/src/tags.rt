@@ -1,6 +1,6 @@
-//! The lines of a trace with the thread of each; docs/threads.md states its rules.
+//! The lines of a trace with the thread of each; docs/guide/walks-and-threads.md states its rules.
 ghost use Rattle.std.specs.Prelude.{◌≡◌, ℕ, ◌<◌, ◌++◌, drop, IfOk, All};
-ghost use Rattle.thread_schedule.specs.Tags.{tagged, tag_before, left_after};
+ghost use Rattle.thread_schedule.specs.Tags.{tag_text, tag_before, tags_left};
 ghost use Rattle.thread_schedule.specs.declared.tags.TagMemory.TheVariants.{OutOfMemory};
 
 use crate::push::push;
@@ -10,15 +10,16 @@ use std::alloc::{AllocError, Global};
 /// The byte between a tag and its line.
 pub const BLANK: u8 = b' ';
 
-/// The digit of the tag 0.
+/// The digit of tag 0.
 pub const ZERO: u8 = b'0';
 
-/// The tags that are one digit lie below it.
+/// Every tag is below this number, so each is one digit.
 pub const TAGS: u8 = 10;
 
 /// There was no memory for the lines.
 #[derive(Clone, Copy)]
 pub enum TagMemory {
+    /// An allocation failed.
     OutOfMemory,
 }
 
@@ -30,7 +31,7 @@ impl From<AllocError> for TagMemory {
     }
 }
 
-/// Adds the next tag, as a digit, and a blank, where a line begins and there is one. Gives the place of the tag after it.
+/// Where a line begins, adds the next tag as a digit and a blank, if there is one. Gives the index of the next tag.
 #[tactic(auto, using(crate::proofs::Tagging::tag_at, crate::proofs::Tagging::no_tag))]
 fn begin_line(
     lines: &mut Vec<u8>,
@@ -40,7 +41,7 @@ fn begin_line(
 ) -> Result<usize, AllocError>
     requires { All (λ (tag : ℕ). tag < TAGS) tags.now }
     ensures begins { IfOk result (λ after. lines.new.items ≡ lines.old.items ++ tag_before starts (drop next tags.now)) }
-    ensures left { IfOk result (λ after. drop after tags.now ≡ left_after starts (drop next tags.now)) }
+    ensures left { IfOk result (λ after. drop after tags.now ≡ tags_left starts (drop next tags.now)) }
 {
     if !starts || next >= tags.len() {
         return Ok(next);
@@ -50,11 +51,11 @@ fn begin_line(
     Ok(next + 1)
 }
 
-/// The text with the first tag, as a digit, and a blank before its first line, the second before its second, and so on, as far as there are
-/// both. All else is as it was.
+/// The text with a tag, as a digit, and a blank before each of its lines: the first tag before the first line, and so on, until either runs
+/// out. All else is as it was. `OutOfMemory` if there was none.
 pub fn tag_lines(alloc: Global, text: &[u8], tags: &[u8]) -> Result<Vec<u8>, TagMemory>
     requires { All (λ (tag : ℕ). tag < TAGS) tags.now }
-    ensures { IfOk result (λ lines. lines.items ≡ tagged tags.now text.now) }
+    ensures { IfOk result (λ lines. lines.items ≡ tag_text tags.now text.now) }
 {
     let mut lines = Vec::new(alloc);
     let mut next = 0;

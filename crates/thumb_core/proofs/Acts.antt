@@ -3,30 +3,30 @@ use Rattle.std.proofs.Common.{◌≡◌, ℕ, ℤ, ◌+◌, ◌-◌, ◌*◌, �
 use Rattle.std.specs.Int.{bit_at}
 use Rattle.std.proofs.lemmas.Bool.Decides.{nat_tests}
 use Rattle.eh_bus.specs.Segment.{Segment}
-use Rattle.eh_bus.specs.Memory.{Memory, store, store_run, fetch, fault_in, store_fault, run_fault, written, run_written, unless_fault}
+use Rattle.eh_bus.specs.Memory.{Memory, store, store_run, fetch, fault_in, store_fault, run_fault, store_number, store_words, unless_fault}
 use Rattle.eh_bus.specs.declared.fault.BusFault.{BusFault}
 use Rattle.thumb_isa.specs.declared.instr.Instr.{Instr}
 use Rattle.thumb_isa.specs.declared.instr.Instr.TheVariants.{Bx, Blx, LdrLit, MemReg, MemImm, MemSp, Push, Pop, Stm, Ldm, Svc, Bl}
 use Rattle.thumb_isa.specs.declared.instr.Decoded.{Decoded}
 use Rattle.thumb_isa.specs.declared.instr.Decoded.TheVariants.{Is, Undefined, Unpredictable, NotInProfile}
 use Rattle.thumb_isa.specs.declared.profile.Profile.{Profile}
-use Rattle.thumb_isa.specs.Rows.{decoded_for}
+use Rattle.thumb_isa.specs.Rows.{decode_result_for}
 use Rattle.thumb_core.specs.declared.regs.TheConstants.{SP, LR, PC}
 use Rattle.thumb_core.specs.declared.regs.Regs.{Regs}
 use Rattle.thumb_core.specs.declared.regs.CoreTrap.{CoreTrap}
 use Rattle.thumb_core.specs.declared.regs.CoreTrap.TheVariants.{EvenTarget}
 use Rattle.thumb_core.specs.declared.regs.Stepped.{Stepped}
 use Rattle.thumb_core.specs.declared.regs.Stepped.TheVariants.{Done, Trap}
-use Rattle.thumb_core.specs.Registers.{put, even, reg, operand, with_all, with_reg, with_pc}
+use Rattle.thumb_core.specs.Registers.{write_register, even, reg, operand, with_all, with_reg, with_pc}
 use Rattle.thumb_core.specs.Data.{forward}
-use Rattle.thumb_core.specs.Words.{listed, words_in}
+use Rattle.thumb_core.specs.Words.{registers_of_list, words_in}
 use Rattle.thumb_core.specs.Outcome.{Outcome, with_memory}
-use Rattle.thumb_core.specs.Access.{store_end, loaded, store_reg, mem_reg, mem_imm, mem_sp}
+use Rattle.thumb_core.specs.Access.{store_end, load_result, store_reg, mem_reg, mem_imm, mem_sp}
 use Rattle.thumb_core.specs.Branch.{target_of, link_of, call_to, return_to, if_odd, register_effect}
 use Rattle.thumb_core.specs.Lists.{words_of, bytes_of, load_list, ldm_end, pop_to, pop_end}
 use Rattle.thumb_core.specs.Step.{effect, outcome_of, with_second, with_first, step_for, instr_of, instr_of_second, instr_of_first, instr_for}
 use Rattle.thumb_core.specs.Stores.{Span, span, SameApart, KeepsApart, stores_of, stores_of_some}
-use Rattle.thumb_core.specs.Laws.{Popped, Acts}
+use Rattle.thumb_core.specs.Laws.{PopsIntoPc, Acts}
 use Rattle.thumb_core.proofs.PopLaws.{last_word, sp_after, kept_register}
 use Rattle.thumb_core.proofs.Follows.{either}
 use Rattle.thumb_core.proofs.StoreLaws.{IsWidth, store_same, run_same}
@@ -90,7 +90,7 @@ register_acts i size regs m = record { apart = refl; leaves = tt; memory = tt }
 
 -- ---- loads and stores
 
-load_acts : (at : At) (answer : Result ℕ BusFault) (t size : ℕ) (regs : Regs) (m : Memory) → Acts at None regs m (with_memory (loaded answer t size regs) m)
+load_acts : (at : At) (answer : Result ℕ BusFault) (t size : ℕ) (regs : Regs) (m : Memory) → Acts at None regs m (with_memory (load_result answer t size regs) m)
 load_acts at (Ok x) t size regs m = record { apart = refl; leaves = tt; memory = tt }
 load_acts at (Err fault) t size regs m = trap_acts at None _ regs m
 
@@ -111,17 +111,17 @@ forward_word a off = omega arith
 reg_acts : (at : At) (n t a size : ℕ) (regs : Regs) (m : Memory) → IsWidth n → a < 2 ^ 32 → Acts at (span a n) regs m (store_reg n t a size regs m)
 reg_acts at n t a size regs m w l =
     let v = reg regs t % 256 ^ n in
-    let new : Memory = record m { segments = written n m.segments a v } in
-    store_acts at (record { start = a; size = n }) (fault_in (λ s. store_fault n m.guards s a) n m.segments a) (written n m.segments a v) size regs regs m
+    let new : Memory = record m { segments = store_number n m.segments a v } in
+    store_acts at (record { start = a; size = n }) (fault_in (λ s. store_fault n m.guards s a) n m.segments a) (store_number n m.segments a v) size regs regs m
     (λ none. let done : store n m a v ≡ (Ok tt, new) = ap (λ f. unless_fault f m new) none in store_same n m a v new w l done)
 
 run_acts : (at : At) (a mask size : ℕ) (regs after : Regs) (m : Memory) → a < 2 ^ 32 → Acts at (span a (bytes_of mask)) regs m (store_end (store_run m a (words_of mask regs)) size regs after)
 run_acts at a mask size regs after m l =
     let words = words_of mask regs in
-    let new : Memory = record m { segments = run_written m.segments a words } in
-    store_acts at (record { start = a; size = bytes_of mask }) (run_fault m.guards m.segments a words) (run_written m.segments a words) size regs after m
+    let new : Memory = record m { segments = store_words m.segments a words } in
+    store_acts at (record { start = a; size = bytes_of mask }) (run_fault m.guards m.segments a words) (store_words m.segments a words) size regs after m
     (λ none. let done : store_run m a words ≡ (Ok tt, new) = ap (λ f. unless_fault f m new) none in
-    subst (λ n. SameApart (record { start = a; size = 4 * n }) m new) (words_count regs.r (listed mask)) (run_same m a words new l done))
+    subst (λ n. SameApart (record { start = a; size = 4 * n }) m new) (words_count regs.r (registers_of_list mask)) (run_same m a words new l done))
 
 low_sum : (a b : ℕ) → (a + b) % 2 ^ 32 < 2 ^ 32
 low_sum a b = omega arith
@@ -167,7 +167,7 @@ pop_acts : (mask size : ℕ) (regs : Regs) (m : Memory) → length regs.r ≡ 15
 pop_acts mask size regs m count (Err fault) e = trap_acts _ None _ regs m
 pop_acts mask size regs m count (Ok r) e = go (bit_at mask PC == 1) refl
   where
-    returned : (set : bit_at mask PC ≡ 1) → Popped mask (slice_index r PC % 2 ^ 32) regs m (with_pc (with_all regs (put r SP (reg regs SP + bytes_of mask))) (slice_index r PC))
+    returned : (set : bit_at mask PC ≡ 1) → PopsIntoPc mask (slice_index r PC % 2 ^ 32) regs m (with_pc (with_all regs (write_register r SP (reg regs SP + bytes_of mask))) (slice_index r PC))
     returned set =
         let a = reg regs SP in
         let pc = last_word mask a regs m r count set e in
@@ -175,7 +175,7 @@ pop_acts mask size regs m count (Ok r) e = go (bit_at mask PC == 1) refl
           takes_pc = set;
           words = r;
           loaded = e;
-          leaves = word_pc (with_all regs (put r SP (a + bytes_of mask))) (slice_index r PC);
+          leaves = word_pc (with_all regs (write_register r SP (a + bytes_of mask))) (slice_index r PC);
           word = pc.word;
           last = pc.loaded;
           target = rw pc.last (omega arith);
@@ -183,7 +183,7 @@ pop_acts mask size regs m count (Ok r) e = go (bit_at mask PC == 1) refl
           others = λ k other clear. kept_register mask a k (a + bytes_of mask) regs m r count e other clear;
         }
 
-    go : (b : Bool) → (bit_at mask PC == 1) ≡ b → Acts (Some (Pop mask, size)) None regs m (with_memory (pop_to b (slice_index r PC) size regs (with_all regs (put r SP (reg regs SP + bytes_of mask)))) m)
+    go : (b : Bool) → (bit_at mask PC == 1) ≡ b → Acts (Some (Pop mask, size)) None regs m (with_memory (pop_to b (slice_index r PC) size regs (with_all regs (write_register r SP (reg regs SP + bytes_of mask)))) m)
     go false s = record { apart = refl; leaves = tt; memory = tt }
     go true s =
         odd_acts _ (slice_index r PC) regs _ m
@@ -213,14 +213,14 @@ outcome_acts Unpredictable first regs m small = trap_acts None None _ regs m
 outcome_acts NotInProfile first regs m small = trap_acts None None _ regs m
 
 second_acts : (p : Profile) (half : Result ℕ BusFault) (first : ℕ) (regs : Regs) (m : Memory) → AreRegisters regs → ActsAt regs m (instr_of_second p half first) (with_second p half first regs m)
-second_acts p (Ok second) first regs m small = outcome_acts (decoded_for p first second) first regs m small
+second_acts p (Ok second) first regs m small = outcome_acts (decode_result_for p first second) first regs m small
 second_acts p (Err fault) first regs m small = trap_acts None None _ regs m
 
 first_acts : (p : Profile) (half : Result ℕ BusFault) (regs : Regs) (m : Memory) → AreRegisters regs → ActsAt regs m (instr_of_first p half m regs.pc) (with_first p half regs m)
 first_acts p (Ok first) regs m small =
     both (λ at o. ActsAt regs m at o) (nat_le 0xe800 first) _ _ _ _
     (second_acts p (fetch m ((regs.pc + 2) % 2 ^ 32)) first regs m small)
-    (outcome_acts (decoded_for p first 0) first regs m small)
+    (outcome_acts (decode_result_for p first 0) first regs m small)
 first_acts p (Err fault) regs m small = trap_acts None None _ regs m
 
 pub step_acts : (p : Profile) (regs : Regs) (m : Memory) → AreRegisters regs → Acts (instr_for p m regs.pc) (stores_of_some (instr_for p m regs.pc) regs) regs m (step_for p regs m)

@@ -7,7 +7,7 @@ use Rattle.std.proofs.lemmas.Int.{ints, quot-rem, rem_below}
 use Rattle.std.proofs.Math.Facts.{to_z-neg}
 use Rattle.std.specs.Int.{w32}
 use Rattle.thumb_core.specs.Data.{is_minus, same_bool, unsigned_quotient, signed_quotient}
-use Rattle.thumb_core.specs.Division.{signed_of, IsBeside, IsRest, IsUnsignedQuotient, IsSignedQuotient}
+use Rattle.thumb_core.specs.Division.{as_signed, IsBeside, IsRest, IsUnsignedQuotient, IsSignedQuotient}
 
 -- ---- words as they are
 
@@ -31,14 +31,14 @@ is_plus x low = grind (arith, nat_tests)
 minus : (x : ℕ) → 2 ^ 31 ≤ x → is_minus x ≡ true
 minus x high = le-leb (2 ^ 31) x high
 
-signed_plus : (x : ℕ) → x < 2 ^ 31 → signed_of x ≡ pos x
+signed_plus : (x : ℕ) → x < 2 ^ 31 → as_signed x ≡ pos x
 signed_plus x low = omega (arith, ints)
 
-signed_minus : (x a : ℕ) → a < 2 ^ 31 → x ≡ 2 ^ 32 - suc a → signed_of x ≡ negsuc a
+signed_minus : (x a : ℕ) → a < 2 ^ 31 → x ≡ 2 ^ 32 - suc a → as_signed x ≡ negsuc a
 signed_minus x a low e = rw e (to_z-neg w32 a low)
 
 -- the word of a number that is not above 0
-negated : (q : ℕ) → q ≤ 2 ^ 31 → signed_of ((2 ^ 32 - q) % 2 ^ 32) ≡ neg_ℤ (pos q)
+negated : (q : ℕ) → q ≤ 2 ^ 31 → as_signed ((2 ^ 32 - q) % 2 ^ 32) ≡ neg_ℤ (pos q)
 negated zero low = refl
 negated (suc n) low =
     let e : (2 ^ 32 - suc n) % 2 ^ 32 ≡ 2 ^ 32 - suc n = omega arith in
@@ -57,7 +57,7 @@ below a b low inside = (div-lt_iff_lt-mul {k = suc b} (omega arith)).1 (go b ins
     go (suc b) inside = omega (arith, low)
 
 -- where the quotient can be a signed word it is that of the numbers
-pub signed_divides : (x y : ℕ) → x < 2 ^ 32 → y < 2 ^ 32 → y ≢ 0 → (x ≡ 2 ^ 31 → y ≢ 2 ^ 32 - 1) → signed_of (signed_quotient x y) ≡ int_div (signed_of x) (signed_of y)
+pub signed_divides : (x y : ℕ) → x < 2 ^ 32 → y < 2 ^ 32 → y ≢ 0 → (x ≡ 2 ^ 31 → y ≢ 2 ^ 32 - 1) → as_signed (signed_quotient x y) ≡ int_div (as_signed x) (as_signed y)
 signed_divides x y xw yw some inside = elim (cases_lt x (2 ^ 31)) [
   | inl xl ↦ elim (cases_lt y (2 ^ 31)) [
     | inl yl ↦
@@ -89,7 +89,7 @@ beside : (x y : ℤ) → IsBeside x (int_rem x y)
 beside (pos a) y = omega (arith, ints)
 beside (negsuc a) y = omega (arith, ints)
 
-some_abs : (y : ℕ) → y < 2 ^ 32 → y ≢ 0 → 0 < unsigned_abs (signed_of y)
+some_abs : (y : ℕ) → y < 2 ^ 32 → y ≢ 0 → 0 < unsigned_abs (as_signed y)
 some_abs y low some = elim (cases_lt y (2 ^ 31)) [
   | inl l ↦ rw (signed_plus y l) (omega (arith, some))
   | inr h ↦ rw (signed_minus y (2 ^ 31 - 1 - (y - 2 ^ 31)) (omega arith) (omega arith)) (omega arith)
@@ -106,11 +106,11 @@ signed_is x y xw yw = record {
   by_zero = signed_zero x y;
   outside = λ e f. rw (e, f) refl;
   divides = λ some inside. (
-    int_rem (signed_of x) (signed_of y),
+    int_rem (as_signed x) (as_signed y),
     record {
-      makes = rw (signed_divides x y xw yw some inside) (quot-rem (signed_of x) (signed_of y));
-      small = rem_below (signed_of x) (signed_of y) (some_abs y yw some);
-      side = beside (signed_of x) (signed_of y);
+      makes = rw (signed_divides x y xw yw some inside) (quot-rem (as_signed x) (as_signed y));
+      small = rem_below (as_signed x) (as_signed y) (some_abs y yw some);
+      side = beside (as_signed x) (as_signed y);
     },
   );
 }

@@ -4,14 +4,14 @@ use Rattle.std.specs.Int.{bit_at}
 use Rattle.std.proofs.lemmas.Bool.Decides.{nat_tests}
 use Rattle.std.proofs.lemmas.Grind.{get_or-set_at}
 use Rattle.eh_bus.specs.Segment.{Segment}
-use Rattle.eh_bus.specs.Memory.{Memory, load, store, store_run, fetch, fault_in, store_fault, run_fault, written, run_written, unless_fault}
+use Rattle.eh_bus.specs.Memory.{Memory, load, store, store_run, fetch, fault_in, store_fault, run_fault, store_number, store_words, unless_fault}
 use Rattle.eh_bus.specs.declared.fault.BusFault.{BusFault}
 use Rattle.thumb_isa.specs.declared.instr.Instr.{Instr}
 use Rattle.thumb_isa.specs.declared.instr.Instr.TheVariants.{ShiftImm, AddSubReg, AddSubImm3, Imm8, Alu, AddHigh, MovHigh, Bx, Blx, LdrLit, MemReg, MemImm, MemSp, Adr, AddRdSp, AddSp, SubSp, Extend, Rev, Push, Pop, Stm, Ldm, BCond, Svc, B, Bl, Cbz, BWide, MovW, MovT, Div}
 use Rattle.thumb_isa.specs.declared.instr.Decoded.{Decoded}
 use Rattle.thumb_isa.specs.declared.instr.Decoded.TheVariants.{Is, Undefined, Unpredictable, NotInProfile}
 use Rattle.thumb_isa.specs.declared.profile.Profile.{Profile}
-use Rattle.thumb_isa.specs.Rows.{decoded_for}
+use Rattle.thumb_isa.specs.Rows.{decode_result_for}
 use Rattle.thumb_core.specs.declared.regs.TheConstants.{SP, LR, PC}
 use Rattle.thumb_core.specs.declared.regs.Regs.{Regs}
 use Rattle.thumb_core.specs.declared.regs.CoreTrap.{CoreTrap}
@@ -21,13 +21,13 @@ use Rattle.thumb_core.specs.declared.regs.Stepped.TheVariants.{Done, Gate, Trap}
 use Rattle.thumb_core.specs.declared.alu.Answer.{Answer}
 use Rattle.thumb_core.specs.Arith.{sum_of, difference_of, sum_or_difference}
 use Rattle.thumb_core.specs.Shift.{shift_of}
-use Rattle.thumb_core.specs.Registers.{put, word_in, even, reg, operand, base, all_of, with_all, with_reg, with_pc, with_next}
+use Rattle.thumb_core.specs.Registers.{write_register, word_in, even, reg, operand, base, all_of, with_all, with_reg, with_pc, with_next}
 use Rattle.thumb_core.specs.Alu.{alu_of, with_answer}
 use Rattle.thumb_core.specs.Data.{forward, backward, extension_of, reversal_of, quotient, imm8, data_effect}
-use Rattle.thumb_core.specs.Words.{listed, loads_from}
+use Rattle.thumb_core.specs.Words.{registers_of_list, loads_from}
 use Rattle.thumb_core.specs.Outcome.{plain_outcome, with_memory}
-use Rattle.thumb_core.specs.Access.{store_end, loaded, signed, store_reg, load_reg, load_reg_signed, mem_reg, mem_imm, mem_sp}
-use Rattle.thumb_core.specs.Branch.{passes, takes, target_of, branch, branch_if, compare_branch, write_high, link_of, call_to, return_to, if_odd, register_effect}
+use Rattle.thumb_core.specs.Access.{store_end, load_result, sign_extend_result, store_reg, load_reg, load_reg_signed, mem_reg, mem_imm, mem_sp}
+use Rattle.thumb_core.specs.Branch.{passes_condition, takes_branch, target_of, branch, branch_if, compare_branch, write_high, link_of, call_to, return_to, if_odd, register_effect}
 use Rattle.thumb_core.specs.Lists.{words_of, bytes_of, load_list, ldm_end, pop_to, pop_end}
 use Rattle.thumb_core.specs.Step.{effect, outcome_of, with_second, with_first, step_for}
 use Rattle.thumb_core.specs.Laws.{AreWords, AreSound, KeepsMap, Follows}
@@ -88,7 +88,7 @@ link_odd size regs = omega arith
 link_word : (size : ℕ) (regs : Regs) → word_in LR (link_of size regs) ≡ link_of size regs
 link_word size regs = omega arith
 
-link_read : (size : ℕ) (regs : Regs) → length regs.r ≡ 15 → get_or (put regs.r LR (link_of size regs)) 14 0 ≡ link_of size regs
+link_read : (size : ℕ) (regs : Regs) → length regs.r ≡ 15 → get_or (write_register regs.r LR (link_of size regs)) 14 0 ≡ link_of size regs
 link_read size regs count =
     get_or-set_at regs.r 14 14 (word_in LR (link_of size regs)) 0 refl (omega arith) ∙ link_word size regs
 
@@ -96,7 +96,7 @@ call_follows : (target size : ℕ) (regs : Regs) (m : Memory) → Follows regs m
 call_follows target size regs m = record {
   trap = tt;
   stands = λ count. (refl, even_even (target % 2 ^ 32), link_read size regs count, link_odd size regs);
-  sound = λ s. sound_pc (put regs.r LR (link_of size regs)) target (words_put 15 regs.r LR (link_of size regs) s.words);
+  sound = λ s. sound_pc (write_register regs.r LR (link_of size regs)) target (words_put 15 regs.r LR (link_of size regs) s.words);
   memory = same m;
 }
 
@@ -121,11 +121,11 @@ odd_follows target regs p m f = go (target % 2 == 0) refl
 
 -- ---- instructions that leave the memory
 
-sum_words : (d x : ℕ) (regs : Regs) → AreSound regs.r regs.pc → AreWords 15 (put regs.r d x)
+sum_words : (d x : ℕ) (regs : Regs) → AreSound regs.r regs.pc → AreWords 15 (write_register regs.r d x)
 sum_words d x regs s = words_put 15 regs.r d x s.words
 
 answer_words : (a : Answer) (d : ℕ) (regs : Regs) → AreSound regs.r regs.pc → AreWords 15 (with_answer a d regs).r
-answer_words a d regs s = either (λ r. AreWords 15 r) a.written (put regs.r d a.value) regs.r (sum_words d a.value regs s) s.words
+answer_words a d regs s = either (λ r. AreWords 15 r) a.written (write_register regs.r d a.value) regs.r (sum_words d a.value regs s) s.words
 
 imm8_words : (op d imm : ℕ) (regs : Regs) → AreSound regs.r regs.pc → AreWords 15 (imm8 op d imm regs).r
 imm8_words op d imm regs s =
@@ -155,20 +155,20 @@ high_sound : (d x size : ℕ) (regs : Regs) → AreSound regs.r regs.pc → AreS
 high_sound d x size regs s =
     either (λ (a : Regs). AreSound a.r a.pc) (d == PC) (with_pc regs x) (with_next size (with_reg regs d x))
     (sound_pc regs.r x s.words)
-    (sound_pc (put regs.r d x) (regs.pc + size) (sum_words d x regs s))
+    (sound_pc (write_register regs.r d x) (regs.pc + size) (sum_words d x regs s))
 
 branch_sound : (off : ℤ) (regs : Regs) → AreSound regs.r regs.pc → AreSound (branch off regs).r (branch off regs).pc
 branch_sound off regs s = sound_pc regs.r (target_of off regs) s.words
 
 branch_if_sound : (cond : ℕ) (off : ℤ) (size : ℕ) (regs : Regs) → AreSound regs.r regs.pc → AreSound (branch_if cond off size regs).r (branch_if cond off size regs).pc
 branch_if_sound condition off size regs s =
-    either (λ (a : Regs). AreSound a.r a.pc) (passes condition regs) (branch off regs) (with_next size regs)
+    either (λ (a : Regs). AreSound a.r a.pc) (passes_condition condition regs) (branch off regs) (with_next size regs)
     (branch_sound off regs s) (sound_pc regs.r (regs.pc + size) s.words)
 
 compare_sound : (nonzero : Bool) (n : ℕ) (off : ℤ) (size : ℕ) (regs : Regs) → AreSound regs.r regs.pc
     → AreSound (compare_branch nonzero n off size regs).r (compare_branch nonzero n off size regs).pc
 compare_sound nonzero n off size regs s =
-    either (λ (a : Regs). AreSound a.r a.pc) (takes nonzero (reg regs n)) (branch off regs) (with_next size regs)
+    either (λ (a : Regs). AreSound a.r a.pc) (takes_branch nonzero (reg regs n)) (branch off regs) (with_next size regs)
     (branch_sound off regs s) (sound_pc regs.r (regs.pc + size) s.words)
 
 high_even : (d x size : ℕ) (regs : Regs) → (write_high d x size regs).pc % 2 ≡ 0
@@ -177,11 +177,11 @@ high_even d x size regs =
 
 branch_if_even : (condition : ℕ) (off : ℤ) (size : ℕ) (regs : Regs) → (branch_if condition off size regs).pc % 2 ≡ 0
 branch_if_even condition off size regs =
-    either (λ (a : Regs). a.pc % 2 ≡ 0) (passes condition regs) (branch off regs) (with_next size regs) (even_next (target_of off regs)) (even_next (regs.pc + size))
+    either (λ (a : Regs). a.pc % 2 ≡ 0) (passes_condition condition regs) (branch off regs) (with_next size regs) (even_next (target_of off regs)) (even_next (regs.pc + size))
 
 compare_even : (nonzero : Bool) (n : ℕ) (off : ℤ) (size : ℕ) (regs : Regs) → (compare_branch nonzero n off size regs).pc % 2 ≡ 0
 compare_even nonzero n off size regs =
-    either (λ (a : Regs). a.pc % 2 ≡ 0) (takes nonzero (reg regs n)) (branch off regs) (with_next size regs) (even_next (target_of off regs)) (even_next (regs.pc + size))
+    either (λ (a : Regs). a.pc % 2 ≡ 0) (takes_branch nonzero (reg regs n)) (branch off regs) (with_next size regs) (even_next (target_of off regs)) (even_next (regs.pc + size))
 
 register_follows : (i : Instr) (size : ℕ) (regs : Regs) (m : Memory) → Follows regs m (with_memory (register_effect i size regs) m)
 register_follows (AddHigh d k) size regs m =
@@ -206,7 +206,7 @@ register_follows i size regs m = plain_follows size regs (data_effect i regs) m 
 
 -- ---- loads and stores
 
-load_follows : (answer : Result ℕ BusFault) (t size : ℕ) (regs : Regs) (m : Memory) → Follows regs m (with_memory (loaded answer t size regs) m)
+load_follows : (answer : Result ℕ BusFault) (t size : ℕ) (regs : Regs) (m : Memory) → Follows regs m (with_memory (load_result answer t size regs) m)
 load_follows (Ok x) t size regs m = plain_follows size regs (with_reg regs t x) m m (same m) (λ s. words_put 15 regs.r t x s.words)
 load_follows (Err fault) t size regs m = trap_follows _ regs m
 
@@ -224,9 +224,9 @@ store_memory :
     (n a v : ℕ) (m : Memory)
     → IsWidth n
     → fault_in (λ s. store_fault n m.guards s a) n m.segments a ≡ None
-    → KeepsMap m (record m { segments = written n m.segments a v })
+    → KeepsMap m (record m { segments = store_number n m.segments a v })
 store_memory n a v m w none =
-    let new : Memory = record m { segments = written n m.segments a v } in
+    let new : Memory = record m { segments = store_number n m.segments a v } in
     let done : store n m a v ≡ (Ok tt, new) = ap (λ f. unless_fault f m new) none in
     record {
       map = store_map n m a v new done;
@@ -239,9 +239,9 @@ store_memory n a v m w none =
 run_memory :
     (a : ℕ) (words : List ℕ) (m : Memory)
     → run_fault m.guards m.segments a words ≡ None
-    → KeepsMap m (record m { segments = run_written m.segments a words })
+    → KeepsMap m (record m { segments = store_words m.segments a words })
 run_memory a words m none =
-    let new : Memory = record m { segments = run_written m.segments a words } in
+    let new : Memory = record m { segments = store_words m.segments a words } in
     let done : store_run m a words ≡ (Ok tt, new) = ap (λ f. unless_fault f m new) none in
     record {
       map = run_map m a words new done;
@@ -258,7 +258,7 @@ load_reg_follows : (n t a size : ℕ) (regs : Regs) (m : Memory) → Follows reg
 load_reg_follows n t a size regs m = load_follows (load n m a) t size regs m
 
 load_signed_follows : (n t a size : ℕ) (regs : Regs) (m : Memory) → Follows regs m (load_reg_signed n t a size regs m)
-load_signed_follows n t a size regs m = load_follows (signed n (load n m a)) t size regs m
+load_signed_follows n t a size regs m = load_follows (sign_extend_result n (load n m a)) t size regs m
 
 mem_reg_follows : (op t n k size : ℕ) (regs : Regs) (m : Memory) → Follows regs m (mem_reg op t n k size regs m)
 mem_reg_follows op t n k size regs m =
@@ -290,14 +290,14 @@ mem_sp_follows is_load t off size regs m =
 -- ---- lists
 
 list_words : (mask a : ℕ) (regs : Regs) (m : Memory) (r : List ℕ) → load_list mask a regs m ≡ Ok r → AreSound regs.r regs.pc → AreWords 16 r
-list_words mask a regs m r e s = words_load 16 m.segments a (loads_from 0 (listed mask)) (all_of regs) r e (words_all regs.r regs.pc s)
+list_words mask a regs m r e s = words_load 16 m.segments a (loads_from 0 (registers_of_list mask)) (all_of regs) r e (words_all regs.r regs.pc s)
 
 ldm_follows : (n mask a size : ℕ) (regs : Regs) (m : Memory) (answer : Result (List ℕ) BusFault) → load_list mask a regs m ≡ answer → Follows regs m (ldm_end answer n mask size regs m)
 ldm_follows n mask a size regs m (Ok r) e =
     let x = reg regs n + bytes_of mask in
-    plain_follows size regs (with_all regs (cond (bit_at mask n == 1) r (put r n x))) m m (same m)
-    (λ s. words_take (cond (bit_at mask n == 1) r (put r n x))
-    (either (λ l. AreWords 16 l) (bit_at mask n == 1) r (put r n x) (list_words mask a regs m r e s) (words_put 16 r n x (list_words mask a regs m r e s))))
+    plain_follows size regs (with_all regs (cond (bit_at mask n == 1) r (write_register r n x))) m m (same m)
+    (λ s. words_take (cond (bit_at mask n == 1) r (write_register r n x))
+    (either (λ l. AreWords 16 l) (bit_at mask n == 1) r (write_register r n x) (list_words mask a regs m r e s) (words_put 16 r n x (list_words mask a regs m r e s))))
 ldm_follows n mask a size regs m (Err fault) e = trap_follows _ regs m
 
 pop_to_follows : (b : Bool) (target size : ℕ) (regs after : Regs) (m : Memory) → (AreSound regs.r regs.pc → AreWords 15 after.r)
@@ -308,8 +308,8 @@ pop_to_follows false target size regs after m keeps = plain_follows size regs af
 pop_follows : (mask a size : ℕ) (regs : Regs) (m : Memory) (answer : Result (List ℕ) BusFault) → load_list mask a regs m ≡ answer → Follows regs m (pop_end answer mask size regs m)
 pop_follows mask a size regs m (Ok r) e =
     let x = reg regs SP + bytes_of mask in
-    pop_to_follows (bit_at mask PC == 1) (slice_index r PC) size regs (with_all regs (put r SP x)) m
-    (λ s. words_take (put r SP x) (words_put 16 r SP x (list_words mask a regs m r e s)))
+    pop_to_follows (bit_at mask PC == 1) (slice_index r PC) size regs (with_all regs (write_register r SP x)) m
+    (λ s. words_take (write_register r SP x) (words_put 16 r SP x (list_words mask a regs m r e s)))
 pop_follows mask a size regs m (Err fault) e = trap_follows _ regs m
 
 -- ---- a step
@@ -336,14 +336,14 @@ outcome_follows Unpredictable first regs m = trap_follows _ regs m
 outcome_follows NotInProfile first regs m = trap_follows _ regs m
 
 second_follows : (p : Profile) (half : Result ℕ BusFault) (first : ℕ) (regs : Regs) (m : Memory) → Follows regs m (with_second p half first regs m)
-second_follows p (Ok second) first regs m = outcome_follows (decoded_for p first second) first regs m
+second_follows p (Ok second) first regs m = outcome_follows (decode_result_for p first second) first regs m
 second_follows p (Err fault) first regs m = trap_follows _ regs m
 
 first_follows : (p : Profile) (half : Result ℕ BusFault) (regs : Regs) (m : Memory) → Follows regs m (with_first p half regs m)
 first_follows p (Ok first) regs m =
     either (λ o. Follows regs m o) (nat_le 0xe800 first) _ _
     (second_follows p (fetch m ((regs.pc + 2) % 2 ^ 32)) first regs m)
-    (outcome_follows (decoded_for p first 0) first regs m)
+    (outcome_follows (decode_result_for p first 0) first regs m)
 first_follows p (Err fault) regs m = trap_follows _ regs m
 
 pub step_follows : (p : Profile) (regs : Regs) (m : Memory) → Follows regs m (step_for p regs m)

@@ -9,3 +9,4 @@ pub mod Acts
 pub mod Popped
 pub mod Divided
 pub mod Natures
+pub mod Standing

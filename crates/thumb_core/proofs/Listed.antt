@@ -3,7 +3,7 @@ use Rattle.std.proofs.Common.{◌≡◌, ℕ, zero, suc, ◌+◌, ◌-◌, ◌^�
 use Rattle.std.specs.List.{filter}
 use Rattle.std.specs.Int.{bit_at}
 use Rattle.std.proofs.lemmas.Nat.Bits.{bit_at_above}
-use Rattle.thumb_core.specs.Words.{listed}
+use Rattle.thumb_core.specs.Words.{registers_of_list}
 
 -- n numbers from k up
 abbrev pub numbers_from : ℕ → ℕ → List ℕ
@@ -14,8 +14,8 @@ numbers_from (suc n) k = k ∷ numbers_from n (k + 1)
 unfoldable pub listed_from : ℕ → ℕ → List ℕ
 listed_from k mask = filter (λ j. bit_at mask j == 1) (numbers_from (16 - k) k)
 
-pub listed_all : (mask : ℕ) → listed mask ≡ listed_from 0 mask
-unfolding listed listed_from
+pub listed_all : (mask : ℕ) → registers_of_list mask ≡ listed_from 0 mask
+unfolding registers_of_list listed_from
 listed_all mask = refl
 
 pub listed_none : (mask : ℕ) → listed_from 16 mask ≡ []

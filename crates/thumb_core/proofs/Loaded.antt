@@ -7,11 +7,11 @@ use Rattle.std.proofs.lemmas.Bool.{cases_lt}
 use Rattle.std.proofs.lemmas.List.{set-append_left}
 use Rattle.std.proofs.lemmas.Nat.Bits.{bit_at_above}
 use Rattle.eh_bus.specs.Segment.{Segment}
-use Rattle.eh_bus.specs.Memory.{Memory, loads}
+use Rattle.eh_bus.specs.Memory.{Memory, load_number}
 use Rattle.eh_bus.specs.declared.fault.BusFault.{BusFault}
 use Rattle.thumb_core.specs.declared.regs.Regs.{Regs}
-use Rattle.thumb_core.specs.Registers.{put, word_in}
-use Rattle.thumb_core.specs.Words.{numbers, listed, load_words, loads_from, ◌>>=◌}
+use Rattle.thumb_core.specs.Registers.{write_register, word_in}
+use Rattle.thumb_core.specs.Words.{numbers, registers_of_list, load_words, loads_from, ◌>>=◌}
 use Rattle.thumb_core.specs.Lists.{load_list}
 use Rattle.thumb_core.proofs.Listed.{numbers_from, listed_from, listed_all, listed_none, listed_more, listed_end}
 
@@ -37,7 +37,7 @@ joins k mask low high l same rest = go (bit_at low k == 1) refl
     go false e = rw (listed_more k mask l, listed_more k low l, same, e, rest) refl
 
 -- the registers of a mask are those of its low byte, and those from 8 on
-pub listed_low : (mask : ℕ) → listed mask ≡ listed (mask % 2 ^ 8) ++ listed_from 8 mask
+pub listed_low : (mask : ℕ) → registers_of_list mask ≡ registers_of_list (mask % 2 ^ 8) ++ listed_from 8 mask
 listed_low mask =
     let low = mask % 2 ^ 8 in
     let high = listed_from 8 mask in
@@ -129,8 +129,8 @@ low_below mask (k ∷ more) l = go (bit_at mask k == 1) refl (low_below mask mor
     go true e next = (set_low e, next)
     go false e next = next
 
-listed_below : (mask : ℕ) → mask < 2 ^ 8 → Below 15 (listed mask)
-unfolding listed
+listed_below : (mask : ℕ) → mask < 2 ^ 8 → Below 15 (registers_of_list mask)
+unfolding registers_of_list
 listed_below mask l = low_below mask numbers l
 
 -- loads of registers that stand in a part of the list go on in that part
@@ -141,14 +141,14 @@ load_front :
 load_front segments base at [] r t count below = refl
 load_front segments base at (k ∷ more) r t count below =
     let inside : k < length r = omega (arith, below.0) in
-    go (loads 4 segments ((base + at) % 2 ^ 32)) (λ x.
+    go (load_number 4 segments ((base + at) % 2 ^ 32)) (λ x.
     rw (set-append_left r t k (word_in k x) inside)
-    (load_front segments base (at + 4) more (put r k x) t (length-set r k (word_in k x) ∙ count) below.1))
+    (load_front segments base (at + 4) more (write_register r k x) t (length-set r k (word_in k x) ∙ count) below.1))
   where
     go : (loaded : Result ℕ BusFault)
-        → ((x : ℕ) → load_words segments base (loads_from (at + 4) more) (put (r ++ t) k x) ≡ (load_words segments base (loads_from (at + 4) more) (put r k x) >>= λ after. Ok (after ++ t)))
-        → (loaded >>= λ x. load_words segments base (loads_from (at + 4) more) (put (r ++ t) k x))
-        ≡ ((loaded >>= λ x. load_words segments base (loads_from (at + 4) more) (put r k x)) >>= λ after. Ok (after ++ t))
+        → ((x : ℕ) → load_words segments base (loads_from (at + 4) more) (write_register (r ++ t) k x) ≡ (load_words segments base (loads_from (at + 4) more) (write_register r k x) >>= λ after. Ok (after ++ t)))
+        → (loaded >>= λ x. load_words segments base (loads_from (at + 4) more) (write_register (r ++ t) k x))
+        ≡ ((loaded >>= λ x. load_words segments base (loads_from (at + 4) more) (write_register r k x)) >>= λ after. Ok (after ++ t))
     go (Ok x) next = next x
     go (Err fault) next = refl
 
@@ -160,13 +160,13 @@ pub load_both :
 load_both segments base at [] js r = let same : at + 4 * 0 ≡ at = omega arith in rw same refl
 load_both segments base at (k ∷ more) js r =
     let same : at + 4 * suc (length more) ≡ at + 4 + 4 * length more = omega arith in
-    rw same (go (loads 4 segments ((base + at) % 2 ^ 32)) (λ x. load_both segments base (at + 4) more js (put r k x)))
+    rw same (go (load_number 4 segments ((base + at) % 2 ^ 32)) (λ x. load_both segments base (at + 4) more js (write_register r k x)))
   where
     go : (loaded : Result ℕ BusFault)
-        → ((x : ℕ) → load_words segments base (loads_from (at + 4) (more ++ js)) (put r k x)
-        ≡ (load_words segments base (loads_from (at + 4) more) (put r k x) >>= λ after. load_words segments base (loads_from (at + 4 + 4 * length more) js) after))
-        → (loaded >>= λ x. load_words segments base (loads_from (at + 4) (more ++ js)) (put r k x))
-        ≡ ((loaded >>= λ x. load_words segments base (loads_from (at + 4) more) (put r k x)) >>= λ after. load_words segments base (loads_from (at + 4 + 4 * length more) js) after)
+        → ((x : ℕ) → load_words segments base (loads_from (at + 4) (more ++ js)) (write_register r k x)
+        ≡ (load_words segments base (loads_from (at + 4) more) (write_register r k x) >>= λ after. load_words segments base (loads_from (at + 4 + 4 * length more) js) after))
+        → (loaded >>= λ x. load_words segments base (loads_from (at + 4) (more ++ js)) (write_register r k x))
+        ≡ ((loaded >>= λ x. load_words segments base (loads_from (at + 4) more) (write_register r k x)) >>= λ after. load_words segments base (loads_from (at + 4 + 4 * length more) js) after)
     go (Ok x) next = next x
     go (Err fault) next = refl
 
@@ -176,10 +176,10 @@ load_both segments base at (k ∷ more) js r =
 pub load_list_low :
     (mask a : ℕ) (regs : Regs) (m : Memory) → length regs.r ≡ 15
     → load_list mask a regs m
-    ≡ (load_words m.segments a (loads_from 0 (listed (mask % 2 ^ 8))) regs.r
-    >>= λ r. load_words m.segments a (loads_from (4 * length (listed (mask % 2 ^ 8))) (listed_from 8 mask)) (r ++ (regs.pc ∷ [])))
+    ≡ (load_words m.segments a (loads_from 0 (registers_of_list (mask % 2 ^ 8))) regs.r
+    >>= λ r. load_words m.segments a (loads_from (4 * length (registers_of_list (mask % 2 ^ 8))) (listed_from 8 mask)) (r ++ (regs.pc ∷ [])))
 load_list_low mask a regs m count =
-    let low = listed (mask % 2 ^ 8) in
+    let low = registers_of_list (mask % 2 ^ 8) in
     rw (
       listed_low mask,
       load_both m.segments a 0 low (listed_from 8 mask) (regs.r ++ (regs.pc ∷ [])),
@@ -188,7 +188,7 @@ load_list_low mask a regs m count =
     (go (load_words m.segments a (loads_from 0 low) regs.r))
   where
     go : (loaded : Result (List ℕ) BusFault)
-        → ((loaded >>= λ after. Ok (after ++ (regs.pc ∷ []))) >>= λ after. load_words m.segments a (loads_from (0 + 4 * length (listed (mask % 2 ^ 8))) (listed_from 8 mask)) after)
-        ≡ (loaded >>= λ r. load_words m.segments a (loads_from (4 * length (listed (mask % 2 ^ 8))) (listed_from 8 mask)) (r ++ (regs.pc ∷ [])))
-    go (Ok r) = let same : 0 + 4 * length (listed (mask % 2 ^ 8)) ≡ 4 * length (listed (mask % 2 ^ 8)) = omega arith in rw same refl
+        → ((loaded >>= λ after. Ok (after ++ (regs.pc ∷ []))) >>= λ after. load_words m.segments a (loads_from (0 + 4 * length (registers_of_list (mask % 2 ^ 8))) (listed_from 8 mask)) after)
+        ≡ (loaded >>= λ r. load_words m.segments a (loads_from (4 * length (registers_of_list (mask % 2 ^ 8))) (listed_from 8 mask)) (r ++ (regs.pc ∷ [])))
+    go (Ok r) = let same : 0 + 4 * length (registers_of_list (mask % 2 ^ 8)) ≡ 4 * length (registers_of_list (mask % 2 ^ 8)) = omega arith in rw same refl
     go (Err fault) = refl

@@ -10,13 +10,13 @@ use Rattle.thumb_core.specs.declared.regs.Regs.{Regs}
 use Rattle.thumb_isa.specs.Nature.{Works, nature, is_access}
 use Rattle.thumb_core.specs.declared.regs.Stepped.{Stepped}
 use Rattle.thumb_core.specs.declared.regs.Stepped.TheVariants.{Done}
-use Rattle.thumb_core.specs.Registers.{reg, put, with_reg, with_next, with_flags, operand, base}
+use Rattle.thumb_core.specs.Registers.{reg, write_register, with_reg, with_next, with_flags, operand, base}
 use Rattle.thumb_core.specs.Arith.{sum_of, difference_of, sum_or_difference}
 use Rattle.thumb_core.specs.Shift.{shift_of}
 use Rattle.thumb_core.specs.Alu.{alu_of, with_answer}
 use Rattle.thumb_core.specs.Data.{forward, backward, with_value, with_sum, imm8, extension_of, reversal_of, quotient, data_effect}
 use Rattle.thumb_core.specs.Outcome.{Outcome, with_memory}
-use Rattle.thumb_core.specs.Access.{store_end, loaded, store_reg, mem_reg, mem_imm, mem_sp}
+use Rattle.thumb_core.specs.Access.{store_end, load_result, store_reg, mem_reg, mem_imm, mem_sp}
 use Rattle.thumb_core.specs.Lists.{words_of, bytes_of, load_list, ldm_end}
 use Rattle.thumb_core.specs.Branch.{register_effect}
 use Rattle.thumb_core.specs.Step.{effect}
@@ -25,7 +25,7 @@ use Rattle.thumb_core.specs.NatureLaws.{UnlessTrap, GoesOn, Stays, Puts, PutsAtM
 use Rattle.thumb_core.proofs.Follows.{either}
 
 -- a value in a register, and nothing written
-put_one : (d value size : ℕ) (regs after : Regs) (m : Memory) → after.pc ≡ regs.pc → after.r ≡ put regs.r d value → Puts d size regs (Done, with_next size after, m)
+put_one : (d value size : ℕ) (regs after : Regs) (m : Memory) → after.pc ≡ regs.pc → after.r ≡ write_register regs.r d value → Puts d size regs (Done, with_next size after, m)
 put_one d value size regs after m pc r = record { value = value; on = record { done = refl; pc = ap (λ (a : ℕ). (with_next size (record regs { pc = a })).pc) pc; registers = r } }
 
 stay : (size : ℕ) (regs after : Regs) (m : Memory) → after.pc ≡ regs.pc → after.r ≡ regs.r → Stays size regs (Done, with_next size after, m)
@@ -45,15 +45,15 @@ answer_fits : (a : Answer) (d size : ℕ) (regs : Regs) (m : Memory) → PutsAtM
 answer_fits a d size regs m = go a.written refl
   where
     go : (b : Bool) → a.written ≡ b → PutsAtMost d size regs (Done, with_next size (with_answer a d regs), m)
-    go true e = inl (put_one d a.value size regs (with_answer a d regs) m refl (ap (λ (b : Bool). cond b (put regs.r d a.value) regs.r) e))
-    go false e = inr (stay size regs (with_answer a d regs) m refl (ap (λ (b : Bool). cond b (put regs.r d a.value) regs.r) e))
+    go true e = inl (put_one d a.value size regs (with_answer a d regs) m refl (ap (λ (b : Bool). cond b (write_register regs.r d a.value) regs.r) e))
+    go false e = inr (stay size regs (with_answer a d regs) m refl (ap (λ (b : Bool). cond b (write_register regs.r d a.value) regs.r) e))
 
 -- ---- loads and stores
 
 abbrev AccessFits : ℕ → ℕ → Regs → Outcome → Type 0
 AccessFits t size regs o = UnlessTrap o.0 (PutsAtMost t size regs o)
 
-load_fits : (answer : Result ℕ BusFault) (t size : ℕ) (regs : Regs) (m : Memory) → AccessFits t size regs (with_memory (loaded answer t size regs) m)
+load_fits : (answer : Result ℕ BusFault) (t size : ℕ) (regs : Regs) (m : Memory) → AccessFits t size regs (with_memory (load_result answer t size regs) m)
 load_fits (Ok x) t size regs m = inl (put_one t x size regs (with_reg regs t x) m refl refl)
 load_fits (Err fault) t size regs m = tt
 
@@ -91,7 +91,7 @@ mem_sp_fits true t size off regs m = load_fits _ t size regs m
 mem_sp_fits false t size off regs m = reg_fits 4 t (forward (reg regs SP) off) size regs m
 
 list_fits : (answer : Result (Unit {0}) BusFault × Memory) (size : ℕ) (regs : Regs) (k x : ℕ)
-    → (let o = store_end answer size regs (with_reg regs k x) in UnlessTrap o.0 (GoesOn (put regs.r k x) size regs o))
+    → (let o = store_end answer size regs (with_reg regs k x) in UnlessTrap o.0 (GoesOn (write_register regs.r k x) size regs o))
 list_fits (Ok u, new) size regs k x = record { done = refl; pc = refl; registers = refl }
 list_fits (Err fault, new) size regs k x = tt
 
@@ -146,7 +146,7 @@ fits (Div is_signed d n k) size regs m = put_one d (quotient is_signed (reg regs
 pub record IsWork (i : Instr) (d : ℕ) : Type 0 where
   pub does : (size : ℕ) (regs : Regs) (m : Memory) → effect i size regs m ≡ (Done, with_next size (data_effect i regs), m)
   pub value : Regs → ℕ
-  pub writes : (regs : Regs) → (data_effect i regs).r ≡ put regs.r d (value regs)
+  pub writes : (regs : Regs) → (data_effect i regs).r ≡ write_register regs.r d (value regs)
   pub stays : (regs : Regs) → (data_effect i regs).pc ≡ regs.pc
 
 same_register : (d k : ℕ) → Works d ≡ Works k → d ≡ k

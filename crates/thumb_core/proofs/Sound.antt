@@ -5,9 +5,9 @@ use Rattle.std.proofs.lemmas.Bool.{cases_eq, cases_lt}
 use Rattle.std.proofs.lemmas.List.{get_or_past, get_or_append_left, get_or-append_right, get_or-take, length-take}
 use Rattle.std.proofs.lemmas.Grind.{get_or-set_at}
 use Rattle.eh_bus.specs.Segment.{Segment}
-use Rattle.eh_bus.specs.Memory.{loads}
+use Rattle.eh_bus.specs.Memory.{load_number}
 use Rattle.eh_bus.specs.declared.fault.BusFault.{BusFault}
-use Rattle.thumb_core.specs.Registers.{put, word_in, even}
+use Rattle.thumb_core.specs.Registers.{write_register, word_in, even}
 use Rattle.thumb_core.specs.Words.{Load, load_words, ◌>>=◌}
 use Rattle.thumb_core.specs.Laws.{AreWords, AreSound}
 
@@ -17,10 +17,10 @@ word_small d x = grind arith
 word_aligned : (d x : ℕ) → 13 ≡ d → word_in d x % 4 ≡ 0
 word_aligned d x same = subst (λ k. word_in k x % 4 ≡ 0) same (omega arith)
 
-put_past : (r : List ℕ) (d x k : ℕ) → k ≡ d → length r ≤ d → get_or (put r d x) k 0 ≡ 0
-put_past r d x k same past = get_or_past (put r d x) k 0 (rw (length-set r d (word_in d x)) (omega arith))
+put_past : (r : List ℕ) (d x k : ℕ) → k ≡ d → length r ≤ d → get_or (write_register r d x) k 0 ≡ 0
+put_past r d x k same past = get_or_past (write_register r d x) k 0 (rw (length-set r d (word_in d x)) (omega arith))
 
-put_read : (n : ℕ) (r : List ℕ) (d x k : ℕ) → AreWords n r → get_or (put r d x) k 0 < 2 ^ 32
+put_read : (n : ℕ) (r : List ℕ) (d x k : ℕ) → AreWords n r → get_or (write_register r d x) k 0 < 2 ^ 32
 put_read n r d x k w = elim (cases_eq k d) [
   | inl same ↦ (elim (cases_lt d (length r)) [
     | inl inside ↦ rw (get_or-set_at r d k (word_in d x) 0 same inside) (word_small d x)
@@ -29,7 +29,7 @@ put_read n r d x k w = elim (cases_eq k d) [
   | inr other ↦ rw (get_or-set_other r d k (word_in d x) 0 other) (w.small k)
 ]
 
-put_sp : (n : ℕ) (r : List ℕ) (d x : ℕ) → AreWords n r → get_or (put r d x) 13 0 % 4 ≡ 0
+put_sp : (n : ℕ) (r : List ℕ) (d x : ℕ) → AreWords n r → get_or (write_register r d x) 13 0 % 4 ≡ 0
 put_sp n r d x w = elim (cases_eq 13 d) [
   | inl same ↦ (elim (cases_lt d (length r)) [
     | inl inside ↦ rw (get_or-set_at r d 13 (word_in d x) 0 same inside) (word_aligned d x same)
@@ -39,7 +39,7 @@ put_sp n r d x w = elim (cases_eq 13 d) [
 ]
 
 -- a write
-pub words_put : (n : ℕ) (r : List ℕ) (d x : ℕ) → AreWords n r → AreWords n (put r d x)
+pub words_put : (n : ℕ) (r : List ℕ) (d x : ℕ) → AreWords n r → AreWords n (write_register r d x)
 words_put n r d x w = record {
   count = rw (length-set r d (word_in d x)) w.count;
   small = λ k. put_read n r d x k w;
@@ -50,9 +50,9 @@ words_put n r d x w = record {
 pub words_load : (n : ℕ) (segments : List Segment) (base : ℕ) (ws : List Load) (r after : List ℕ) → load_words segments base ws r ≡ Ok after → AreWords n r → AreWords n after
 words_load n segments base [] r after e w = let same : r ≡ after = cc in subst (AreWords n) same w
 words_load n segments base (l ∷ more) r after e w =
-    go (loads 4 segments ((base + l.at) % 2 ^ 32)) e (λ x h. words_load n segments base more (put r l.reg x) after h (words_put n r l.reg x w))
+    go (load_number 4 segments ((base + l.at) % 2 ^ 32)) e (λ x h. words_load n segments base more (write_register r l.reg x) after h (words_put n r l.reg x w))
   where
-    go : {P : Type 0} (loaded : Result ℕ BusFault) → (loaded >>= λ x. load_words segments base more (put r l.reg x)) ≡ Ok after → ((x : ℕ) → load_words segments base more (put r l.reg x) ≡ Ok after → P) → P
+    go : {P : Type 0} (loaded : Result ℕ BusFault) → (loaded >>= λ x. load_words segments base more (write_register r l.reg x)) ≡ Ok after → ((x : ℕ) → load_words segments base more (write_register r l.reg x) ≡ Ok after → P) → P
     go (Ok x) h next = next x h
     go (Err fault) h next = absurd (cc)
 

@@ -9,37 +9,37 @@ use Rattle.thumb_core.specs.declared.regs.TheConstants.{SP}
 use Rattle.thumb_core.specs.Arith.{sign_extension}
 use Rattle.thumb_core.specs.Registers.{reg, base, with_reg, with_next}
 use Rattle.thumb_core.specs.Data.{forward}
-use Rattle.thumb_core.specs.Outcome.{Outcome, done, refused, with_memory}
+use Rattle.thumb_core.specs.Outcome.{Outcome, done_with, memory_trap, with_memory}
 
--- how a store's answer ends an instruction, with the registers that it was given and those that it leaves
-abbrev pub stored : Result (Unit {0}) BusFault → ℕ → Regs → Regs → Stepped × Regs
-stored (Ok u) size regs after = done (with_next size after)
-stored (Err fault) size regs after = refused fault regs
+-- how a store ends an instruction, given its result, the registers before it, and those that it leaves
+abbrev pub store_result : Result (Unit {0}) BusFault → ℕ → Regs → Regs → Stepped × Regs
+store_result (Ok u) size regs after = done_with (with_next size after)
+store_result (Err fault) size regs after = memory_trap fault regs
 
 abbrev pub store_end : Result (Unit {0}) BusFault × Memory → ℕ → Regs → Regs → Outcome
-store_end answer size regs after = with_memory (stored answer.0 size regs after) answer.1
+store_end answer size regs after = with_memory (store_result answer.0 size regs after) answer.1
 
--- how a load's answer ends it: a number goes to register t
-abbrev pub loaded : Result ℕ BusFault → ℕ → ℕ → Regs → Stepped × Regs
-loaded (Ok x) t size regs = done (with_next size (with_reg regs t x))
-loaded (Err fault) t size regs = refused fault regs
+-- how a load ends an instruction: its number goes to register t
+abbrev pub load_result : Result ℕ BusFault → ℕ → ℕ → Regs → Stepped × Regs
+load_result (Ok x) t size regs = done_with (with_next size (with_reg regs t x))
+load_result (Err fault) t size regs = memory_trap fault regs
 
 -- what n bytes hold as a signed number
-abbrev pub signed : ℕ → Result ℕ BusFault → Result ℕ BusFault
-signed n (Ok x) = Ok (sign_extension (8 * n) x)
-signed n (Err fault) = Err fault
+abbrev pub sign_extend_result : ℕ → Result ℕ BusFault → Result ℕ BusFault
+sign_extend_result n (Ok x) = Ok (sign_extension (8 * n) x)
+sign_extend_result n (Err fault) = Err fault
 
--- the lowest n bytes of register t to address a
+-- stores the lowest n bytes of register t at address a
 abbrev pub store_reg : ℕ → ℕ → ℕ → ℕ → Regs → Memory → Outcome
 store_reg n t a size regs m = store_end (store n m a (reg regs t % 256 ^ n)) size regs regs
 
 -- the n bytes at address a to register t
 abbrev pub load_reg : ℕ → ℕ → ℕ → ℕ → Regs → Memory → Outcome
-load_reg n t a size regs m = with_memory (loaded (load n m a) t size regs) m
+load_reg n t a size regs m = with_memory (load_result (load n m a) t size regs) m
 
 -- the same as a signed number
 abbrev pub load_reg_signed : ℕ → ℕ → ℕ → ℕ → Regs → Memory → Outcome
-load_reg_signed n t a size regs m = with_memory (loaded (signed n (load n m a)) t size regs) m
+load_reg_signed n t a size regs m = with_memory (load_result (sign_extend_result n (load n m a)) t size regs) m
 
 -- LDR of a word near the instruction
 abbrev pub ldr_lit : ℕ → ℤ → ℕ → Regs → Memory → Outcome

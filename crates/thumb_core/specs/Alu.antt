@@ -8,7 +8,7 @@ use Rattle.thumb_core.specs.declared.arith.Sum.{Sum}
 use Rattle.thumb_core.specs.declared.alu.Answer.{Answer}
 use Rattle.thumb_core.specs.Arith.{sum_of, difference_of, complement}
 use Rattle.thumb_core.specs.Shift.{shift_of, rotation_of}
-use Rattle.thumb_core.specs.Registers.{reg, put}
+use Rattle.thumb_core.specs.Registers.{reg, write_register}
 
 -- a value that leaves C and V
 abbrev pub logic : ℕ → Bool → Regs → Answer
@@ -22,7 +22,7 @@ of_sum s written = record { value = s.value; written = written; carry = s.carry;
 abbrev pub of_shift : ℕ × Bool → Regs → Answer
 of_shift s regs = record { value = s.0; written = true; carry = s.1; overflow = regs.v }
 
--- an operation on x and y. TST, CMP and CMN write no register; a shift goes by the lowest byte of y
+-- an operation on x and y. TST, CMP and CMN write no register; a shift amount is the lowest byte of y
 abbrev pub alu_of : ℕ → ℕ → ℕ → Regs → Answer
 alu_of op x y regs =
     if op == AND then logic (bit_and x y) true regs else (
@@ -45,7 +45,7 @@ alu_of op x y regs =
 -- an answer in register d and the flags
 abbrev pub with_answer : Answer → ℕ → Regs → Regs
 with_answer a d regs = record regs {
-  r = (if a.written then put regs.r d a.value else regs.r);
+  r = (if a.written then write_register regs.r d a.value else regs.r);
   n = nat_le (2 ^ 31) a.value;
   z = a.value == 0;
   c = a.carry;

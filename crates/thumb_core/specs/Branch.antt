@@ -8,8 +8,8 @@ use Rattle.thumb_core.specs.declared.regs.Regs.{Regs}
 use Rattle.thumb_core.specs.declared.regs.CoreTrap.TheVariants.{EvenTarget}
 use Rattle.thumb_core.specs.declared.regs.Stepped.{Stepped}
 use Rattle.thumb_core.specs.declared.regs.Stepped.TheVariants.{Call, Gate, Return, Trap}
-use Rattle.thumb_core.specs.Registers.{reg, even, operand, pc_read, with_reg, with_pc, with_next}
-use Rattle.thumb_core.specs.Outcome.{done}
+use Rattle.thumb_core.specs.Registers.{reg, even, operand, pc_operand, with_reg, with_pc, with_next}
+use Rattle.thumb_core.specs.Outcome.{done_with}
 use Rattle.thumb_core.specs.Data.{forward, data_effect}
 
 -- the two flags are equal
@@ -18,8 +18,8 @@ same_flag true b = b
 same_flag false b = not b
 
 -- whether a condition holds (DDI 0419, the table of condition codes)
-abbrev pub passes : ℕ → Regs → Bool
-passes cond regs =
+abbrev pub passes_condition : ℕ → Regs → Bool
+passes_condition cond regs =
     if cond == EQ then regs.z else (if cond == NE then not regs.z else (
     if cond == CS then regs.c else (if cond == CC then not regs.c else (
     if cond == MI then regs.n else (if cond == PL then not regs.n else (
@@ -30,7 +30,7 @@ passes cond regs =
 
 -- where a branch goes
 abbrev pub target_of : ℤ → Regs → ℕ
-target_of off regs = forward (pc_read regs) off
+target_of off regs = forward (pc_operand regs) off
 
 -- B
 abbrev pub branch : ℤ → Regs → Regs
@@ -38,17 +38,17 @@ branch off regs = with_pc regs (target_of off regs)
 
 -- a branch under a condition
 abbrev pub branch_if : ℕ → ℤ → ℕ → Regs → Regs
-branch_if cond off size regs = if passes cond regs then branch off regs else with_next size regs
+branch_if cond off size regs = if passes_condition cond regs then branch off regs else with_next size regs
 
--- whether CBZ, or CBNZ, takes its branch: its register is 0, or isn't
-abbrev pub takes : Bool → ℕ → Bool
-takes nonzero value = if nonzero then not (value == 0) else value == 0
+-- whether CBNZ takes its branch (the register isn't 0), or CBZ (it is 0)
+abbrev pub takes_branch : Bool → ℕ → Bool
+takes_branch nonzero value = if nonzero then not (value == 0) else value == 0
 
--- CBZ and CBNZ; no flag plays a part, and none is changed
+-- CBZ and CBNZ; flags are neither read nor changed
 abbrev pub compare_branch : Bool → ℕ → ℤ → ℕ → Regs → Regs
-compare_branch nonzero n off size regs = if takes nonzero (reg regs n) then branch off regs else with_next size regs
+compare_branch nonzero n off size regs = if takes_branch nonzero (reg regs n) then branch off regs else with_next size regs
 
--- a register, low or high; a write to pc is a branch
+-- writes a register, low or high; a write to pc branches
 abbrev pub write_high : ℕ → ℕ → ℕ → Regs → Regs
 write_high d x size regs = if d == PC then with_pc regs x else with_next size (with_reg regs d x)
 
@@ -69,7 +69,7 @@ abbrev pub call_to : ℕ → ℕ → Regs → Stepped × Regs
 call_to target size regs =
     (Call (even (target % 2 ^ 32)) (link_of size regs), with_pc (with_reg regs LR (link_of size regs)) target)
 
--- what is done where bit 0 of a target is set; else nothing is changed
+-- the result if bit 0 of a target is set; else a trap that changes nothing
 abbrev pub if_odd : ℕ → Regs → Stepped × Regs → Stepped × Regs
 if_odd target regs plain_outcome = if target % 2 == 0 then (Trap (EvenTarget target), regs) else plain_outcome
 
@@ -81,7 +81,7 @@ bl off size regs = call_to (target_of off regs) size regs
 abbrev pub blx : ℕ → ℕ → Regs → Stepped × Regs
 blx k size regs = if_odd (operand regs k) regs (call_to (operand regs k) size regs)
 
--- a return to a target, which leaves these registers but for pc
+-- a return to a target, with these registers except pc
 abbrev pub return_to : ℕ → Regs → Stepped × Regs
 return_to target after = (Return (target % 2 ^ 32), with_pc after target)
 
@@ -93,16 +93,17 @@ bx k regs = if_odd (operand regs k) regs (return_to (operand regs k) regs)
 abbrev pub svc : ℕ → ℕ → Regs → Stepped × Regs
 svc number size regs = (Gate number, with_next size regs)
 
--- what an instruction of `size` bytes does that leaves the memory alone: those of this group, else those of the data
+-- the effect of an instruction of `size` bytes that leaves the memory unchanged: of this group, or else of the data
+-- instructions
 abbrev pub register_effect : Instr → ℕ → Regs → Stepped × Regs
-register_effect (AddHigh d k) size regs = done (add_high d k size regs)
-register_effect (MovHigh d k) size regs = done (mov_high d k size regs)
-register_effect (BCond cond off) size regs = done (branch_if cond off size regs)
-register_effect (B off) size regs = done (branch off regs)
+register_effect (AddHigh d k) size regs = done_with (add_high d k size regs)
+register_effect (MovHigh d k) size regs = done_with (mov_high d k size regs)
+register_effect (BCond cond off) size regs = done_with (branch_if cond off size regs)
+register_effect (B off) size regs = done_with (branch off regs)
 register_effect (Bl off) size regs = bl off size regs
 register_effect (Blx k) size regs = blx k size regs
 register_effect (Bx k) size regs = bx k regs
 register_effect (Svc imm) size regs = svc imm size regs
-register_effect (Cbz nonzero n off) size regs = done (compare_branch nonzero n off size regs)
-register_effect (BWide off) size regs = done (branch off regs)
-register_effect i size regs = done (with_next size (data_effect i regs))
+register_effect (Cbz nonzero n off) size regs = done_with (compare_branch nonzero n off size regs)
+register_effect (BWide off) size regs = done_with (branch off regs)
+register_effect i size regs = done_with (with_next size (data_effect i regs))

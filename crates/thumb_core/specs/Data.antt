@@ -1,4 +1,4 @@
--- Instructions that change low registers, sp and flags alone, pc apart.
+-- Instructions that change only low registers, sp and flags, besides pc.
 use Rattle.std.specs.Prelude.{ℕ, ℤ, ◌+◌, ◌-◌, ◌*◌, ◌/◌, ◌%◌, ◌^◌, nat_le, Bool, true, false, ◌==◌, if◌then◌else◌}
 use Rattle.std.specs.Int.{cast_unsigned, w32}
 use Rattle.thumb_isa.specs.declared.instr.Instr.{Instr}
@@ -134,7 +134,7 @@ quotient signed x y = if signed then signed_quotient x y else unsigned_quotient 
 abbrev pub divide : Bool → ℕ → ℕ → ℕ → Regs → Regs
 divide signed d n m regs = with_reg regs d (quotient signed (reg regs n) (reg regs m))
 
--- what an instruction of this group leaves in the registers before it goes on; one of another group is met elsewhere
+-- the registers after an instruction of this group, before pc advances; other instructions are defined elsewhere
 abbrev pub data_effect : Instr → Regs → Regs
 data_effect (ShiftImm op d k n) regs = shift_imm op d k n regs
 data_effect (AddSubReg sub d n k) regs = add_sub_reg sub d n k regs

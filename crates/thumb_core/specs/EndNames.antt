@@ -1,4 +1,4 @@
--- The names of causes and of kinds of traps, as a line of a report has them (docs/command-line.md).
+-- The names of causes and of kinds of traps in reports (docs/guide/command-line.md).
 use Rattle.std.specs.Prelude.{ℕ, List, codes}
 use Rattle.thumb_core.specs.declared.ends.Cause.{Cause}
 use Rattle.thumb_core.specs.declared.ends.Cause.TheVariants.{NoHandler, CannotUnwind, NoThrow, LeavesCleanup, Unexpected, NothingCaught, PoolFull, Called}

@@ -14,3 +14,4 @@ pub mod Step
 pub mod Stores
 pub mod Laws
 pub mod NatureLaws
+pub mod Standing

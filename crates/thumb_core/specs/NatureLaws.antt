@@ -1,4 +1,5 @@
--- The table of what instructions are (thumb_isa's Nature) fits the effects: what one of each nature leaves, where no load or store of it is refused.
+-- The table of natures (thumb_isa's Nature) fits the effects: what an instruction of each nature leaves, if none of its
+-- loads and stores is refused.
 use Rattle.std.specs.Prelude.{◌≡◌, ◌⊎◌, ℕ, ℤ, ◌+◌, ◌-◌, ◌%◌, ◌^◌, Bool, true, false, List, None, if◌then◌else◌}
 use Rattle.thumb_isa.specs.declared.instr.Instr.{Instr}
 use Rattle.thumb_isa.specs.Nature.{Branch, BranchesTo, BranchesIf, BranchesOn, Calls, ReturnsBy, Gates, Nature, Works, Idles, Derives, AddsHigh, MovesHigh, Transfers, StoresList, LoadsList, RaisesSp, LowersSp, PushesList, PopsList, Goes, nature, derived_register, transfer_register, is_access}
@@ -7,14 +8,14 @@ use Rattle.thumb_core.specs.declared.regs.TheConstants.{SP}
 use Rattle.thumb_core.specs.declared.regs.Regs.{Regs}
 use Rattle.thumb_core.specs.declared.regs.Stepped.{Stepped}
 use Rattle.thumb_core.specs.declared.regs.Stepped.TheVariants.{Done, Call, Return, Gate, Trap}
-use Rattle.thumb_core.specs.Registers.{reg, put, even, with_next}
+use Rattle.thumb_core.specs.Registers.{reg, write_register, even, with_next}
 use Rattle.thumb_core.specs.Outcome.{Outcome}
-use Rattle.thumb_core.specs.Branch.{passes, takes, branch, write_high}
+use Rattle.thumb_core.specs.Branch.{passes_condition, takes_branch, branch, write_high}
 use Rattle.thumb_core.specs.Lists.{bytes_of}
 use Rattle.thumb_core.specs.Step.{effect}
 use Rattle.thumb_core.specs.Stores.{stores_of}
 
--- a fact unless there was a trap
+-- a statement about everything but traps
 abbrev pub UnlessTrap : Stepped → Type 0 → Type 0
 UnlessTrap (Trap trap) P = Unit {0}
 UnlessTrap Done P = P
@@ -22,7 +23,7 @@ UnlessTrap (Call target ret) P = P
 UnlessTrap (Return to) P = P
 UnlessTrap (Gate number) P = P
 
--- on to the next instruction, with these registers but for pc and the flags
+-- pc advances to the next instruction, with these registers except pc and flags
 pub record GoesOn (r : List ℕ) (size : ℕ) (regs : Regs) (o : Outcome) : Type 0 where
   pub done : o.0 ≡ Done
   pub pc : o.1.pc ≡ even ((regs.pc + size) % 2 ^ 32)
@@ -31,10 +32,10 @@ pub record GoesOn (r : List ℕ) (size : ℕ) (regs : Regs) (o : Outcome) : Type
 abbrev pub Stays : ℕ → Regs → Outcome → Type 0
 Stays size regs o = GoesOn regs.r size regs o
 
--- register d alone is written
+-- only register d is written
 pub record Puts (d size : ℕ) (regs : Regs) (o : Outcome) : Type 0 where
   pub value : ℕ
-  pub on : GoesOn (put regs.r d value) size regs o
+  pub on : GoesOn (write_register regs.r d value) size regs o
 
 abbrev pub PutsAtMost : ℕ → ℕ → Regs → Outcome → Type 0
 PutsAtMost d size regs o = Puts d size regs o ⊎ Stays size regs o
@@ -45,16 +46,16 @@ pub record PutsHigh (d size : ℕ) (regs : Regs) (o : Outcome) : Type 0 where
   pub done : o.0 ≡ Done
   pub leaves : o.1 ≡ write_high d value size regs
 
--- a branch that is taken under a test changes pc alone
+-- a branch that is taken if a test holds changes only pc
 pub record BranchesWhere (test : Bool) (off : ℤ) (size : ℕ) (regs : Regs) (o : Outcome) : Type 0 where
   pub done : o.0 ≡ Done
   pub leaves : o.1 ≡ (if test then branch off regs else with_next size regs)
 
--- Of calls, returns and gates `Leaves` says what they leave.
+-- For calls, returns and SVCs see `Leaves`.
 abbrev pub FitsBranch : Branch → ℕ → Regs → Outcome → Type 0
 FitsBranch (BranchesTo off) size regs o = BranchesWhere true off size regs o
-FitsBranch (BranchesIf cond off) size regs o = BranchesWhere (passes cond regs) off size regs o
-FitsBranch (BranchesOn nonzero n off) size regs o = BranchesWhere (takes nonzero (reg regs n)) off size regs o
+FitsBranch (BranchesIf cond off) size regs o = BranchesWhere (passes_condition cond regs) off size regs o
+FitsBranch (BranchesOn nonzero n off) size regs o = BranchesWhere (takes_branch nonzero (reg regs n)) off size regs o
 FitsBranch (Calls off) size regs o = Unit {0}
 FitsBranch (ReturnsBy m) size regs o = Unit {0}
 FitsBranch (Gates number) size regs o = Unit {0}
@@ -66,11 +67,11 @@ Fits (Derives v) size regs o = PutsAtMost (derived_register v) size regs o
 Fits (AddsHigh d m) size regs o = PutsHigh d size regs o
 Fits (MovesHigh d m) size regs o = PutsHigh d size regs o
 Fits (Transfers t) size regs o = UnlessTrap o.0 (PutsAtMost (transfer_register t) size regs o)
-Fits (StoresList n list) size regs o = UnlessTrap o.0 (GoesOn (put regs.r n (reg regs n + bytes_of list)) size regs o)
+Fits (StoresList n list) size regs o = UnlessTrap o.0 (GoesOn (write_register regs.r n (reg regs n + bytes_of list)) size regs o)
 Fits (LoadsList n list) size regs o = UnlessTrap o.0 (GoesOn o.1.r size regs o)
 Fits (RaisesSp off) size regs o = Puts SP size regs o
 Fits (LowersSp off) size regs o = Puts SP size regs o
-Fits (PushesList list) size regs o = UnlessTrap o.0 (GoesOn (put regs.r SP ((reg regs SP + (2 ^ 32 - bytes_of list)) % 2 ^ 32)) size regs o)
+Fits (PushesList list) size regs o = UnlessTrap o.0 (GoesOn (write_register regs.r SP ((reg regs SP + (2 ^ 32 - bytes_of list)) % 2 ^ 32)) size regs o)
 Fits (PopsList list) size regs o = Unit {0}
 Fits (Goes b) size regs o = FitsBranch b size regs o
 

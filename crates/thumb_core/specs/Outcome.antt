@@ -1,4 +1,4 @@
--- What an instruction gives, and the ways in which it goes on or is refused.
+-- The outcome of an instruction: whether it goes on or is refused, and how.
 use Rattle.std.specs.Prelude.{ℕ}
 use Rattle.eh_bus.specs.Memory.{Memory}
 use Rattle.eh_bus.specs.declared.fault.BusFault.{BusFault}
@@ -8,17 +8,17 @@ use Rattle.thumb_core.specs.declared.regs.Stepped.{Stepped}
 use Rattle.thumb_core.specs.declared.regs.Stepped.TheVariants.{Done, Trap}
 use Rattle.thumb_core.specs.Registers.{with_next}
 
--- what was done, and the registers and the memory after it
+-- the result of a step, and the registers and memory after it
 abbrev pub Outcome : Type 0
 Outcome = Stepped × Regs × Memory
 
 -- a plain end, which leaves these registers
-abbrev pub done : Regs → Stepped × Regs
-done after = (Done, after)
+abbrev pub done_with : Regs → Stepped × Regs
+done_with after = (Done, after)
 
 -- a fault of the memory: nothing is changed
-abbrev pub refused : BusFault → Regs → Stepped × Regs
-refused fault regs = (Trap (trap.Memory fault), regs)
+abbrev pub memory_trap : BusFault → Regs → Stepped × Regs
+memory_trap fault regs = (Trap (trap.Memory fault), regs)
 
 abbrev pub fault_outcome : BusFault → Regs → Memory → Outcome
 fault_outcome fault regs m = (Trap (trap.Memory fault), regs, m)

@@ -10,23 +10,23 @@ use Rattle.thumb_core.specs.declared.arith.Sum.{Sum}
 abbrev pub even : ℕ → ℕ
 even x = x - x % 2
 
--- what register d keeps of x; a write to sp clears bits 1 and 0
+-- the word that register d keeps of x; a write to sp clears bits 1 and 0
 abbrev pub word_in : ℕ → ℕ → ℕ
 word_in d x = if d == SP then x % 2 ^ 32 - x % 2 ^ 32 % 4 else x % 2 ^ 32
 
 -- x written to register d of a list of registers
-abbrev pub put : List ℕ → ℕ → ℕ → List ℕ
-put r d x = slice_set r d (word_in d x)
+abbrev pub write_register : List ℕ → ℕ → ℕ → List ℕ
+write_register r d x = slice_set r d (word_in d x)
 
 -- x written to one of the registers r0 to r14
 abbrev pub with_reg : Regs → ℕ → ℕ → Regs
-with_reg regs d x = record regs { r = put regs.r d x }
+with_reg regs d x = record regs { r = write_register regs.r d x }
 
 -- x written to pc, whose bit 0 is always clear
 abbrev pub with_pc : Regs → ℕ → Regs
 with_pc regs x = record regs { pc = even (x % 2 ^ 32) }
 
--- on to the instruction that follows one of `size` bytes
+-- advances pc to the next instruction, after one of `size` bytes
 abbrev pub with_next : ℕ → Regs → Regs
 with_next size regs = with_pc regs (regs.pc + size)
 
@@ -47,16 +47,16 @@ abbrev pub reg : Regs → ℕ → ℕ
 reg regs k = slice_index regs.r k
 
 -- pc as an operand: the instruction's address plus 4
-abbrev pub pc_read : Regs → ℕ
-pc_read regs = (regs.pc + 4) % 2 ^ 32
+abbrev pub pc_operand : Regs → ℕ
+pc_operand regs = (regs.pc + 4) % 2 ^ 32
 
 -- a register as an operand, pc among them
 abbrev pub operand : Regs → ℕ → ℕ
-operand regs k = if k == PC then pc_read regs else reg regs k
+operand regs k = if k == PC then pc_operand regs else reg regs k
 
 -- pc as an operand, rounded down to a multiple of 4
 abbrev pub base : Regs → ℕ
-base regs = pc_read regs - pc_read regs % 4
+base regs = pc_operand regs - pc_operand regs % 4
 
 -- r0 to r14 and pc, in this order
 abbrev pub all_of : Regs → List ℕ

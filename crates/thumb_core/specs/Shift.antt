@@ -1,9 +1,9 @@
--- Shifts on whole numbers, with the last bit that goes out.
+-- Shifts of whole numbers, with the last bit that is shifted out.
 use Rattle.std.specs.Prelude.{ℕ, ◌-◌, ◌*◌, ◌/◌, ◌%◌, ◌^◌, pos, Bool, ◌==◌, nat_le, if◌then◌else◌}
 use Rattle.thumb_core.specs.declared.shift.TheConstants.{LSL, LSR}
 use Rattle.std.specs.Int.{cast_signed, cast_unsigned, w32, int_div_euclid, rotate_right}
 
--- LSL: x times 2 ^ n. What is left of it in 32 bits, and the lowest bit that is lost
+-- LSL: x times 2 ^ n, modulo 2 ^ 32, and the lowest bit that is lost
 abbrev pub left_shift : ℕ → ℕ → ℕ × Bool
 left_shift x n = (x * 2 ^ n % 2 ^ 32, x * 2 ^ n / 2 ^ 32 % 2 == 1)
 
@@ -23,7 +23,7 @@ shift_of op x n carry =
     if n == 0 then (x, carry)
     else (if op == LSL then left_shift x n else (if op == LSR then right_shift x n else signed_shift x n))
 
--- ROR: x turned right by n bits, and the bit that comes to the top
+-- ROR: x rotated right by n bits, and its new top bit
 abbrev pub rotation_of : ℕ → ℕ → Bool → ℕ × Bool
 rotation_of x n carry =
     if n == 0 then (x, carry) else (rotate_right w32 x n, nat_le (2 ^ 31) (rotate_right w32 x n))

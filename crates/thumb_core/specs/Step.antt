@@ -6,7 +6,7 @@ use Rattle.thumb_isa.specs.declared.instr.Decoded.{Decoded}
 use Rattle.thumb_isa.specs.declared.instr.Decoded.TheVariants.{Is, Undefined, Unpredictable, NotInProfile}
 use Rattle.thumb_isa.specs.declared.profile.Profile.{Profile}
 use Rattle.thumb_isa.specs.declared.profile.Profile.TheVariants.{One}
-use Rattle.thumb_isa.specs.Rows.{decoded_for}
+use Rattle.thumb_isa.specs.Rows.{decode_result_for}
 use Rattle.eh_bus.specs.Memory.{Memory, fetch}
 use Rattle.eh_bus.specs.declared.fault.BusFault.{BusFault}
 use Rattle.thumb_core.specs.declared.regs.Regs.{Regs}
@@ -18,7 +18,7 @@ use Rattle.thumb_core.specs.Access.{ldr_lit, mem_reg, mem_imm, mem_sp}
 use Rattle.thumb_core.specs.Branch.{register_effect}
 use Rattle.thumb_core.specs.Lists.{push, pop, stm, ldm}
 
--- what an instruction of `size` bytes does: those that load and store, else those that leave the memory alone
+-- the effect of an instruction of `size` bytes: of loads and stores, or else of those that leave the memory unchanged
 abbrev pub effect : Instr → ℕ → Regs → Memory → Outcome
 effect (LdrLit t off) size regs m = ldr_lit t off size regs m
 effect (MemReg op t n k) size regs m = mem_reg op t n k size regs m
@@ -30,23 +30,23 @@ effect (Stm n list) size regs m = stm n list size regs m
 effect (Ldm n list) size regs m = ldm n list size regs m
 effect i size regs m = with_memory (register_effect i size regs) m
 
--- an instruction acts; for halfwords that are none the trap holds the first of them, and nothing is changed
+-- an instruction has its effect; halfwords that are none give a trap with the first of them, and change nothing
 abbrev pub outcome_of : Decoded → ℕ → Regs → Memory → Outcome
 outcome_of (Is i size) first regs m = effect i size regs m
 outcome_of Undefined first regs m = (Trap (trap.Undefined first), regs, m)
 outcome_of Unpredictable first regs m = (Trap (trap.Unpredictable first), regs, m)
 outcome_of NotInProfile first regs m = (Trap (trap.NotInProfile first), regs, m)
 
--- with the second halfword of a wide encoding, by the rows of a profile
+-- with the second halfword of a 32-bit encoding, decoded by a profile
 abbrev pub with_second : Profile → Result ℕ BusFault → ℕ → Regs → Memory → Outcome
-with_second p (Ok second) first regs m = outcome_of (decoded_for p first second) first regs m
+with_second p (Ok second) first regs m = outcome_of (decode_result_for p first second) first regs m
 with_second p (Err fault) first regs m = fault_outcome fault regs m
 
--- with the first halfword: a second one is fetched before anything is decoded
+-- with the first halfword: the second is fetched, if there is one, before anything is decoded
 abbrev pub with_first : Profile → Result ℕ BusFault → Regs → Memory → Outcome
 with_first p (Ok first) regs m =
     if nat_le 0xe800 first then with_second p (fetch m ((regs.pc + 2) % 2 ^ 32)) first regs m
-    else outcome_of (decoded_for p first 0) first regs m
+    else outcome_of (decode_result_for p first 0) first regs m
 with_first p (Err fault) regs m = fault_outcome fault regs m
 
 -- the instruction at pc
@@ -66,12 +66,12 @@ instr_of Unpredictable = None
 instr_of NotInProfile = None
 
 abbrev pub instr_of_second : Profile → Result ℕ BusFault → ℕ → Option (Instr × ℕ)
-instr_of_second p (Ok second) first = instr_of (decoded_for p first second)
+instr_of_second p (Ok second) first = instr_of (decode_result_for p first second)
 instr_of_second p (Err fault) first = None
 
 abbrev pub instr_of_first : Profile → Result ℕ BusFault → Memory → ℕ → Option (Instr × ℕ)
 instr_of_first p (Ok first) m a =
-    if nat_le 0xe800 first then instr_of_second p (fetch m ((a + 2) % 2 ^ 32)) first else instr_of (decoded_for p first 0)
+    if nat_le 0xe800 first then instr_of_second p (fetch m ((a + 2) % 2 ^ 32)) first else instr_of (decode_result_for p first 0)
 instr_of_first p (Err fault) m a = None
 
 abbrev pub instr_for : Profile → Memory → ℕ → Option (Instr × ℕ)
@@ -87,7 +87,7 @@ abbrev pub fetched_instr : Result (Instr × ℕ) CoreTrap → Option (Instr × �
 fetched_instr (Ok (i, size)) = Some (i, size)
 fetched_instr (Err trap) = None
 
--- that instruction acts; a trap changes nothing
+-- the instruction has its effect; a trap changes nothing
 abbrev pub outcome_from : Result (Instr × ℕ) CoreTrap → Regs → Memory → Outcome
 outcome_from (Ok (i, size)) regs m = effect i size regs m
 outcome_from (Err trap) regs m = (Trap trap, regs, m)

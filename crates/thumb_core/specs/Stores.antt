@@ -1,5 +1,5 @@
--- The bytes that an instruction may store to, told from the registers alone (the address of each store in DDI 0419, and its
--- width). Addresses wrap at 2 ^ 32.
+-- The bytes that an instruction may store to, computed from the registers alone (the address and width of each store in
+-- DDI 0419). Addresses wrap at 2 ^ 32.
 use Rattle.std.specs.Prelude.{ℕ, ◌≡◌, ◌+◌, ◌-◌, ◌%◌, ◌^◌, ◌<◌, true, false, ◌==◌, Option, Some, None, if◌then◌else◌}
 use Rattle.thumb_isa.specs.declared.instr.Instr.{Instr}
 use Rattle.thumb_isa.specs.declared.instr.Instr.TheVariants.{MemReg, MemImm, MemSp, Push, Stm}
@@ -29,19 +29,19 @@ Misses s a n = (k : ℕ) → k < n → ¬ Covers s (a + k)
 abbrev pub span : ℕ → ℕ → Option Span
 span a n = Some (record { start = a; size = n })
 
--- the stores among the loads and stores at the sum of two registers
+-- the stores among loads and stores with a register offset
 abbrev pub reg_span : ℕ → ℕ → Option Span
 reg_span op a =
     if op == STR_REG then span a 4 else (if op == STRH_REG then span a 2 else (if op == STRB_REG then span a 1 else None))
 
--- those at a register and an offset
+-- the stores among those with an immediate offset
 abbrev pub imm_span : ℕ → ℕ → Option Span
 imm_span op a =
     if op == STR_IMM then span a 4 else (if op == LDR_IMM then None else (
     if op == STRB_IMM then span a 1 else (if op == LDRB_IMM then None else (
     if op == STRH_IMM then span a 2 else None))))
 
--- the bytes that an instruction stores to unless it traps, and None for one that stores nothing
+-- the bytes that an instruction stores to unless it traps; None if it stores nothing
 abbrev pub stores_of : Instr → Regs → Option Span
 stores_of (MemReg op t n k) regs = reg_span op ((reg regs n + reg regs k) % 2 ^ 32)
 stores_of (MemImm op t n off) regs = imm_span op (forward (reg regs n) off)
@@ -51,7 +51,7 @@ stores_of (Push list) regs = span ((reg regs SP + (2 ^ 32 - bytes_of list)) % 2 
 stores_of (Stm n list) regs = span (reg regs n) (bytes_of list)
 stores_of i regs = None
 
--- the same of the instruction that stands somewhere
+-- the same for an instruction, if there is one
 abbrev pub stores_of_some : Option (Instr × ℕ) → Regs → Option Span
 stores_of_some None regs = None
 stores_of_some (Some (i, size)) regs = stores_of i regs
@@ -60,7 +60,7 @@ stores_of_some (Some (i, size)) regs = stores_of i regs
 abbrev pub stores_for : Profile → Memory → Regs → Option Span
 stores_for p m regs = stores_of_some (instr_for p m regs.pc) regs
 
--- what is read of bytes that none of these meets is as before
+-- reads of bytes outside of these are unchanged
 pub record SameApart (s : Span) (old new : Memory) : Type 0 where
   pub loads : (n a : ℕ) → 0 < n → Misses s a n → load n new a ≡ load n old a
   pub fetches : (a : ℕ) → Misses s a 2 → fetch new a ≡ fetch old a

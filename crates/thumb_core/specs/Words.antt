@@ -1,30 +1,30 @@
--- Register lists, and words loaded into registers from a list of places. Both a POP and a frame's unwinding are such loads.
+-- Register lists, and registers loaded from a list of places. Both POP and the unwinding of a frame are such loads.
 use Rattle.std.specs.Prelude.{ℕ, ◌+◌, ◌%◌, ◌^◌, ◌==◌, List, [], ◌∷◌, filter, slice_index, Result, Ok, Err}
 use Rattle.std.specs.Int.{bit_at}
 use Rattle.eh_bus.specs.Segment.{Segment}
-use Rattle.eh_bus.specs.Memory.{loads}
+use Rattle.eh_bus.specs.Memory.{load_number}
 use Rattle.eh_bus.specs.declared.fault.BusFault.{BusFault}
-use Rattle.thumb_core.specs.Registers.{put}
+use Rattle.thumb_core.specs.Registers.{write_register}
 
 -- the numbers of the registers
 abbrev pub numbers : List ℕ
 numbers = 0 ∷ 1 ∷ 2 ∷ 3 ∷ 4 ∷ 5 ∷ 6 ∷ 7 ∷ 8 ∷ 9 ∷ 10 ∷ 11 ∷ 12 ∷ 13 ∷ 14 ∷ 15 ∷ []
 
 -- the registers of a mask, the lowest first: bit k stands for register k
-unfoldable pub listed : ℕ → List ℕ
-listed mask = filter (λ k. bit_at mask k == 1) numbers
+unfoldable pub registers_of_list : ℕ → List ℕ
+registers_of_list mask = filter (λ k. bit_at mask k == 1) numbers
 
 -- the words of these registers
 abbrev pub words_in : List ℕ → List ℕ → List ℕ
 words_in r [] = []
 words_in r (k ∷ more) = slice_index r k ∷ words_in r more
 
--- a register that takes a word, and how many bytes above a base the word stands
+-- a register to load, and the offset in bytes of its word from a base
 pub record Load : Type 0 where
   pub reg : ℕ
   pub at : ℕ
 
--- registers from consecutive words, the first of them at an offset
+-- loads of registers from consecutive words, the first at an offset
 abbrev pub loads_from : ℕ → List ℕ → List Load
 loads_from at [] = []
 loads_from at (k ∷ more) = record { reg = k; at = at } ∷ loads_from (at + 4) more
@@ -39,4 +39,4 @@ abbrev pub ◌>>=◌ : {A C : Type 0} → Result A BusFault → (A → Result C 
 abbrev pub load_words : List Segment → ℕ → List Load → List ℕ → Result (List ℕ) BusFault
 load_words segments base [] r = Ok r
 load_words segments base (w ∷ more) r =
-    loads 4 segments ((base + w.at) % 2 ^ 32) >>= λ x. load_words segments base more (put r w.reg x)
+    load_number 4 segments ((base + w.at) % 2 ^ 32) >>= λ x. load_words segments base more (write_register r w.reg x)

@@ -1,4 +1,4 @@
-//! The sixteen operations on two low registers (docs/core.md, "Data").
+//! The sixteen data processing operations on two low registers (docs/rules/instructions.md, "Data and flags").
 ghost use Rattle.std.specs.Prelude.{◌≡◌, ◌<◌};
 ghost use Rattle.thumb_core.specs.Alu.{logic, of_sum, of_shift, alu_of, alu, with_answer};
 
@@ -6,49 +6,69 @@ use crate::arith::{Sum, add, subtract};
 use crate::regs::Regs;
 use crate::shift::{self, rotation_of, shift_of};
 
-// The numbers of the operations of `Instr::Alu`, which are the opcode field of their encoding (DDI 0419, data processing).
+// The operations of `Instr::Alu`; the numbers are the opcode field of their encoding (DDI 0419, data processing).
+/// AND.
 pub const AND: u8 = 0;
 
+/// EOR.
 pub const EOR: u8 = 1;
 
+/// LSL.
 pub const LSL: u8 = 2;
 
+/// LSR.
 pub const LSR: u8 = 3;
 
+/// ASR.
 pub const ASR: u8 = 4;
 
+/// ADC.
 pub const ADC: u8 = 5;
 
+/// SBC.
 pub const SBC: u8 = 6;
 
+/// ROR.
 pub const ROR: u8 = 7;
 
+/// TST.
 pub const TST: u8 = 8;
 
+/// RSB.
 pub const RSB: u8 = 9;
 
+/// CMP.
 pub const CMP: u8 = 10;
 
+/// CMN.
 pub const CMN: u8 = 11;
 
+/// ORR.
 pub const ORR: u8 = 12;
 
+/// MUL.
 pub const MUL: u8 = 13;
 
+/// BIC.
 pub const BIC: u8 = 14;
 
+/// MVN.
 pub const MVN: u8 = 15;
 
-/// What an operation gives: the value, whether it is written to the register, and C and V.
+/// The result of an operation.
 #[derive(Clone, Copy)]
 pub struct Answer {
+    /// The value; N and Z follow it.
     pub value: u32,
+    /// Whether the value is written to the register.
     pub written: bool,
+    /// The new C flag.
     pub carry: bool,
+    /// The new V flag.
     pub overflow: bool,
 }
 
-/// One of the sixteen operations on two low registers.
+/// Performs one of the sixteen operations on two low registers.
 pub(crate) fn alu(op: u8, d: u8, m: u8, regs: &mut Regs)
     requires d_in { d < 8 }
     requires m_in { m < 8 }
@@ -58,6 +78,7 @@ pub(crate) fn alu(op: u8, d: u8, m: u8, regs: &mut Regs)
     take_answer(answer, d, regs);
 }
 
+/// Writes the result of an operation to the register and the flags.
 fn take_answer(answer: Answer, d: u8, regs: &mut Regs)
     requires d_in { d < 8 }
     ensures { regs.new ≡ with_answer answer d regs.old }
@@ -70,6 +91,7 @@ fn take_answer(answer: Answer, d: u8, regs: &mut Regs)
     regs.v = answer.overflow;
 }
 
+/// The result of a logical operation, which keeps C and V.
 fn logic(value: u32, written: bool, regs: &Regs) -> Answer
     ensures { result ≡ logic value written regs.now }
 {
@@ -81,6 +103,7 @@ fn logic(value: u32, written: bool, regs: &Regs) -> Answer
     }
 }
 
+/// The result of a sum, which sets C and V.
 fn of_sum(sum: Sum, written: bool) -> Answer
     ensures { result ≡ of_sum sum written }
 {
@@ -92,6 +115,7 @@ fn of_sum(sum: Sum, written: bool) -> Answer
     }
 }
 
+/// The result of a shift, which sets C and keeps V.
 fn of_shift(shift: (u32, bool), regs: &Regs) -> Answer
     ensures { result ≡ of_shift shift regs.now }
 {
@@ -104,7 +128,7 @@ fn of_shift(shift: (u32, bool), regs: &Regs) -> Answer
     }
 }
 
-/// What an operation gives of two words. A shift goes by the lowest byte of the second.
+/// The result of an operation on two words. A shift amount is the lowest byte of the second.
 fn alu_of(op: u8, x: u32, y: u32, regs: &Regs) -> Answer
     ensures { result ≡ alu_of op x y regs.now }
 {

@@ -1,43 +1,57 @@
-//! Branches, calls, returns, and the instructions that may write pc (docs/core.md, "Branches").
+//! Branches, calls, returns, and instructions that may write pc (docs/rules/instructions.md, "Branches and calls").
 ghost use Rattle.std.specs.Prelude.{◌≡◌, ◌<◌};
-ghost use Rattle.thumb_core.specs.Outcome.{done};
-ghost use Rattle.thumb_core.specs.Branch.{passes, takes, target_of, branch, branch_if, compare_branch, write_high, add_high, mov_high, call_to, bl, blx, bx, svc};
+ghost use Rattle.thumb_core.specs.Outcome.{done_with};
+ghost use Rattle.thumb_core.specs.Branch.{passes_condition, takes_branch, target_of, branch, branch_if, compare_branch, write_high, add_high, mov_high, call_to, bl, blx, bx, svc};
 
 use crate::data::forward;
 use crate::regs::{CoreTrap, LR, PC, Regs, Stepped, even};
 
-// The numbers of the conditions of `Instr::BCond` (DDI 0419, the table of condition codes).
+// The conditions of `Instr::BCond` (DDI 0419, the table of condition codes).
+/// Equal: Z is set.
 pub const EQ: u8 = 0;
 
+/// Not equal: Z is clear.
 pub const NE: u8 = 1;
 
+/// Carry set, unsigned higher or same.
 pub const CS: u8 = 2;
 
+/// Carry clear, unsigned lower.
 pub const CC: u8 = 3;
 
+/// Minus: N is set.
 pub const MI: u8 = 4;
 
+/// Plus: N is clear.
 pub const PL: u8 = 5;
 
+/// Overflow: V is set.
 pub const VS: u8 = 6;
 
+/// No overflow: V is clear.
 pub const VC: u8 = 7;
 
+/// Unsigned higher.
 pub const HI: u8 = 8;
 
+/// Unsigned lower or same.
 pub const LS: u8 = 9;
 
+/// Signed greater or equal.
 pub const GE: u8 = 10;
 
+/// Signed less.
 pub const LT: u8 = 11;
 
+/// Signed greater.
 pub const GT: u8 = 12;
 
+/// Signed less or equal.
 pub const LE: u8 = 13;
 
 /// Whether a condition holds.
-pub fn passes(cond: u8, regs: &Regs) -> bool
-    ensures { result ≡ passes cond regs.now }
+pub fn passes_condition(cond: u8, regs: &Regs) -> bool
+    ensures { result ≡ passes_condition cond regs.now }
 {
     match cond {
         EQ => regs.z,
@@ -57,14 +71,14 @@ pub fn passes(cond: u8, regs: &Regs) -> bool
     }
 }
 
-/// Where a branch goes.
+/// The target address of a branch.
 fn target_of(off: i32, regs: &Regs) -> u32
     ensures { result ≡ target_of off regs.now }
 {
-    forward(regs.pc_read(), off)
+    forward(regs.pc_operand(), off)
 }
 
-/// Goes to where a branch leads.
+/// Takes a branch.
 fn branch(off: i32, regs: &mut Regs)
     ensures { regs.new ≡ branch off regs.old }
 {
@@ -74,17 +88,17 @@ fn branch(off: i32, regs: &mut Regs)
 
 /// B, of either width.
 pub(crate) fn b(off: i32, regs: &mut Regs) -> Stepped
-    ensures { (result, regs.new) ≡ done (branch off regs.old) }
+    ensures { (result, regs.new) ≡ done_with (branch off regs.old) }
 {
     branch(off, regs);
     Stepped::Done
 }
 
-/// A branch under a condition.
+/// A conditional branch.
 pub(crate) fn branch_if(cond: u8, off: i32, size: u32, regs: &mut Regs) -> Stepped
-    ensures { (result, regs.new) ≡ done (branch_if cond off size regs.old) }
+    ensures { (result, regs.new) ≡ done_with (branch_if cond off size regs.old) }
 {
-    if passes(cond, regs) {
+    if passes_condition(cond, regs) {
         branch(off, regs);
     } else {
         regs.advance(size);
@@ -92,19 +106,19 @@ pub(crate) fn branch_if(cond: u8, off: i32, size: u32, regs: &mut Regs) -> Stepp
     Stepped::Done
 }
 
-/// Whether CBZ takes its branch by what its register has, or CBNZ, where `nonzero`.
-pub fn takes(nonzero: bool, value: u32) -> bool
-    ensures { result ≡ takes nonzero value }
+/// Whether CBNZ (if `nonzero`) or CBZ (if not) takes its branch on this register value.
+pub fn takes_branch(nonzero: bool, value: u32) -> bool
+    ensures { result ≡ takes_branch nonzero value }
 {
     if nonzero { value != 0 } else { value == 0 }
 }
 
-/// CBZ and CBNZ.
+/// CBZ or CBNZ.
 pub(crate) fn compare_branch(nonzero: bool, n: u8, off: i32, size: u32, regs: &mut Regs) -> Stepped
     requires { n < 15 }
-    ensures { (result, regs.new) ≡ done (compare_branch nonzero n off size regs.old) }
+    ensures { (result, regs.new) ≡ done_with (compare_branch nonzero n off size regs.old) }
 {
-    if takes(nonzero, regs.reg(n)) {
+    if takes_branch(nonzero, regs.reg(n)) {
         branch(off, regs);
     } else {
         regs.advance(size);
@@ -112,15 +126,15 @@ pub(crate) fn compare_branch(nonzero: bool, n: u8, off: i32, size: u32, regs: &m
     Stepped::Done
 }
 
-/// Writes a register, low or high; a write to pc is a branch.
+/// Writes a register, low or high; writing pc branches.
 fn write_high(d: u8, x: u32, size: u32, regs: &mut Regs) -> Stepped
     requires { d < 16 }
-    ensures { (result, regs.new) ≡ done (write_high d x size regs.old) }
+    ensures { (result, regs.new) ≡ done_with (write_high d x size regs.old) }
 {
     if d == PC {
         regs.go_to(x);
     } else {
-        regs.put(d, x);
+        regs.set_register(d, x);
         regs.advance(size);
     }
     Stepped::Done
@@ -130,7 +144,7 @@ fn write_high(d: u8, x: u32, size: u32, regs: &mut Regs) -> Stepped
 pub(crate) fn add_high(d: u8, m: u8, size: u32, regs: &mut Regs) -> Stepped
     requires d_in { d < 16 }
     requires m_in { m < 16 }
-    ensures { (result, regs.new) ≡ done (add_high d m size regs.old) }
+    ensures { (result, regs.new) ≡ done_with (add_high d m size regs.old) }
 {
     let sum = regs.operand(d).wrapping_add(regs.operand(m));
     write_high(d, sum, size, regs)
@@ -140,18 +154,18 @@ pub(crate) fn add_high(d: u8, m: u8, size: u32, regs: &mut Regs) -> Stepped
 pub(crate) fn mov_high(d: u8, m: u8, size: u32, regs: &mut Regs) -> Stepped
     requires d_in { d < 16 }
     requires m_in { m < 16 }
-    ensures { (result, regs.new) ≡ done (mov_high d m size regs.old) }
+    ensures { (result, regs.new) ≡ done_with (mov_high d m size regs.old) }
 {
     let value = regs.operand(m);
     write_high(d, value, size, regs)
 }
 
-/// A call: lr takes the next instruction's address with bit 0 set.
+/// A call: sets lr to the next instruction's address with bit 0 set.
 fn call_to(target: u32, size: u32, regs: &mut Regs) -> Stepped
     ensures { (result, regs.new) ≡ call_to target size regs.old }
 {
     let ret = even(regs.pc.wrapping_add(size)) + 1;
-    regs.put(LR, ret);
+    regs.set_register(LR, ret);
     regs.go_to(target);
     Stepped::Call {
         target: even(target),

@@ -1,4 +1,4 @@
-//! Instructions that change low registers, sp and flags alone, pc apart (docs/core.md, "Data").
+//! Instructions that change only low registers, sp and the flags, besides pc (docs/rules/instructions.md, "Data and flags").
 ghost use Rattle.std.specs.Prelude.{◌≡◌, ◌+◌, ◌*◌, ◌%◌, ◌^◌, ◌<◌};
 ghost use Rattle.thumb_core.specs.Arith.{sum_or_difference, sign_extension};
 ghost use Rattle.thumb_core.specs.Data.{forward, backward, with_value, with_sum, shift_imm, add_sub_reg, add_sub_imm, imm8, cmp_high, extension_of, half_reversal, reversal_of};
@@ -7,45 +7,57 @@ use crate::arith::{Sum, add, subtract};
 use crate::regs::Regs;
 use crate::shift::shift_of;
 
-// The numbers of the operations of `Instr::Imm8`.
+// The operations of `Instr::Imm8`.
+/// MOV (immediate).
 pub const MOV: u8 = 0;
 
+/// CMP (immediate).
 pub const CMP: u8 = 1;
 
+/// ADD (immediate).
 pub const ADD: u8 = 2;
 
+/// SUB (immediate).
 pub const SUB: u8 = 3;
 
-// The numbers of the operations of `Instr::Extend`.
+// The operations of `Instr::Extend`.
+/// SXTH.
 pub const SXTH: u8 = 0;
 
+/// SXTB.
 pub const SXTB: u8 = 1;
 
+/// UXTH.
 pub const UXTH: u8 = 2;
 
+/// UXTB.
 pub const UXTB: u8 = 3;
 
-// The numbers of the operations of `Instr::Rev`.
+// The operations of `Instr::Rev`.
+/// REV.
 pub const REV: u8 = 0;
 
+/// REV16.
 pub const REV16: u8 = 1;
 
+/// REVSH.
 pub const REVSH: u8 = 3;
 
-/// An address some bytes further on.
+/// The address `off` bytes after `a`, modulo 2^32.
 pub(crate) fn forward(a: u32, off: i32) -> u32
     ensures { result ≡ forward a off }
 {
     a.wrapping_add_signed(off)
 }
 
-/// An address some bytes further back.
+/// The address `off` bytes before `a`, modulo 2^32.
 pub(crate) fn backward(a: u32, off: i32) -> u32
     ensures { result ≡ backward a off }
 {
     a.wrapping_sub(off.cast_unsigned())
 }
 
+/// Writes a value to a register, and N and Z.
 fn set_value(d: u8, x: u32, regs: &mut Regs)
     requires { d < 8 }
     ensures { regs.new ≡ with_value d x regs.old }
@@ -54,6 +66,7 @@ fn set_value(d: u8, x: u32, regs: &mut Regs)
     regs.set_nz(x);
 }
 
+/// Writes a sum to a register, and all four flags.
 fn set_sum(d: u8, sum: Sum, regs: &mut Regs)
     requires { d < 8 }
     ensures { regs.new ≡ with_sum d sum regs.old }
@@ -62,7 +75,7 @@ fn set_sum(d: u8, sum: Sum, regs: &mut Regs)
     regs.set_flags(sum);
 }
 
-/// The sum or the difference.
+/// The difference if `sub`, else the sum.
 fn sum_or_difference(sub: bool, x: u32, y: u32) -> Sum
     ensures { result ≡ sum_or_difference sub x y }
 {
@@ -73,7 +86,7 @@ fn sum_or_difference(sub: bool, x: u32, y: u32) -> Sum
     }
 }
 
-/// LSL, LSR and ASR by a constant.
+/// LSL, LSR or ASR by an immediate amount.
 pub(crate) fn shift_imm(op: u8, d: u8, m: u8, n: u32, regs: &mut Regs)
     requires d_in { d < 8 }
     requires m_in { m < 8 }
@@ -84,7 +97,7 @@ pub(crate) fn shift_imm(op: u8, d: u8, m: u8, n: u32, regs: &mut Regs)
     regs.c = carry;
 }
 
-/// ADD and SUB of two registers.
+/// ADD or SUB of two registers.
 pub(crate) fn add_sub_reg(sub: bool, d: u8, n: u8, m: u8, regs: &mut Regs)
     requires d_in { d < 8 }
     requires n_in { n < 8 }
@@ -95,7 +108,7 @@ pub(crate) fn add_sub_reg(sub: bool, d: u8, n: u8, m: u8, regs: &mut Regs)
     set_sum(d, sum, regs);
 }
 
-/// ADD and SUB of a small number.
+/// ADD or SUB of a small immediate.
 pub(crate) fn add_sub_imm(sub: bool, d: u8, n: u8, imm: u32, regs: &mut Regs)
     requires d_in { d < 8 }
     requires n_in { n < 8 }
@@ -105,7 +118,7 @@ pub(crate) fn add_sub_imm(sub: bool, d: u8, n: u8, imm: u32, regs: &mut Regs)
     set_sum(d, sum, regs);
 }
 
-/// MOV, CMP, ADD and SUB of a byte.
+/// MOV, CMP, ADD or SUB of an 8-bit immediate.
 pub(crate) fn imm8(op: u8, d: u8, imm: u32, regs: &mut Regs)
     requires { d < 8 }
     ensures { regs.new ≡ imm8 op d imm regs.old }
@@ -119,7 +132,7 @@ pub(crate) fn imm8(op: u8, d: u8, imm: u32, regs: &mut Regs)
     }
 }
 
-/// CMP of two registers of which one is high.
+/// CMP of two registers, at least one of them high.
 pub(crate) fn cmp_high(n: u8, m: u8, regs: &mut Regs)
     requires n_in { n < 16 }
     requires m_in { m < 16 }
@@ -129,7 +142,7 @@ pub(crate) fn cmp_high(n: u8, m: u8, regs: &mut Regs)
     regs.set_flags(difference);
 }
 
-/// The lowest byte as a signed number.
+/// The lowest byte, extended by its sign.
 pub(crate) fn signed_byte(x: u32) -> u32
     ensures { result ≡ sign_extension 8 x }
 {
@@ -137,7 +150,7 @@ pub(crate) fn signed_byte(x: u32) -> u32
     if low < 0x80 { low } else { low + 0xffff_ff00 }
 }
 
-/// The lowest halfword as a signed number.
+/// The lowest halfword, extended by its sign.
 pub(crate) fn signed_half(x: u32) -> u32
     ensures { result ≡ sign_extension 16 x }
 {
@@ -145,7 +158,7 @@ pub(crate) fn signed_half(x: u32) -> u32
     if low < 0x8000 { low } else { low + 0xffff_0000 }
 }
 
-/// What SXTH, SXTB, UXTH and UXTB give.
+/// The result of SXTH, SXTB, UXTH or UXTB.
 pub(crate) fn extension_of(op: u8, x: u32) -> u32
     ensures { result ≡ extension_of op x }
 {
@@ -157,7 +170,7 @@ pub(crate) fn extension_of(op: u8, x: u32) -> u32
     }
 }
 
-/// The two lowest bytes, the other way round.
+/// The two lowest bytes, swapped.
 fn half_reversal(x: u32) -> u32
     ensures value { result ≡ half_reversal x }
     ensures low { result < 0x10000 }
@@ -165,7 +178,7 @@ fn half_reversal(x: u32) -> u32
     x / 0x100 % 0x100 + x % 0x100 * 0x100
 }
 
-/// What REV, REV16 and REVSH give.
+/// The result of REV, REV16 or REVSH.
 pub(crate) fn reversal_of(op: u8, x: u32) -> u32
     ensures { result ≡ reversal_of op x }
 {
@@ -176,7 +189,7 @@ pub(crate) fn reversal_of(op: u8, x: u32) -> u32
     }
 }
 
-/// A word whose upper half is `imm`, and whose lower half is that of `x`.
+/// The word with upper half `imm` and the lower half of `x`.
 pub(crate) fn top_of(imm: u32, x: u32) -> u32
     requires { imm < 2 ^ 16 }
     ensures { result ≡ imm * 2 ^ 16 + x % 2 ^ 16 }

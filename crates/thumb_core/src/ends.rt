@@ -1,30 +1,30 @@
-//! How a run ends: causes, traps and ends, which the machines above share (docs/core.md, "Ends").
+//! How a run ends: causes of termination, traps and other ends, shared by all machines (docs/rules/instructions.md, "Ends").
 ghost use Rattle.std.specs.Prelude.{◌≡◌, ◌≤◌, length};
 ghost use Rattle.thumb_core.specs.EndNames.{cause_name, kind_name};
 
 /// Why a run terminates: the C++ runtime would call `std::terminate`.
 #[derive(Clone, Copy, PartialEq, Eq, Debug)]
 pub enum Cause {
-    /// No frame has a handler for the thrown object.
+    /// No frame has a handler for the exception.
     NoHandler,
-    /// A frame has no unwind entry, or one that says that it can't be unwound.
+    /// A frame has no unwind entry, or its entry forbids unwinding.
     CannotUnwind,
-    /// The exception would leave a function that promises to throw nothing.
+    /// The exception would leave a function that must not throw.
     NoThrow,
-    /// The exception would leave a cleanup that is in progress.
+    /// The exception would leave a cleanup that is running.
     LeavesCleanup,
-    /// The exception isn't among those that a function's specification names.
+    /// The exception violates a function's exception specification.
     Unexpected,
-    /// A rethrow where no exception is caught.
+    /// A rethrow while no exception is caught.
     NothingCaught,
-    /// No slot of the pool is free.
+    /// The pool has no free slot for an exception.
     PoolFull,
-    /// The program asked for it.
+    /// The program called for termination.
     Called,
 }
 
 impl Cause {
-    /// The name of the cause, as a report writes it.
+    /// The name of the cause in reports.
     pub fn name(self) -> &'static [u8]
         ensures name { result.now ≡ cause_name self }
         ensures short { length result.now ≤ 16 }
@@ -42,63 +42,64 @@ impl Cause {
     }
 }
 
-/// What kind of trap ends a run. The value beside it, in `End::Trap`, is named here.
+/// The kind of a trap. Each variant says what the value in `End::Trap` is.
 #[derive(Clone, Copy, PartialEq, Eq, Debug)]
 pub enum TrapKind {
-    /// The first halfword.
+    /// An undefined instruction; the value is its first halfword.
     Undefined,
-    /// The first halfword.
+    /// An instruction that the manual calls unpredictable; the value is its first halfword.
     Unpredictable,
-    /// The first halfword.
+    /// A system instruction that this core doesn't have; the value is its first halfword.
     NotInProfile,
-    /// The target.
+    /// A branch to an address with bit 0 clear; the value is the target.
     EvenTarget,
-    /// The address.
+    /// An access outside of every segment; the value is the address.
     Unmapped,
-    /// The address.
+    /// An unaligned access; the value is the address.
     Unaligned,
-    /// The address.
+    /// A store to a segment that isn't writable; the value is the address.
     ReadOnly,
-    /// The address of the guarded word.
+    /// A store to a guarded word; the value is the address of that word.
     SavedSlot,
-    /// The address.
+    /// An access to the closed part of a pool slot; the value is the address.
     Protected,
-    /// The address.
+    /// A fetch from a segment that isn't executable; the value is the address.
     NotExecutable,
-    /// The pc, or the start of the function that follows.
+    /// Control left the code of a function without a branch: the checker reached no instruction at pc, or the next function begins
+    /// there. The value is the pc, or the start of the next function.
     FellOff,
-    /// The new sp.
+    /// sp rose where the checker allows only that it is lowered; the value is the new sp.
     SpRaised,
-    /// The new sp.
+    /// sp rose above the landing sp of the innermost cleanup in progress; the value is the new sp.
     SpInCleanup,
-    /// The new sp.
+    /// sp is below the running stack; the value is the new sp.
     StackLimit,
-    /// The target.
+    /// A call to an address where no function begins; the value is the target.
     BadCallTarget,
-    /// The gate's number.
+    /// An SVC whose number is no gate; the value is the number.
     UnknownGate,
-    /// r0.
+    /// An SVC that needs an exception's object in r0 found none; the value is r0.
     BadObject,
-    /// r0.
+    /// An SVC that needs a control block in r0 found none; the value is r0.
     BadUcb,
-    /// r0.
+    /// An exception object that is too big; the value is r0, its size in bytes.
     TooBig,
-    /// The address of the type.
+    /// A throw of an unknown type; the value is the address of the type.
     BadType,
-    /// The address of the control block.
+    /// A catch or rethrow out of order; the value is the address of the control block.
     CaughtOrder,
-    /// 0.
+    /// A handler ends while no exception is caught; the value is 0.
     NoCaught,
-    /// 0.
+    /// A cleanup ends while none is in progress; the value is 0.
     NoCleanup,
-    /// The sp that was found, or 0 where there is none.
+    /// The end of a cleanup other than the innermost one in progress. The value is the sp that was found, or 0 if there is none.
     CleanupElsewhere,
-    /// The address.
+    /// An object that can't be read; the value is the address.
     ObjectRead,
 }
 
 impl TrapKind {
-    /// The name of the kind, as a report writes it.
+    /// The name of the kind in reports.
     pub fn name(self) -> &'static [u8]
         ensures name { result.now ≡ kind_name self }
         ensures short { length result.now ≤ 16 }
@@ -136,12 +137,13 @@ impl TrapKind {
 /// How a run ends.
 #[derive(Clone, Copy, PartialEq, Eq)]
 pub enum End {
-    /// The program's exit number.
+    /// The program ended itself, with this number.
     Exit(u32),
+    /// The C++ runtime would call `std::terminate`.
     Terminate(Cause),
-    /// The kind, its value and the pc of the instruction.
+    /// A trap: its kind, its value, and the pc of the instruction.
     Trap(TrapKind, u32, u32),
-    /// The number of instructions that were allowed has run.
+    /// The budget of instructions is used up.
     Budget,
     /// Input could not be read.
     ReadFault,

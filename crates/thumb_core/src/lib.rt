@@ -1,4 +1,5 @@
-//! One instruction of an ARMv6-M core, or of one that has division, wide branches and immediates besides, over every memory.
+//! Executes one instruction of an Armv6-M core over any memory. A second profile adds division, wide branches and
+//! 16-bit immediates.
 #![tactic(auto)]
 
 pub mod access;
@@ -9,6 +10,7 @@ pub mod calls;
 pub mod data;
 pub mod division;
 pub mod ends;
+pub mod halfwords;
 pub mod lists;
 pub mod nature_laws;
 pub mod regs;

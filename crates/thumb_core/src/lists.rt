@@ -1,21 +1,21 @@
-//! PUSH, POP, STM and LDM (docs/core.md, "Lists"). A list names registers of the low eight, and lr or pc beside them.
+//! PUSH, POP, STM and LDM (docs/rules/instructions.md, "Lists"). A list contains low registers, and for PUSH and POP also lr or pc.
 ghost use Rattle.std.specs.Prelude.{◌≡◌, ◌%◌, ◌^◌, ◌<◌, ◌≤◌, length, take, IfOk, IfErr, Ok, Err};
-ghost use Rattle.thumb_core.specs.Words.{load_words, loads_from, listed, words_in};
+ghost use Rattle.thumb_core.specs.Words.{load_words, loads_from, registers_of_list, words_in};
 ghost use Rattle.thumb_core.specs.Lists.{bytes_of, push, stm, ldm, pop};
 
 use crate::regs::{CoreTrap, LR, PC, Regs, SP, Stepped, word_in};
 use eh_bus::bus::Bus;
 use eh_bus::fault::BusFault;
 
-/// The most registers of a list: the low eight and one more.
+/// The most registers of a list: the eight low ones and one more.
 const MOST: usize = 9;
 
-/// Puts the low registers of a list into `words`, the lowest first, and says how many there are.
+/// Copies the low registers of a list into `words`, lowest first, and gives their number.
 #[tactic(auto, using(crate::proofs::Listed::listed_all, crate::proofs::Listed::listed_more, crate::proofs::Loaded::low_none))]
 fn low_words(list: u8, r: &[u32; 15], words: &mut [u32; MOST]) -> usize
     ensures within { result ≤ 8 }
-    ensures count { result ≡ length (listed list) }
-    ensures words { take result words.new ≡ words_in r.now (listed list) }
+    ensures count { result ≡ length (registers_of_list list) }
+    ensures words { take result words.new ≡ words_in r.now (registers_of_list list) }
 {
     let mut count = 0;
     for k in 0..8 {
@@ -27,13 +27,13 @@ fn low_words(list: u8, r: &[u32; 15], words: &mut [u32; MOST]) -> usize
     count
 }
 
-/// The same of a list that may name lr.
+/// Copies the registers of a PUSH list, which may contain lr, into `words` and gives their number.
 fn pushed_words(list: u16, r: &[u32; 15], words: &mut [u32; MOST]) -> usize
     requires list_in { list < 2 ^ 15 }
     requires low { list % 2 ^ 14 < 2 ^ 8 }
     ensures within { result ≤ 9 }
-    ensures count { result ≡ length (listed list) }
-    ensures words { take result words.new ≡ words_in r.now (listed list) }
+    ensures count { result ≡ length (registers_of_list list) }
+    ensures words { take result words.new ≡ words_in r.now (registers_of_list list) }
 {
     let count = low_words((list % 0x100) as u8, r, words);
     if (list >> LR) & 1 == 0 {
@@ -43,12 +43,12 @@ fn pushed_words(list: u16, r: &[u32; 15], words: &mut [u32; MOST]) -> usize
     count + 1
 }
 
-/// Loads the low registers of a list from address `a` on, and says how many bytes their words take.
+/// Loads the low registers of a list from address `a` on, and gives the number of bytes that were loaded.
 #[tactic(auto, using(crate::proofs::Listed::listed_all, crate::proofs::Listed::listed_more, crate::proofs::Loaded::low_none))]
 fn load_low<B: Bus>(list: u8, a: u32, r: &mut [u32; 15], bus: &B) -> Result<u32, BusFault>
     ensures bytes { IfOk result (λ n. n ≡ bytes_of list) }
-    ensures ok { IfOk result (λ n. load_words (B.memory bus.now).segments a (loads_from 0 (listed list)) r.old ≡ Ok r.new) }
-    ensures fault { IfErr result (λ fault. load_words (B.memory bus.now).segments a (loads_from 0 (listed list)) r.old ≡ Err fault) }
+    ensures ok { IfOk result (λ n. load_words (B.memory bus.now).segments a (loads_from 0 (registers_of_list list)) r.old ≡ Ok r.new) }
+    ensures fault { IfErr result (λ fault. load_words (B.memory bus.now).segments a (loads_from 0 (registers_of_list list)) r.old ≡ Err fault) }
 {
     let mut at = 0;
     for k in 0..8u8 {
@@ -75,7 +75,7 @@ pub(crate) fn push<B: Bus>(list: u16, size: u32, regs: &mut Regs, bus: &mut B) -
     if let Err(fault) = bus.store_run(a, &words[..count]) {
         return Stepped::Trap(CoreTrap::Memory(fault));
     }
-    regs.put(SP, a);
+    regs.set_register(SP, a);
     regs.advance(size);
     Stepped::Done
 }
@@ -92,7 +92,7 @@ pub(crate) fn stm<B: Bus>(n: u8, list: u16, size: u32, regs: &mut Regs, bus: &mu
     if let Err(fault) = bus.store_run(a, &words[..count]) {
         return Stepped::Trap(CoreTrap::Memory(fault));
     }
-    regs.put(n, a.wrapping_add(4 * count as u32));
+    regs.set_register(n, a.wrapping_add(4 * count as u32));
     regs.advance(size);
     Stepped::Done
 }
@@ -109,7 +109,7 @@ pub(crate) fn ldm<B: Bus>(n: u8, list: u16, size: u32, regs: &mut Regs, bus: &B)
         Ok(bytes) => {
             regs.r = r;
             if (list >> n) & 1 == 0 {
-                regs.put(n, a.wrapping_add(bytes));
+                regs.set_register(n, a.wrapping_add(bytes));
             }
             regs.advance(size);
             Stepped::Done
@@ -118,7 +118,7 @@ pub(crate) fn ldm<B: Bus>(n: u8, list: u16, size: u32, regs: &mut Regs, bus: &B)
     }
 }
 
-/// POP. Registers that were loaded are put back where a later word can't be, or where pc's is even.
+/// POP. If a word can't be loaded, or the one for pc has bit 0 clear, the registers are restored.
 pub(crate) fn pop<B: Bus>(list: u16, size: u32, regs: &mut Regs, bus: &B) -> Stepped
     requires { list % 2 ^ 15 < 2 ^ 8 }
     ensures { (result, regs.new, B.memory bus.now) ≡ pop list size regs.old (B.memory bus.now) }
@@ -133,7 +133,7 @@ pub(crate) fn pop<B: Bus>(list: u16, size: u32, regs: &mut Regs, bus: &B) -> Ste
         }
     };
     if (list >> PC) & 1 == 0 {
-        regs.put(SP, after);
+        regs.set_register(SP, after);
         regs.advance(size);
         return Stepped::Done;
     }
@@ -148,7 +148,7 @@ pub(crate) fn pop<B: Bus>(list: u16, size: u32, regs: &mut Regs, bus: &B) -> Ste
         regs.r = before;
         return Stepped::Trap(CoreTrap::EvenTarget(target));
     }
-    regs.put(SP, after.wrapping_add(4));
+    regs.set_register(SP, after.wrapping_add(4));
     regs.go_to(target);
     Stepped::Return { to: target }
 }

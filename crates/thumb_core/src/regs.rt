@@ -1,68 +1,73 @@
-//! Registers, flags, and what a step answers (docs/core.md, "Registers" and "What a step answers").
+//! The registers and flags, and the result of a step (docs/rules/instructions.md, "Registers" and "Answers").
 ghost use Rattle.std.specs.Prelude.{◌≡◌, ℕ, ◌+◌, ◌%◌, ◌^◌, ◌<◌, slice_index};
 ghost use Rattle.thumb_core.specs.Data.{forward};
-ghost use Rattle.thumb_core.specs.Registers.{word_in, even, with_reg, with_pc, with_nz, with_flags, with_next, reg, pc_read, operand, base};
+ghost use Rattle.thumb_core.specs.Registers.{word_in, even, with_reg, with_pc, with_nz, with_flags, with_next, reg, pc_operand, operand, base};
 
 use crate::arith::Sum;
 use crate::data::forward;
 use eh_bus::fault::BusFault;
 
-/// The number of the stack pointer.
+/// The register number of sp.
 pub const SP: u8 = 13;
-/// The number of the link register.
+/// The register number of lr.
 pub const LR: u8 = 14;
-/// The number of pc.
+/// The register number of pc.
 pub const PC: u8 = 15;
 
-/// The registers and the flags. Bit 0 of `pc` is clear wherever this crate writes it, and so are bits 1 and 0 of
-/// `r[13]`, the stack pointer.
+/// The registers and flags. This crate only ever writes `pc` with bit 0 clear, and sp (`r[13]`) with bits 1 and 0
+/// clear.
 #[derive(Clone, Copy, PartialEq, Eq)]
 pub struct Regs {
     /// r0 to r12, sp and lr.
     pub r: [u32; 15],
-    /// The address of the next instruction.
+    /// The address of the next instruction, in bytes.
     pub pc: u32,
+    /// The N flag (negative).
     pub n: bool,
+    /// The Z flag (zero).
     pub z: bool,
+    /// The C flag (carry).
     pub c: bool,
+    /// The V flag (overflow).
     pub v: bool,
 }
 
-/// Each number in the registers is a word. This costs nothing: it is for proofs.
+/// Every register value fits 32 bits. This call is for proofs and costs nothing.
 pub fn are_words(r: &[u32])
     ensures { (k : ℕ) → slice_index r.now k < 2 ^ 32 }
 {}
 
-/// Why an instruction is not done.
+/// Why an instruction could not be executed.
 #[derive(Clone, Copy)]
 pub enum CoreTrap {
-    /// The halfwords stand for no instruction; the first of them.
+    /// The encoding is undefined; carries the first halfword.
     Undefined(u32),
-    /// The manual calls the halfwords unpredictable; the first of them.
+    /// The manual calls the encoding unpredictable; carries the first halfword.
     Unpredictable(u32),
-    /// A system instruction that this core doesn't have; its first halfword.
+    /// A system instruction that this core doesn't have; carries the first halfword.
     NotInProfile(u32),
-    /// A target whose bit 0 is clear, which would leave the Thumb state; the target.
+    /// A branch target with bit 0 clear, which would leave the Thumb state; carries the target.
     EvenTarget(u32),
-    /// A fetch, a load or a store was refused.
+    /// A fetch, load or store was refused.
     Memory(BusFault),
 }
 
-/// What an instruction did.
+/// The result of a step.
 #[derive(Clone, Copy)]
 pub enum Stepped {
+    /// The instruction was executed; it is none of the following.
     Done,
-    /// A call: `target` has bit 0 clear and is the new pc; `ret` has it set and is the new lr.
+    /// A call: `target` is the new pc, with bit 0 clear; `ret` is the new lr, with bit 0 set.
     Call { target: u32, ret: u32 },
-    /// A return: `to` has bit 0 set, and the new pc is `to` with that bit clear.
+    /// A return: `to` has bit 0 set; the new pc is `to` with that bit clear.
     Return { to: u32 },
-    /// A supervisor call with its number; the new pc is the next instruction.
+    /// An SVC with its number; the new pc is the next instruction.
     Gate(u8),
-    /// Nothing was done: registers and memory are as before.
+    /// Nothing was done: registers and memory are unchanged.
     Trap(CoreTrap),
 }
 
-/// What register `d` keeps of a word: a write to the stack pointer clears bits 1 and 0.
+/// The word that register `d` keeps: sp clears bits 1 and 0.
 pub(crate) fn word_in(d: u8, x: u32) -> u32
     ensures { result ≡ word_in d x }
 {
@@ -77,15 +82,15 @@ pub(crate) fn even(x: u32) -> u32
 }
 
 impl Regs {
-    /// Writes one of the registers r0 to r14.
-    pub(crate) fn put(&mut self, d: u8, x: u32)
+    /// Writes one of r0 to r14.
+    pub(crate) fn set_register(&mut self, d: u8, x: u32)
         requires { d < 15 }
         ensures { self.new ≡ with_reg self.old d x }
     {
         self.r[d as usize] = word_in(d, x);
     }
 
-    /// Writes one of the low registers, each of which keeps a word whole.
+    /// Writes a low register.
     pub(crate) fn put_low(&mut self, d: u8, x: u32)
         requires { d < 8 }
         ensures { self.new ≡ with_reg self.old d x }
@@ -93,21 +98,21 @@ impl Regs {
         self.r[d as usize] = x;
     }
 
-    /// Goes to an address.
+    /// Sets pc.
     pub(crate) fn go_to(&mut self, x: u32)
         ensures { self.new ≡ with_pc self.old x }
     {
         self.pc = even(x);
     }
 
-    /// Goes on to the instruction that follows one of `size` bytes.
+    /// Advances pc past an instruction of `size` bytes.
     pub(crate) fn advance(&mut self, size: u32)
         ensures { self.new ≡ with_next size self.old }
     {
         self.go_to(self.pc.wrapping_add(size));
     }
 
-    /// Sets N and Z of a word.
+    /// Sets N and Z by a word.
     pub(crate) fn set_nz(&mut self, x: u32)
         ensures { self.new ≡ with_nz self.old x }
     {
@@ -115,7 +120,7 @@ impl Regs {
         self.z = x == 0;
     }
 
-    /// Sets all four flags of a sum.
+    /// Sets all four flags by a sum.
     pub(crate) fn set_flags(&mut self, sum: Sum)
         ensures { self.new ≡ with_flags self.old sum }
     {
@@ -124,7 +129,7 @@ impl Regs {
         self.v = sum.overflow;
     }
 
-    /// One of the registers r0 to r14.
+    /// Reads one of r0 to r14.
     pub(crate) fn reg(&self, k: u8) -> u32
         requires { k < 15 }
         ensures { result ≡ reg self.now k }
@@ -132,7 +137,7 @@ impl Regs {
         self.r[k as usize]
     }
 
-    /// The address some bytes beyond the one in a register.
+    /// The address `off` bytes after the one in a register.
     pub(crate) fn at(&self, k: u8, off: i32) -> u32
         requires { k < 15 }
         ensures { result ≡ forward (reg self.now k) off }
@@ -140,7 +145,7 @@ impl Regs {
         forward(self.reg(k), off)
     }
 
-    /// The address that is the sum of two registers.
+    /// The sum of two registers, as an address.
     pub(crate) fn sum(&self, n: u8, m: u8) -> u32
         requires n_in { n < 15 }
         requires m_in { m < 15 }
@@ -149,26 +154,30 @@ impl Regs {
         self.reg(n).wrapping_add(self.reg(m))
     }
 
-    /// pc as an operand: the instruction's address plus 4.
-    pub(crate) fn pc_read(&self) -> u32
-        ensures { result ≡ pc_read self.now }
+    /// pc as an operand: the address of the instruction plus 4.
+    pub(crate) fn pc_operand(&self) -> u32
+        ensures { result ≡ pc_operand self.now }
     {
         self.pc.wrapping_add(4)
     }
 
-    /// A register as an operand, pc among them.
+    /// A register as an operand; pc is allowed.
     pub(crate) fn operand(&self, k: u8) -> u32
         requires { k < 16 }
         ensures { result ≡ operand self.now k }
     {
-        if k == PC { self.pc_read() } else { self.reg(k) }
+        if k == PC {
+            self.pc_operand()
+        } else {
+            self.reg(k)
+        }
     }
 
     /// pc as an operand, rounded down to a multiple of 4.
     pub(crate) fn base(&self) -> u32
         ensures { result ≡ base self.now }
     {
-        let at = self.pc_read();
+        let at = self.pc_operand();
         at - at % 4
     }
 }

@@ -1,15 +1,18 @@
-//! Shifts with the last bit that goes out (docs/core.md, "Shifts").
+//! Shifts, with the last bit that is shifted out (docs/rules/instructions.md, "Shifts").
 ghost use Rattle.std.specs.Prelude.{◌≡◌, ◌<◌};
 ghost use Rattle.thumb_core.specs.Shift.{shift_of, left_shift, right_shift, signed_shift, rotation_of};
 
-// The numbers of the shifts of `Instr::ShiftImm`.
+// The shifts of `Instr::ShiftImm`.
+/// LSL (immediate).
 pub const LSL: u8 = 0;
 
+/// LSR (immediate).
 pub const LSR: u8 = 1;
 
+/// ASR (immediate).
 pub const ASR: u8 = 2;
 
-/// LSL, LSR or ASR with the last bit that goes out. A shift by 0 leaves the carry.
+/// LSL, LSR or ASR: the value, and the last bit shifted out. A shift by 0 keeps the carry.
 pub(crate) fn shift_of(op: u8, x: u32, n: u32, carry: bool) -> (u32, bool)
     ensures { result ≡ shift_of op x n carry }
 {
@@ -23,7 +26,7 @@ pub(crate) fn shift_of(op: u8, x: u32, n: u32, carry: bool) -> (u32, bool)
     }
 }
 
-/// ROR with the bit that comes to the top. A turn by 0 leaves the carry.
+/// ROR: the value, and its top bit. A rotation by 0 keeps the carry.
 pub(crate) fn rotation_of(x: u32, n: u32, carry: bool) -> (u32, bool)
     ensures { result ≡ rotation_of x n carry }
 {
@@ -34,6 +37,7 @@ pub(crate) fn rotation_of(x: u32, n: u32, carry: bool) -> (u32, bool)
     (value, value >> 31 == 1)
 }
 
+/// LSL by n, at least 1: the value and the carry.
 #[tactic(auto, using(crate::proofs::Shifts::shl_high, crate::proofs::Shifts::shl_even, crate::proofs::Shifts::shl_gone))]
 fn left_shift(x: u32, n: u32) -> (u32, bool)
     requires { 0 < n }
@@ -48,6 +52,7 @@ fn left_shift(x: u32, n: u32) -> (u32, bool)
     (x << n, (x >> (32 - n)) % 2 == 1)
 }
 
+/// LSR by n, at least 1: the value and the carry.
 #[tactic(auto, using(crate::proofs::Shifts::shr_gone))]
 fn right_shift(x: u32, n: u32) -> (u32, bool)
     requires { 0 < n }
@@ -60,6 +65,7 @@ fn right_shift(x: u32, n: u32) -> (u32, bool)
     if n == 32 { (0, carry) } else { (x >> n, carry) }
 }
 
+/// ASR by n, at least 1: the value and the carry.
 #[tactic(auto, using(crate::proofs::Shifts::sign_only))]
 fn signed_shift(x: u32, n: u32) -> (u32, bool)
     requires { 0 < n }

@@ -1,4 +1,4 @@
-//! A step: fetches, decodes and does the instruction at pc (docs/core.md, "One step, in order").
+//! One step: fetches, decodes and executes the instruction at pc (docs/rules/instructions.md, "One step").
 ghost use Rattle.std.specs.Prelude.{◌≡◌, IfOk, Some};
 ghost use Rattle.thumb_isa.specs.Range.{InRange};
 ghost use Rattle.thumb_core.specs.Laws.{AreSound, KeepsMap, Leaves, LeavesMemory, OnTrap, PcStands};
@@ -21,16 +21,16 @@ use thumb_isa::decode::{decode_for, is_wide};
 use thumb_isa::instr::{Decoded, Instr};
 use thumb_isa::profile::Profile;
 
-/// Does the instruction at `regs.pc`, by the rows of a profile (DDI 0419, DDI 0553).
+/// Executes the instruction at `regs.pc`, decoded by a profile (DDI 0419, DDI 0553).
 ///
-/// A first halfword that begins a wide encoding makes the second one be fetched, at pc + 2, before anything is decoded.
-/// So the traps are, in this order: the fault of the first fetch, that of the second; what the halfwords are where they
-/// are no instruction; and the instruction's own, an even target or the first fault of its loads and stores.
+/// If the first halfword begins a 32-bit encoding, the second is fetched, at pc + 2, before anything is decoded. So
+/// traps come in this order: a fault of the first fetch; a fault of the second; an encoding that is no instruction; and
+/// the instruction's own, which is a target with bit 0 clear or the first fault of its loads and stores.
 #[inline(always)]
 pub fn step_for<B: Bus>(profile: Profile, regs: &mut Regs, bus: &mut B) -> Stepped
     ensures effect { (result, regs.new, B.memory bus.new) ≡ step_for profile regs.old (B.memory bus.old) }
 
-    // What follows of it for every instruction.
+    // What follows from it for every instruction.
     ensures trap { OnTrap result ((regs.new ≡ regs.old) × (B.memory bus.new ≡ B.memory bus.old)) }
     ensures stands { PcStands result regs.new }
     ensures sound { AreSound regs.old.r regs.old.pc → AreSound regs.new.r regs.new.pc }
@@ -40,10 +40,10 @@ pub fn step_for<B: Bus>(profile: Profile, regs: &mut Regs, bus: &mut B) -> Stepp
     ensures leaves_memory { LeavesMemory result (B.memory bus.old) (B.memory bus.new) }
 {
     are_words(&regs.r);
-    perform(profile, regs, bus)
+    fetch_and_execute(profile, regs, bus)
 }
 
-/// The same by the rows of the first profile.
+/// Executes the instruction at `regs.pc`, decoded by the first profile.
 #[inline(always)]
 pub fn step<B: Bus>(regs: &mut Regs, bus: &mut B) -> Stepped
     ensures effect { (result, regs.new, B.memory bus.new) ≡ step_of regs.old (B.memory bus.old) }
@@ -58,9 +58,9 @@ pub fn step<B: Bus>(regs: &mut Regs, bus: &mut B) -> Stepped
     step_for(Profile::One, regs, bus)
 }
 
-/// Fetches and executes.
+/// Fetches, decodes and executes.
 #[inline(always)]
-fn perform<B: Bus>(profile: Profile, regs: &mut Regs, bus: &mut B) -> Stepped
+fn fetch_and_execute<B: Bus>(profile: Profile, regs: &mut Regs, bus: &mut B) -> Stepped
     ensures { (result, regs.new, B.memory bus.new) ≡ step_for profile regs.old (B.memory bus.old) }
 {
     match fetch_for(profile, regs, bus) {
@@ -69,8 +69,8 @@ fn perform<B: Bus>(profile: Profile, regs: &mut Regs, bus: &mut B) -> Stepped
     }
 }
 
-/// The instruction at `regs.pc` with its size, fetched and decoded once by the rows of a profile; or the trap of a step there, where none
-/// stands. A step is this and then `execute`.
+/// Fetches and decodes the instruction at `regs.pc` by a profile, and gives it with its size in bytes. Err with the
+/// step's trap if there is no instruction. A step is `fetch_for` followed by `execute`.
 #[inline(always)]
 pub fn fetch_for<B: Bus>(profile: Profile, regs: &Regs, bus: &B) -> Result<(Instr, u32), CoreTrap>
     ensures there { instr_for profile (B.memory bus.now) regs.now.pc ≡ fetched_instr result }
@@ -97,7 +97,7 @@ pub fn fetch_for<B: Bus>(profile: Profile, regs: &Regs, bus: &B) -> Result<(Inst
     }
 }
 
-/// The same by the rows of the first profile.
+/// Fetches and decodes by the first profile.
 #[inline(always)]
 pub fn fetch<B: Bus>(regs: &Regs, bus: &B) -> Result<(Instr, u32), CoreTrap>
     ensures there { instr_at (B.memory bus.now) regs.now.pc ≡ fetched_instr result }
@@ -107,7 +107,7 @@ pub fn fetch<B: Bus>(regs: &Regs, bus: &B) -> Result<(Instr, u32), CoreTrap>
     fetch_for(Profile::One, regs, bus)
 }
 
-/// Does an instruction of `size` bytes, as it stands at `regs.pc`.
+/// Executes an instruction of `size` bytes at `regs.pc`.
 #[inline(always)]
 pub fn execute<B: Bus>(i: Instr, size: u32, regs: &mut Regs, bus: &mut B) -> Stepped
     requires { InRange i }
@@ -121,12 +121,12 @@ pub fn execute<B: Bus>(i: Instr, size: u32, regs: &mut Regs, bus: &mut B) -> Ste
     ensures leaves_memory { LeavesMemory result (B.memory bus.old) (B.memory bus.new) }
 {
     are_words(&regs.r);
-    act(i, size, regs, bus)
+    execute_instr(i, size, regs, bus)
 }
 
-/// The one match by instruction. What the arms of data leave goes on after the instruction.
+/// Dispatches on the instruction. After the arms of data instructions, pc advances.
 #[inline(always)]
-fn act<B: Bus>(i: Instr, size: u32, regs: &mut Regs, bus: &mut B) -> Stepped
+fn execute_instr<B: Bus>(i: Instr, size: u32, regs: &mut Regs, bus: &mut B) -> Stepped
     requires { InRange i }
     ensures { (result, regs.new, B.memory bus.new) ≡ effect i size regs.old (B.memory bus.old) }
 {
@@ -137,17 +137,20 @@ fn act<B: Bus>(i: Instr, size: u32, regs: &mut Regs, bus: &mut B) -> Stepped
         Instr::Imm8 { op, d, imm } => imm8(op, d, imm, regs),
         Instr::Alu { op, d, m } => alu(op, d, m, regs),
         Instr::CmpHigh { n, m } => cmp_high(n, m, regs),
-        Instr::Adr { d, off } => regs.put(d, forward(regs.base(), off)),
-        Instr::AddRdSp { d, off } => regs.put(d, regs.at(SP, off)),
-        Instr::AddSp { off } => regs.put(SP, regs.at(SP, off)),
-        Instr::SubSp { off } => regs.put(SP, backward(regs.reg(SP), off)),
-        Instr::Extend { op, d, m } => regs.put(d, extension_of(op, regs.reg(m))),
-        Instr::Rev { op, d, m } => regs.put(d, reversal_of(op, regs.reg(m))),
+        Instr::Adr { d, off } => regs.set_register(d, forward(regs.base(), off)),
+        Instr::AddRdSp { d, off } => regs.set_register(d, regs.at(SP, off)),
+        Instr::AddSp { off } => regs.set_register(SP, regs.at(SP, off)),
+        Instr::SubSp { off } => regs.set_register(SP, backward(regs.reg(SP), off)),
+        Instr::Extend { op, d, m } => regs.set_register(d, extension_of(op, regs.reg(m))),
+        Instr::Rev { op, d, m } => regs.set_register(d, reversal_of(op, regs.reg(m))),
         Instr::Hint { .. } => {}
         Instr::Barrier { .. } => {}
-        Instr::MovW { d, imm } => regs.put(d, imm),
-        Instr::MovT { d, imm } => regs.put(d, top_of(imm, regs.reg(d))),
-        Instr::Div { signed, d, n, m } => regs.put(d, quotient(signed, regs.reg(n), regs.reg(m))),
+        Instr::MovW { d, imm } => regs.set_register(d, imm),
+        Instr::MovT { d, imm } => regs.set_register(d, top_of(imm, regs.reg(d))),
+        Instr::Div { signed, d, n, m } => regs.set_register(
+            d,
+            quotient(signed, regs.reg(n), regs.reg(m)),
+        ),
         Instr::AddHigh { d, m } => return add_high(d, m, size, regs),
         Instr::MovHigh { d, m } => return mov_high(d, m, size, regs),
         Instr::BCond { cond, off } => return branch_if(cond, off, size, regs),

@@ -5,7 +5,7 @@ use Rattle.std.specs.Int.{from_bool}
 use Rattle.thumb_isa.specs.declared.instr.Instr.TheVariants.{Stm, MemSp, Barrier}
 use Rattle.thumb_isa.specs.declared.instr.Decoded.TheVariants.{Is}
 use Rattle.thumb_isa.specs.Fields.{field}
-use Rattle.thumb_isa.specs.Rows.{decoded_of}
+use Rattle.thumb_isa.specs.Rows.{decode_result}
 use Rattle.thumb_isa.proofs.Blocks.{all_from_at, both}
 use Rattle.thumb_isa.proofs.Table.{base_bit, below_base, stm, mem_sp, dsb, dmb, isb}
 
@@ -25,7 +25,7 @@ either_zero bit low bit_2 low_2 a b (inl e) = inl (a ∙ e)
 either_zero bit low bit_2 low_2 a b (inr e) = inr (b ∙ e)
 
 pub stm_code : (n list h s : ℕ) → n < 8 → 0 < list → list < 256 → ((field list n 1 ≡ 0) ⊎ (field list 0 n ≡ 0)) → h ≡ 0xc000 + n * 256 + list
-    → decoded_of h s ≡ Is (Stm n list) 2
+    → decode_result h s ≡ Is (Stm n list) 2
 stm_code n list h s a b c e f =
     let low : 0xc000 ≤ h = omega arith in
     let high : h < 0xc800 = omega arith in
@@ -34,7 +34,7 @@ stm_code n list h s a b c e f =
     let parts = same_parts n list h base listed (all_from_at as_in_list 0x800 0xc000 refl h low high) in
     stm h s low high (omega arith) (either_zero _ _ _ _ parts.0 parts.1 e) ∙ rw (base, listed) refl
 
-barrier_at : (op option s : ℕ) → op < 3 → option < 16 → s ≡ 0x8f40 + op * 16 + option → decoded_of 0xf3bf s ≡ Is (Barrier op option) 4
+barrier_at : (op option s : ℕ) → op < 3 → option < 16 → s ≡ 0x8f40 + op * 16 + option → decode_result 0xf3bf s ≡ Is (Barrier op option) 4
 barrier_at zero option s a b e =
     dsb 0xf3bf s (omega arith) (omega arith) (omega arith) (omega arith) ∙ ap (λ x. Is (Barrier 0 x) 4) (omega arith)
 barrier_at (suc zero) option s a b e =
@@ -43,11 +43,11 @@ barrier_at (suc (suc zero)) option s a b e =
     isb 0xf3bf s (omega arith) (omega arith) (omega arith) (omega arith) ∙ ap (λ x. Is (Barrier 2 x) 4) (omega arith)
 barrier_at (suc (suc (suc n))) option s a b e = absurd (omega arith)
 
-pub barrier_code : (op option h s : ℕ) → op < 3 → option < 16 → h ≡ 0xf3bf → s ≡ 0x8f40 + op * 16 + option → decoded_of h s ≡ Is (Barrier op option) 4
+pub barrier_code : (op option h s : ℕ) → op < 3 → option < 16 → h ≡ 0xf3bf → s ≡ 0x8f40 + op * 16 + option → decode_result h s ≡ Is (Barrier op option) 4
 barrier_code op option h s a b e f = rw e (barrier_at op option s a b f)
 
 pub mem_sp_code : (load : Bool) (kind t words h s : ℕ) (off : ℤ) → kind ≡ from_bool load → t < 8 → words * 4 ≤ 1020 → pos (words * 4) ≡ off
-    → h ≡ 0x9000 + kind * 2048 % 2 ^ 16 + t * 256 % 2 ^ 16 + words → decoded_of h s ≡ Is (MemSp load t off) 2
+    → h ≡ 0x9000 + kind * 2048 % 2 ^ 16 + t * 256 % 2 ^ 16 + words → decode_result h s ≡ Is (MemSp load t off) 2
 mem_sp_code true kind t words h s off k a b e f =
     let loads : field h 11 1 ≡ 1 = omega arith in
     let register : field h 8 3 ≡ t = omega arith in

@@ -10,7 +10,7 @@ use Rattle.thumb_isa.specs.declared.profile.Profile.{Profile}
 use Rattle.thumb_isa.specs.declared.profile.Profile.TheVariants.{One, Two}
 use Rattle.thumb_isa.specs.Fields.{field}
 use Rattle.thumb_isa.specs.Range.{IsGeneral}
-use Rattle.thumb_isa.specs.Rows.{late_decoded_of, cbz_offset, wide_d, wide_imm}
+use Rattle.thumb_isa.specs.Rows.{late_decode_result, cbz_offset, wide_d, wide_imm}
 use Rattle.thumb_isa.specs.Laws.{late_of}
 use Rattle.thumb_isa.proofs.BothProfiles.{is_kept}
 use Rattle.thumb_isa.proofs.LateTable.{cbz_b1, cbz_b3, cbnz_b9, cbnz_bb, mov_w, mov_t, sdiv, udiv}
@@ -59,7 +59,7 @@ from_bool_below true = omega arith
 from_bool_below false = omega arith
 
 pub cbz_code : (nonzero : Bool) (n t h s kind : ℕ) (off : ℤ) → n < 8 → t < 64 → pos (t * 2) ≡ off → kind ≡ from_bool nonzero
-    → h ≡ 0xb100 + kind * 2048 % 2 ^ 16 + t / 32 * 512 + t % 32 * 8 + n → late_decoded_of h s ≡ Is (Cbz nonzero n off) 2
+    → h ≡ 0xb100 + kind * 2048 % 2 ^ 16 + t / 32 * 512 + t % 32 * 8 + n → late_decode_result h s ≡ Is (Cbz nonzero n off) 2
 cbz_code nonzero n t h s kind off low few target k is =
     let small : kind < 2 = rw k (from_bool_below nonzero) in
     let whole : kind * 2048 % 2 ^ 16 ≡ from_bool nonzero * 2048 = omega arith in
@@ -69,7 +69,7 @@ cbz_code nonzero n t h s kind off low few target k is =
 
 pub mov_w_code : (d imm h s : ℕ) → IsGeneral d → imm < 2 ^ 16 → h ≡ 0xf240 + imm / 2048 % 2 * 1024 + imm / 4096
     → s ≡ imm / 256 % 8 * 4096 + d * 256 + imm % 256
-    → late_decoded_of h s ≡ Is (MovW d imm) 4
+    → late_decode_result h s ≡ Is (MovW d imm) 4
 mov_w_code d imm h s g small a b =
     let low = g.0 in
     let register : wide_d s ≡ d = omega arith in
@@ -78,7 +78,7 @@ mov_w_code d imm h s g small a b =
 
 pub mov_t_code : (d imm h s : ℕ) → IsGeneral d → imm < 2 ^ 16 → h ≡ 0xf2c0 + imm / 2048 % 2 * 1024 + imm / 4096
     → s ≡ imm / 256 % 8 * 4096 + d * 256 + imm % 256
-    → late_decoded_of h s ≡ Is (MovT d imm) 4
+    → late_decode_result h s ≡ Is (MovT d imm) 4
 mov_t_code d imm h s g small a b =
     let low = g.0 in
     let register : wide_d s ≡ d = omega arith in
@@ -101,7 +101,7 @@ div_at false d n m h s a b c e f =
 
 pub div_code : (signed : Bool) (d n m h s kind : ℕ) → IsGeneral d → IsGeneral n → IsGeneral m → kind ≡ from_bool (not signed)
     → h ≡ 0xfb90 + kind * 32 % 2 ^ 16 + n → s ≡ 0xf0f0 + d * 256 + m
-    → late_decoded_of h s ≡ Is (Div signed d n m) 4
+    → late_decode_result h s ≡ Is (Div signed d n m) 4
 div_code signed d n m h s kind a b c k e f =
     let small : kind < 2 = rw k (from_bool_below (not signed)) in
     let whole : kind * 32 % 2 ^ 16 ≡ from_bool (not signed) * 32 = omega arith in

@@ -1,10 +1,10 @@
-//! Codes of branches, calls, gates and barriers; docs/instruction-set.md states the ranges.
+//! Encodes branches, calls, SVC and barriers (docs/rules/instructions.md has the ranges).
 ghost use Rattle.std.specs.Prelude.{◌≡◌, ℕ, ◌*◌, ◌^◌, ◌<◌, ◌≤◌, ℤ, pos, IfOk};
 ghost use Rattle.thumb_isa.specs.Fields.{signed_half};
 ghost use Rattle.thumb_isa.specs.declared.profile.Profile.TheVariants.{One, Two};
 ghost use Rattle.thumb_isa.specs.declared.instr.Decoded.TheVariants.{Is};
 ghost use Rattle.thumb_isa.specs.declared.instr.Instr.TheVariants.{Bx, Blx, BCond, Svc, B, Bl, Barrier, Cbz, BWide};
-ghost use Rattle.thumb_encode.specs.Codes.{IsCodeIn, encoded_of, long_code};
+ghost use Rattle.thumb_encode.specs.Codes.{IsCodeIn, encode_result, long_code};
 
 use crate::code::Code;
 use crate::operand::{cbz_field, target_field};
@@ -14,7 +14,7 @@ use thumb_isa::encode_fault::EncodeFault;
 #[tactic(auto, using(thumb_isa::proofs::Table::bx))]
 pub fn bx(m: u8) -> Result<Code, EncodeFault>
     ensures ok { IfOk result (λ code. IsCodeIn One code (Bx m)) }
-    ensures exact { result ≡ encoded_of (Bx m) }
+    ensures exact { result ≡ encode_result (Bx m) }
 {
     if m > 14 {
         return Err(EncodeFault::RegisterRange);
@@ -26,7 +26,7 @@ pub fn bx(m: u8) -> Result<Code, EncodeFault>
 #[tactic(auto, using(thumb_isa::proofs::Table::blx))]
 pub fn blx(m: u8) -> Result<Code, EncodeFault>
     ensures ok { IfOk result (λ code. IsCodeIn One code (Blx m)) }
-    ensures exact { result ≡ encoded_of (Blx m) }
+    ensures exact { result ≡ encode_result (Blx m) }
 {
     if m > 14 {
         return Err(EncodeFault::RegisterRange);
@@ -38,7 +38,7 @@ pub fn blx(m: u8) -> Result<Code, EncodeFault>
 #[tactic(auto, using(thumb_isa::proofs::Table::b_cond_low, thumb_isa::proofs::Table::b_cond_mid, thumb_isa::proofs::Table::b_cond_high))]
 pub fn b_cond(cond: u8, off: i32) -> Result<Code, EncodeFault>
     ensures ok { IfOk result (λ code. IsCodeIn One code (BCond cond off)) }
-    ensures exact { result ≡ encoded_of (BCond cond off) }
+    ensures exact { result ≡ encode_result (BCond cond off) }
 {
     if cond > 13 {
         return Err(EncodeFault::RegisterRange);
@@ -51,7 +51,7 @@ pub fn b_cond(cond: u8, off: i32) -> Result<Code, EncodeFault>
 #[tactic(auto, using(thumb_isa::proofs::Table::svc))]
 pub fn svc(imm: u32) -> Result<Code, EncodeFault>
     ensures ok { IfOk result (λ code. IsCodeIn One code (Svc imm)) }
-    ensures exact { result ≡ encoded_of (Svc imm) }
+    ensures exact { result ≡ encode_result (Svc imm) }
 {
     if imm > 255 {
         return Err(EncodeFault::ImmediateRange);
@@ -59,11 +59,11 @@ pub fn svc(imm: u32) -> Result<Code, EncodeFault>
     Ok(Code::Half(0xdf00 + imm as u16))
 }
 
-/// B without a condition.
+/// B without a condition, of 16 bits.
 #[tactic(auto, using(thumb_isa::proofs::Table::b))]
 pub fn b(off: i32) -> Result<Code, EncodeFault>
     ensures ok { IfOk result (λ code. IsCodeIn One code (B off)) }
-    ensures exact { result ≡ encoded_of (B off) }
+    ensures exact { result ≡ encode_result (B off) }
 {
     let target = target_field(off, 0x800)?;
     Ok(Code::Half(0xe000 + target as u16))
@@ -72,22 +72,23 @@ pub fn b(off: i32) -> Result<Code, EncodeFault>
 /// BL.
 pub fn bl(off: i32) -> Result<Code, EncodeFault>
     ensures ok { IfOk result (λ code. IsCodeIn One code (Bl off)) }
-    ensures exact { result ≡ encoded_of (Bl off) }
+    ensures exact { result ≡ encode_result (Bl off) }
 {
     let target = target_field(off, 0x100_0000)?;
     Ok(pair_of(0xd000, target))
 }
 
-/// B with two halfwords.
+/// B without a condition, of 32 bits.
 pub fn b_wide(off: i32) -> Result<Code, EncodeFault>
     ensures ok { IfOk result (λ code. IsCodeIn Two code (BWide off)) }
-    ensures exact { result ≡ encoded_of (BWide off) }
+    ensures exact { result ≡ encode_result (BWide off) }
 {
     let target = target_field(off, 0x100_0000)?;
     Ok(pair_of(0x9000, target))
 }
 
-/// The two halfwords of a BL, or of a B with two, by the low 24 bits of half the offset; the second begins with the bits of `base`.
+/// The two halfwords of a BL or of a 32-bit B. `target` is half the offset, in 24 bits; `base` gives the fixed bits of
+/// the second.
 #[tactic(auto, using(crate::proofs::Long::bl_code, crate::proofs::Long::b_wide_code))]
 fn pair_of(base: u32, target: u32) -> Code
     requires low { target < 2 ^ 24 }
@@ -105,11 +106,11 @@ fn pair_of(base: u32, target: u32) -> Code
     )
 }
 
-/// CBZ, CBNZ.
+/// CBZ or CBNZ.
 #[tactic(auto, using(crate::proofs::LateForms::cbz_code))]
 pub fn cbz(nonzero: bool, n: u8, off: i32) -> Result<Code, EncodeFault>
     ensures ok { IfOk result (λ code. IsCodeIn Two code (Cbz nonzero n off)) }
-    ensures exact { result ≡ encoded_of (Cbz nonzero n off) }
+    ensures exact { result ≡ encode_result (Cbz nonzero n off) }
 {
     if n > 7 {
         return Err(EncodeFault::RegisterRange);
@@ -124,10 +125,10 @@ pub fn cbz(nonzero: bool, n: u8, off: i32) -> Result<Code, EncodeFault>
     ))
 }
 
-/// DSB, DMB, ISB.
+/// DSB, DMB or ISB.
 pub fn barrier(op: u8, option: u8) -> Result<Code, EncodeFault>
     ensures ok { IfOk result (λ code. IsCodeIn One code (Barrier op option)) }
-    ensures exact { result ≡ encoded_of (Barrier op option) }
+    ensures exact { result ≡ encode_result (Barrier op option) }
 {
     if op > 2 {
         return Err(EncodeFault::RegisterRange);

@@ -1,10 +1,10 @@
-//! The code of an instruction (docs/instruction-set.md).
+//! The code of an instruction (docs/rules/instructions.md).
 
-/// The code of one instruction: its halfwords in the order of their addresses.
+/// The code of an instruction: its halfwords, in the order of their addresses.
 #[derive(Clone, Copy, PartialEq, Eq, Debug)]
 pub enum Code {
-    /// The halfword of an instruction of 16 bits.
+    /// The halfword of a 16-bit instruction.
     Half(u16),
-    /// The halfwords of an instruction of 32 bits.
+    /// The halfwords of a 32-bit instruction.
     Pair(u16, u16),
 }

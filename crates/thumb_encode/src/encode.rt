@@ -1,11 +1,11 @@
-//! From an instruction to its code, the inverse of the decoder; docs/instruction-set.md states the table. Shifts, data processing, moves of
-//! registers and numbers and hints have their codes here; branches, loads and stores and lists in the files of their groups.
+//! Encodes instructions, the inverse of the decoder (docs/rules/instructions.md). Data processing, moves, hints and
+//! division are here; branches, loads and stores, and register lists have files of their own.
 ghost use Rattle.std.specs.Prelude.{◌≡◌, ℕ, ◌*◌, ◌^◌, ◌<◌, ◌≤◌, Bool, ℤ, pos, IfOk, OnErr};
 ghost use Rattle.thumb_isa.specs.Range.{IsGeneral};
 ghost use Rattle.thumb_isa.specs.declared.profile.Profile.TheVariants.{One, Two};
 ghost use Rattle.thumb_isa.specs.declared.instr.Decoded.TheVariants.{Is};
 ghost use Rattle.thumb_isa.specs.declared.instr.Instr.TheVariants.{ShiftImm, AddSubReg, AddSubImm3, Imm8, Alu, AddHigh, CmpHigh, MovHigh, Extend, Rev, Hint, MovW, MovT, Div};
-ghost use Rattle.thumb_encode.specs.Codes.{IsCodeIn, IsCodeOf, HasNoCode, GivesBack, encoded_of, least_profile, sixteen_code, is_general};
+ghost use Rattle.thumb_encode.specs.Codes.{IsCodeIn, IsCodeOf, HasNoCode, GivesBack, encode_result, least_profile, sixteen_code, is_general};
 
 use crate::code::Code;
 use crate::operand::{high_fields, low_fields};
@@ -13,11 +13,12 @@ use crate::{branch, lists, memory};
 use thumb_isa::encode_fault::EncodeFault;
 use thumb_isa::instr::Instr;
 
-/// The code of an instruction: Ok exactly where some code decodes to it, and else the first of the faults in their
-/// order. No two codes decode to the same instruction. What the first profile has decodes from its code in both.
+/// Encodes an instruction. Ok exactly if some code decodes to it; else Err with the first fault in the order of
+/// `EncodeFault`. No two codes decode to the same instruction. An instruction of the first profile decodes from its
+/// code in both.
 #[tactic(auto, using(crate::proofs::Inverse::refused_is_no_code, crate::proofs::Inverse::given_back, crate::proofs::LateForms::ok_in_second))]
 pub fn encode(i: &Instr) -> Result<Code, EncodeFault>
-    ensures exact { result ≡ encoded_of i.now }
+    ensures exact { result ≡ encode_result i.now }
     ensures ok { IfOk result (λ code. IsCodeOf code i.now) }
     ensures least { IfOk result (λ code. IsCodeIn (least_profile i.now) code i.now) }
     ensures only { OnErr result (HasNoCode i.now) }
@@ -26,10 +27,10 @@ pub fn encode(i: &Instr) -> Result<Code, EncodeFault>
     code_of(i)
 }
 
-/// The code by the form of the instruction.
+/// Encodes an instruction by its form.
 fn code_of(i: &Instr) -> Result<Code, EncodeFault>
     ensures ok { IfOk result (λ code. IsCodeIn (least_profile i.now) code i.now) }
-    ensures exact { result ≡ encoded_of i.now }
+    ensures exact { result ≡ encode_result i.now }
 {
     match *i {
         Instr::ShiftImm { op, d, m, n } => shift(op, d, m, n),
@@ -70,11 +71,11 @@ fn code_of(i: &Instr) -> Result<Code, EncodeFault>
     }
 }
 
-/// LSL, LSR, ASR (immediate).
+/// LSL, LSR or ASR (immediate).
 #[tactic(auto, using(thumb_isa::proofs::Table::lsl, thumb_isa::proofs::Table::lsr, thumb_isa::proofs::Table::asr))]
 fn shift(op: u8, d: u8, m: u8, n: u32) -> Result<Code, EncodeFault>
     ensures ok { IfOk result (λ code. IsCodeIn One code (ShiftImm op d m n)) }
-    ensures exact { result ≡ encoded_of (ShiftImm op d m n) }
+    ensures exact { result ≡ encode_result (ShiftImm op d m n) }
 {
     if op > 2 || d > 7 || m > 7 {
         return Err(EncodeFault::RegisterRange);
@@ -92,11 +93,11 @@ fn shift(op: u8, d: u8, m: u8, n: u32) -> Result<Code, EncodeFault>
     Ok(Code::Half(registers + ((n as u16 % 32) << 6)))
 }
 
-/// ADD, SUB (register).
+/// ADD or SUB (register).
 #[tactic(auto, using(thumb_isa::proofs::Table::add_sub_reg))]
 fn add_sub_reg(sub: bool, d: u8, n: u8, m: u8) -> Result<Code, EncodeFault>
     ensures ok { IfOk result (λ code. IsCodeIn One code (AddSubReg sub d n m)) }
-    ensures exact { result ≡ encoded_of (AddSubReg sub d n m) }
+    ensures exact { result ≡ encode_result (AddSubReg sub d n m) }
 {
     if d > 7 || n > 7 || m > 7 {
         return Err(EncodeFault::RegisterRange);
@@ -104,11 +105,11 @@ fn add_sub_reg(sub: bool, d: u8, n: u8, m: u8) -> Result<Code, EncodeFault>
     Ok(Code::Half(0x1800 + (u16::from(sub) << 9) + low_fields(m, n, d)))
 }
 
-/// ADD, SUB (immediate) with three bits.
+/// ADD or SUB (immediate) with three bits.
 #[tactic(auto, using(thumb_isa::proofs::Table::add_sub_imm))]
 fn add_sub_imm(sub: bool, d: u8, n: u8, imm: u32) -> Result<Code, EncodeFault>
     ensures ok { IfOk result (λ code. IsCodeIn One code (AddSubImm3 sub d n imm)) }
-    ensures exact { result ≡ encoded_of (AddSubImm3 sub d n imm) }
+    ensures exact { result ≡ encode_result (AddSubImm3 sub d n imm) }
 {
     if d > 7 || n > 7 {
         return Err(EncodeFault::RegisterRange);
@@ -119,11 +120,11 @@ fn add_sub_imm(sub: bool, d: u8, n: u8, imm: u32) -> Result<Code, EncodeFault>
     Ok(Code::Half(0x1c00 + (u16::from(sub) << 9) + low_fields(imm as u8, n, d)))
 }
 
-/// MOV, CMP, ADD, SUB (immediate) with eight bits.
+/// MOV, CMP, ADD or SUB (immediate) with eight bits.
 #[tactic(auto, using(thumb_isa::proofs::Table::imm8))]
 fn imm8(op: u8, d: u8, imm: u32) -> Result<Code, EncodeFault>
     ensures ok { IfOk result (λ code. IsCodeIn One code (Imm8 op d imm)) }
-    ensures exact { result ≡ encoded_of (Imm8 op d imm) }
+    ensures exact { result ≡ encode_result (Imm8 op d imm) }
 {
     if op > 3 || d > 7 {
         return Err(EncodeFault::RegisterRange);
@@ -138,7 +139,7 @@ fn imm8(op: u8, d: u8, imm: u32) -> Result<Code, EncodeFault>
 #[tactic(auto, using(thumb_isa::proofs::Table::alu))]
 fn alu(op: u8, d: u8, m: u8) -> Result<Code, EncodeFault>
     ensures ok { IfOk result (λ code. IsCodeIn One code (Alu op d m)) }
-    ensures exact { result ≡ encoded_of (Alu op d m) }
+    ensures exact { result ≡ encode_result (Alu op d m) }
 {
     if op > 15 || d > 7 || m > 7 {
         return Err(EncodeFault::RegisterRange);
@@ -146,11 +147,11 @@ fn alu(op: u8, d: u8, m: u8) -> Result<Code, EncodeFault>
     Ok(Code::Half(0x4000 + (u16::from(op) << 6) + low_fields(0, m, d)))
 }
 
-/// ADD (register) of any registers.
+/// ADD (register) of any two registers.
 #[tactic(auto, using(thumb_isa::proofs::Table::add_high))]
 fn add_high(d: u8, m: u8) -> Result<Code, EncodeFault>
     ensures ok { IfOk result (λ code. IsCodeIn One code (AddHigh d m)) }
-    ensures exact { result ≡ encoded_of (AddHigh d m) }
+    ensures exact { result ≡ encode_result (AddHigh d m) }
 {
     if d > 15 || m > 15 || d == 15 && m == 15 {
         return Err(EncodeFault::RegisterRange);
@@ -162,7 +163,7 @@ fn add_high(d: u8, m: u8) -> Result<Code, EncodeFault>
 #[tactic(auto, using(thumb_isa::proofs::Table::cmp_high))]
 fn cmp_high(n: u8, m: u8) -> Result<Code, EncodeFault>
     ensures ok { IfOk result (λ code. IsCodeIn One code (CmpHigh n m)) }
-    ensures exact { result ≡ encoded_of (CmpHigh n m) }
+    ensures exact { result ≡ encode_result (CmpHigh n m) }
 {
     if n > 14 || m > 14 || n < 8 && m < 8 {
         return Err(EncodeFault::RegisterRange);
@@ -170,11 +171,11 @@ fn cmp_high(n: u8, m: u8) -> Result<Code, EncodeFault>
     Ok(Code::Half(0x4500 + high_fields(n, m)))
 }
 
-/// MOV (register) of any registers.
+/// MOV (register) of any two registers.
 #[tactic(auto, using(thumb_isa::proofs::Table::mov_high))]
 fn mov_high(d: u8, m: u8) -> Result<Code, EncodeFault>
     ensures ok { IfOk result (λ code. IsCodeIn One code (MovHigh d m)) }
-    ensures exact { result ≡ encoded_of (MovHigh d m) }
+    ensures exact { result ≡ encode_result (MovHigh d m) }
 {
     if d > 15 || m > 15 {
         return Err(EncodeFault::RegisterRange);
@@ -182,11 +183,11 @@ fn mov_high(d: u8, m: u8) -> Result<Code, EncodeFault>
     Ok(Code::Half(0x4600 + high_fields(d, m)))
 }
 
-/// SXTH, SXTB, UXTH, UXTB.
+/// SXTH, SXTB, UXTH or UXTB.
 #[tactic(auto, using(thumb_isa::proofs::Table::extend))]
 fn extend(op: u8, d: u8, m: u8) -> Result<Code, EncodeFault>
     ensures ok { IfOk result (λ code. IsCodeIn One code (Extend op d m)) }
-    ensures exact { result ≡ encoded_of (Extend op d m) }
+    ensures exact { result ≡ encode_result (Extend op d m) }
 {
     if op > 3 || d > 7 || m > 7 {
         return Err(EncodeFault::RegisterRange);
@@ -194,11 +195,11 @@ fn extend(op: u8, d: u8, m: u8) -> Result<Code, EncodeFault>
     Ok(Code::Half(0xb200 + low_fields(op, m, d)))
 }
 
-/// REV, REV16, REVSH.
+/// REV, REV16 or REVSH.
 #[tactic(auto, using(thumb_isa::proofs::Table::rev, thumb_isa::proofs::Table::revsh))]
 fn reverse(op: u8, d: u8, m: u8) -> Result<Code, EncodeFault>
     ensures ok { IfOk result (λ code. IsCodeIn One code (Rev op d m)) }
-    ensures exact { result ≡ encoded_of (Rev op d m) }
+    ensures exact { result ≡ encode_result (Rev op d m) }
 {
     if op > 3 || op == 2 || d > 7 || m > 7 {
         return Err(EncodeFault::RegisterRange);
@@ -206,11 +207,11 @@ fn reverse(op: u8, d: u8, m: u8) -> Result<Code, EncodeFault>
     Ok(Code::Half(0xba00 + low_fields(op, m, d)))
 }
 
-/// NOP, YIELD, WFE, WFI, SEV and the other hints.
+/// NOP, YIELD, WFE, WFI, SEV or another hint.
 #[tactic(auto, using(thumb_isa::proofs::Table::hint))]
 fn hint(n: u8) -> Result<Code, EncodeFault>
     ensures ok { IfOk result (λ code. IsCodeIn One code (Hint n)) }
-    ensures exact { result ≡ encoded_of (Hint n) }
+    ensures exact { result ≡ encode_result (Hint n) }
 {
     if n > 15 {
         return Err(EncodeFault::ImmediateRange);
@@ -218,7 +219,7 @@ fn hint(n: u8) -> Result<Code, EncodeFault>
     Ok(Code::Half(0xbf00 + (u16::from(n) << 4)))
 }
 
-/// Whether a register is neither sp nor pc nor above.
+/// Whether a number is a register other than sp and pc.
 fn is_general(register: u8) -> bool
     ensures { result ≡ is_general register }
 {
@@ -229,7 +230,7 @@ fn is_general(register: u8) -> bool
 #[tactic(auto, using(crate::proofs::LateForms::mov_w_code, crate::proofs::LateForms::general))]
 fn mov_w(d: u8, imm: u32) -> Result<Code, EncodeFault>
     ensures ok { IfOk result (λ code. IsCodeIn Two code (MovW d imm)) }
-    ensures exact { result ≡ encoded_of (MovW d imm) }
+    ensures exact { result ≡ encode_result (MovW d imm) }
 {
     if !is_general(d) {
         return Err(EncodeFault::RegisterRange);
@@ -244,7 +245,7 @@ fn mov_w(d: u8, imm: u32) -> Result<Code, EncodeFault>
 #[tactic(auto, using(crate::proofs::LateForms::mov_t_code, crate::proofs::LateForms::general))]
 fn mov_t(d: u8, imm: u32) -> Result<Code, EncodeFault>
     ensures ok { IfOk result (λ code. IsCodeIn Two code (MovT d imm)) }
-    ensures exact { result ≡ encoded_of (MovT d imm) }
+    ensures exact { result ≡ encode_result (MovT d imm) }
 {
     if !is_general(d) {
         return Err(EncodeFault::RegisterRange);
@@ -255,7 +256,7 @@ fn mov_t(d: u8, imm: u32) -> Result<Code, EncodeFault>
     Ok(sixteen(0xf2c0, d, imm))
 }
 
-/// The halfwords of a MOVW or MOVT: imm4:i:imm3:imm8 of the immediate, round the register.
+/// The halfwords of a MOVW or MOVT: the immediate's bits imm4:i:imm3:imm8, and the register.
 fn sixteen(base: u16, d: u8, imm: u32) -> Code
     requires base_in { base ≤ 0xf2c0 }
     requires d_in { d < 16 }
@@ -268,11 +269,11 @@ fn sixteen(base: u16, d: u8, imm: u32) -> Code
     )
 }
 
-/// SDIV, UDIV.
+/// SDIV or UDIV.
 #[tactic(auto, using(crate::proofs::LateForms::div_code, crate::proofs::LateForms::general))]
 fn div(signed: bool, d: u8, n: u8, m: u8) -> Result<Code, EncodeFault>
     ensures ok { IfOk result (λ code. IsCodeIn Two code (Div signed d n m)) }
-    ensures exact { result ≡ encoded_of (Div signed d n m) }
+    ensures exact { result ≡ encode_result (Div signed d n m) }
 {
     if !is_general(d) || !is_general(n) || !is_general(m) {
         return Err(EncodeFault::RegisterRange);

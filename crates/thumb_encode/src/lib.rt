@@ -1,5 +1,5 @@
-//! The code of an instruction of ARMv6-M (Armv6-M Architecture Reference Manual, DDI 0419), and of the six rows of ARMv8-M Baseline
-//! (DDI 0553) that the second profile has besides.
+//! Encodes instructions of Armv6-M (Armv6-M Architecture Reference Manual, DDI 0419), and of the six rows of Armv8-M
+//! Baseline (DDI 0553) that the second profile adds.
 #![tactic(auto)]
 
 mod branch;

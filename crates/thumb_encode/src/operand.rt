@@ -1,11 +1,11 @@
-//! Operands in the fields of a code: which fit, and where they stand.
+//! Encodes operands into fields, if they fit.
 ghost use Rattle.std.specs.Prelude.{◌≡◌, ◌+◌, ◌*◌, ◌/◌, ◌%◌, ◌^◌, ◌<◌, ◌≤◌, pos, IfOk};
 ghost use Rattle.thumb_isa.specs.Fields.{signed_half};
 ghost use Rattle.thumb_encode.specs.Codes.{target_field, offset_field, cbz_field};
 
 use thumb_isa::encode_fault::EncodeFault;
 
-/// The fields of three low registers, from the highest bits down.
+/// The fields of three low registers, highest bits first.
 pub fn low_fields(high: u8, middle: u8, low: u8) -> u16
     requires high_in { high < 8 }
     requires middle_in { middle < 8 }
@@ -15,7 +15,7 @@ pub fn low_fields(high: u8, middle: u8, low: u8) -> u16
     (u16::from(high) << 6) + (u16::from(middle) << 3) + u16::from(low)
 }
 
-/// The fields of two registers up to 15.
+/// The fields of two registers 0 to 15.
 pub fn high_fields(d: u8, m: u8) -> u16
     requires d_in { d < 16 }
     requires m_in { m < 16 }
@@ -24,7 +24,8 @@ pub fn high_fields(d: u8, m: u8) -> u16
     (u16::from(d >> 3) << 7) + (u16::from(m) << 3) + u16::from(d & 7)
 }
 
-/// The field of a branch offset: half of it, in one bit less than `half` and the sign have.
+/// The field of a branch offset, which is half the offset; `half` is the weight of the offset's sign bit. TargetRange
+/// if it doesn't fit.
 pub fn target_field(off: i32, half: u32) -> Result<u32, EncodeFault>
     requires { half ≤ 2 ^ 24 }
     ensures ok { IfOk result (λ field. (field < half) × (signed_half half (field * 2) ≡ off)) }
@@ -38,7 +39,7 @@ pub fn target_field(off: i32, half: u32) -> Result<u32, EncodeFault>
     Ok(value as u32 / 2)
 }
 
-/// The field of the offset of a CBZ: half of it.
+/// The field of a CBZ offset, which is half the offset. TargetRange if it doesn't fit.
 pub fn cbz_field(off: i32) -> Result<u16, EncodeFault>
     ensures ok { IfOk result (λ field. (field < 64) × (pos (field * 2) ≡ off)) }
     ensures exact { result ≡ cbz_field off }
@@ -49,7 +50,7 @@ pub fn cbz_field(off: i32) -> Result<u16, EncodeFault>
     Ok(off as u16 / 2)
 }
 
-/// The field of an offset in bytes.
+/// The field of an offset in bytes, at most `largest`.
 pub fn byte_field(off: i32, largest: u16) -> Result<u16, EncodeFault>
     ensures ok { IfOk result (λ field. (field ≤ largest) × (pos field ≡ off)) }
     ensures exact { result ≡ offset_field 1 largest off }
@@ -60,7 +61,7 @@ pub fn byte_field(off: i32, largest: u16) -> Result<u16, EncodeFault>
     Ok(off as u16)
 }
 
-/// The field of an offset in words.
+/// The field of an offset in words; `largest` is in bytes.
 pub fn word_field(off: i32, largest: u16) -> Result<u16, EncodeFault>
     ensures ok { IfOk result (λ field. (field * 4 ≤ largest) × (pos (field * 4) ≡ off)) }
     ensures exact { result ≡ offset_field 4 largest off }
@@ -72,7 +73,7 @@ pub fn word_field(off: i32, largest: u16) -> Result<u16, EncodeFault>
     Ok(bytes / 4)
 }
 
-/// The field of an offset in halfwords.
+/// The field of an offset in halfwords; `largest` is in bytes.
 pub fn half_field(off: i32, largest: u16) -> Result<u16, EncodeFault>
     ensures ok { IfOk result (λ field. (field * 2 ≤ largest) × (pos (field * 2) ≡ off)) }
     ensures exact { result ≡ offset_field 2 largest off }

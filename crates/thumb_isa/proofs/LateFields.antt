@@ -10,9 +10,9 @@ use Rattle.thumb_isa.specs.declared.instr.Decoded.{Decoded}
 use Rattle.thumb_isa.specs.declared.instr.Decoded.TheVariants.{Is, Undefined, Unpredictable, NotInProfile}
 use Rattle.thumb_isa.specs.declared.profile.Profile.{Profile}
 use Rattle.thumb_isa.specs.declared.profile.Profile.TheVariants.{One, Two}
-use Rattle.thumb_isa.specs.Fields.{field, signed}
+use Rattle.thumb_isa.specs.Fields.{field, signed_value}
 use Rattle.thumb_isa.specs.Range.{IsBranch, IsGeneral}
-use Rattle.thumb_isa.specs.Rows.{Row, fits, fits_second, rows, late_rows, first_fit, decoded_of, late_decoded_of, decoded_for, bl_offset, cbz_offset, wide_d, wide_imm}
+use Rattle.thumb_isa.specs.Rows.{Row, fits_row, fits_second, rows, late_rows, first_fit, decode_result, late_decode_result, decode_result_for, bl_offset, cbz_offset, wide_d, wide_imm}
 use Rattle.thumb_isa.specs.Laws.{late_of, is_late, IsLate, AddsFive, FirstHasNone}
 use Rattle.thumb_isa.proofs.Blocks.{both}
 use Rattle.thumb_isa.proofs.BothProfiles.{adds_to_undefined, added}
@@ -34,10 +34,10 @@ fit_first : (rs : List Row) (f s : ℕ) → list_all (λ row. is_first (row.mean
 fit_first [] f s h = refl
 fit_first (row ∷ more) f s h =
     let two = both (is_first (row.means f s)) (list_all (λ row. is_first (row.means f s)) more) h in
-    either (fits row f s) (row.means f s) (first_fit more f s) two.0 (fit_first more f s two.1)
+    either (fits_row row f s) (row.means f s) (first_fit more f s) two.0 (fit_first more f s two.1)
 
-decoded_first : (f s : ℕ) → is_first (decoded_of f s) ≡ true
-unfolding decoded_of
+decoded_first : (f s : ℕ) → is_first (decode_result f s) ≡ true
+unfolding decode_result
 decoded_first f s = fit_first rows f s refl
 
 false_of : (b : Bool) → not b ≡ true → b ≡ false
@@ -72,7 +72,7 @@ second_short (Some p) s h = ap (λ n. n == p.1) (and_short s p.0 h)
 and_same : (a b c d : Bool) → a ≡ c → b ≡ d → (a && b) ≡ (c && d)
 and_same a b c d e f = rw (e, f) refl
 
-fits_short : (row : Row) (f s : ℕ) → is_short row ≡ true → fits row f s ≡ fits row (f % 2 ^ 16) (s % 2 ^ 16)
+fits_short : (row : Row) (f s : ℕ) → is_short row ≡ true → fits_row row f s ≡ fits_row row (f % 2 ^ 16) (s % 2 ^ 16)
 fits_short row f s h =
     let two = both (nat_lt row.mask (2 ^ 16)) (short_second row.second) h in
     and_same _ _ _ _ (ap (λ n. n == row.value) (and_short f row.mask two.0)) (second_short row.second s two.1)
@@ -88,7 +88,7 @@ first_fit-short : (rs : List Row) → MeanShort rs → list_all is_short rs ≡ 
 first_fit-short [] m h f s = refl
 first_fit-short (row ∷ more) m h f s =
     let two = both (is_short row) (list_all is_short more) h in
-    cond_same (fits row f s) (fits row (f % 2 ^ 16) (s % 2 ^ 16)) _ _ _ _ (fits_short row f s two.0) (m.0 f s) (first_fit-short more m.1 two.1 f s)
+    cond_same (fits_row row f s) (fits_row row (f % 2 ^ 16) (s % 2 ^ 16)) _ _ _ _ (fits_short row f s two.0) (m.0 f s) (first_fit-short more m.1 two.1 f s)
 
 cbz_short : (f s : ℕ)
     → Is (Cbz (field f 11 1 == 1) (field f 0 3) (pos (cbz_offset f))) 2 ≡ Is (Cbz (field (f % 2 ^ 16) 11 1 == 1) (field (f % 2 ^ 16) 0 3) (pos (cbz_offset (f % 2 ^ 16)))) 2
@@ -102,7 +102,7 @@ cbz_short f s =
 
 abbrev offset_of : ℕ → ℕ → ℕ → ℕ → ℕ → ℤ
 offset_of sign j1 j2 high low =
-    signed 25 (sign * 2 ^ 24 + cond (j1 == sign) 1 0 * 2 ^ 23 + cond (j2 == sign) 1 0 * 2 ^ 22 + high * 2 ^ 12 + low * 2)
+    signed_value 25 (sign * 2 ^ 24 + cond (j1 == sign) 1 0 * 2 ^ 23 + cond (j2 == sign) 1 0 * 2 ^ 22 + high * 2 ^ 12 + low * 2)
 
 offset_same : (a b c d e f g h i j : ℕ) → a ≡ f → b ≡ g → c ≡ h → d ≡ i → e ≡ j → offset_of a b c d e ≡ offset_of f g h i j
 offset_same a b c d e f g h i j p q r s t = rw (p, q, r, s, t) refl
@@ -123,15 +123,15 @@ move_short : (i : ℕ → ℕ → Instr) (f s : ℕ) → Is (i (wide_d s) (wide_
 move_short i f s =
     ap (λ d. Is (i d (wide_imm f s)) 4) (d_short s) ∙ ap (λ imm. Is (i (wide_d (s % 2 ^ 16)) imm) 4) (imm_short f s)
 
-div_short : (signed : Bool) (f s : ℕ)
-    → Is (Div signed (field s 8 4) (field f 0 4) (field s 0 4)) 4 ≡ Is (Div signed (field (s % 2 ^ 16) 8 4) (field (f % 2 ^ 16) 0 4) (field (s % 2 ^ 16) 0 4)) 4
-div_short signed f s =
+div_short : (signed_value : Bool) (f s : ℕ)
+    → Is (Div signed_value (field s 8 4) (field f 0 4) (field s 0 4)) 4 ≡ Is (Div signed_value (field (s % 2 ^ 16) 8 4) (field (f % 2 ^ 16) 0 4) (field (s % 2 ^ 16) 0 4)) 4
+div_short signed_value f s =
     let d : field s 8 4 ≡ field (s % 2 ^ 16) 8 4 = omega arith in
     let n : field f 0 4 ≡ field (f % 2 ^ 16) 0 4 = omega arith in
     let m : field s 0 4 ≡ field (s % 2 ^ 16) 0 4 = omega arith in
-    ap (λ x. Is (Div signed x (field f 0 4) (field s 0 4)) 4) d
-    ∙ ap (λ x. Is (Div signed (field (s % 2 ^ 16) 8 4) x (field s 0 4)) 4) n
-    ∙ ap (λ x. Is (Div signed (field (s % 2 ^ 16) 8 4) (field (f % 2 ^ 16) 0 4) x) 4) m
+    ap (λ x. Is (Div signed_value x (field f 0 4) (field s 0 4)) 4) d
+    ∙ ap (λ x. Is (Div signed_value (field (s % 2 ^ 16) 8 4) x (field s 0 4)) 4) n
+    ∙ ap (λ x. Is (Div signed_value (field (s % 2 ^ 16) 8 4) (field (f % 2 ^ 16) 0 4) x) 4) m
 
 late_rows_short : MeanShort late_rows
 late_rows_short = (
@@ -187,7 +187,7 @@ refused_fine f s e = subst LateFine (sym e) tt
 cbz_fine : (f s : ℕ) → late_of f s ≡ Is (Cbz (field f 11 1 == 1) (field f 0 3) (pos (cbz_offset f))) 2 → LateFine (late_of f s)
 cbz_fine f s e = subst LateFine (sym e) (record { late = refl; fields = (omega arith, (omega arith, omega arith)); sized = refl })
 
-branch_in : (v : ℕ) → v < 2 ^ 25 → v % 2 ≡ 0 → IsBranch (2 ^ 24) (signed 25 v)
+branch_in : (v : ℕ) → v < 2 ^ 25 → v % 2 ≡ 0 → IsBranch (2 ^ 24) (signed_value 25 v)
 branch_in v h e = elim (cases_lt v 0x1000000) [
   | inl l ↦ rw (lt-ltb v 0x1000000 l) (l, e)
   | inr m ↦ rw (le-ltb v 0x1000000 m, lt-ltb v 0x2000000 h) (negative v (0x2000000 - suc v) m (omega arith) e)
@@ -373,7 +373,7 @@ adds_five f s i n e = elim (adds_to_undefined f s) [
 ]
 
 -- an instruction of either profile is one of the first, of the same size, or the profile is the second and it is one of the five
-pub first_or_late : (p : Profile) (f s : ℕ) (i : Instr) (n : ℕ) → decoded_for p f s ≡ Is i n → (decoded_of f s ≡ Is i n) ⊎ ((p ≡ Two) × IsLate i n)
+pub first_or_late : (p : Profile) (f s : ℕ) (i : Instr) (n : ℕ) → decode_result_for p f s ≡ Is i n → (decode_result f s ≡ Is i n) ⊎ ((p ≡ Two) × IsLate i n)
 first_or_late One f s i n e = inl e
 first_or_late Two f s i n e = elim (adds_five f s i n e) [
   | inl same ↦ inl same

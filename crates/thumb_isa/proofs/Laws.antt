@@ -6,7 +6,7 @@ use Rattle.std.proofs.lemmas.Nat.{and_le_l}
 use Rattle.thumb_isa.specs.declared.instr.Decoded.{Decoded}
 use Rattle.thumb_isa.specs.declared.instr.Decoded.TheVariants.{Is, Undefined, Unpredictable, NotInProfile}
 use Rattle.thumb_isa.specs.Range.{IsOfSize, size_of}
-use Rattle.thumb_isa.specs.Rows.{Row, fits, rows, first_fit, decoded_of}
+use Rattle.thumb_isa.specs.Rows.{Row, fits_row, rows, first_fit, decode_result}
 use Rattle.thumb_isa.proofs.Blocks.{both}
 use Rattle.thumb_isa.proofs.Search.{kept, drops_no_fit, first_fit-kept, decoded_by}
 
@@ -36,12 +36,12 @@ drops-narrow (row ∷ more) first h below =
     let two = both (is_none row.second || nat_le 0xe800 row.value) (start_high more) h in
     drop_cases (is_none row.second) (narrow_rows more) row more first two.0 below (drops-narrow more first two.1 below)
 
-narrow_fit : (first second : ℕ) → first < 0xe800 → decoded_of first second ≡ first_fit (kept (narrow_rows rows) rows) first second
-unfolding decoded_of
+narrow_fit : (first second : ℕ) → first < 0xe800 → decode_result first second ≡ first_fit (kept (narrow_rows rows) rows) first second
+unfolding decode_result
 narrow_fit first second below = first_fit-kept (narrow_rows rows) rows first second (drops-narrow rows first refl below)
 
 -- below 0xe800 the second halfword plays no part
-pub alone : (first second other : ℕ) → first < 0xe800 → decoded_of first second ≡ decoded_of first other
+pub alone : (first second other : ℕ) → first < 0xe800 → decode_result first second ≡ decode_result first other
 alone first second other below = narrow_fit first second below ∙ sym (narrow_fit first other below)
 
 -- the size in bytes, where it is an instruction
@@ -65,20 +65,20 @@ pub first_fit-size : (n : ℕ) (rs : List Row) (first second : ℕ) → list_all
 first_fit-size n [] first second h = refl
 first_fit-size n (row ∷ more) first second h =
     let two = both (is_of_size n (row.means first second)) (list_all (λ row. is_of_size n (row.means first second)) more) h in
-    either n (fits row first second) (row.means first second) (first_fit more first second) two.0 (first_fit-size n more first second two.1)
+    either n (fits_row row first second) (row.means first second) (first_fit more first second) two.0 (first_fit-size n more first second two.1)
 
-narrow_size : (first second : ℕ) → first < 0xe800 → IsOfSize 2 (decoded_of first second)
+narrow_size : (first second : ℕ) → first < 0xe800 → IsOfSize 2 (decode_result first second)
 narrow_size first second below =
     rw (narrow_fit first second below)
     (from_test 2 (first_fit (kept (narrow_rows rows) rows) first second) (first_fit-size 2 (kept (narrow_rows rows) rows) first second refl))
 
-wide_size : (first second : ℕ) → 0xe800 ≤ first → first < 0x10000 → IsOfSize 4 (decoded_of first second)
+wide_size : (first second : ℕ) → 0xe800 ≤ first → first < 0x10000 → IsOfSize 4 (decode_result first second)
 wide_size first second above below =
     rw (decoded_by (wide_rows rows) 0xe800 0x1800 second refl first above below)
     (from_test 4 (first_fit (kept (wide_rows rows) rows) first second) (first_fit-size 4 (kept (wide_rows rows) rows) first second refl))
 
 -- an instruction has the size that its first halfword tells
-pub sized : (first second : ℕ) → first < 0x10000 → IsOfSize (size_of first) (decoded_of first second)
+pub sized : (first second : ℕ) → first < 0x10000 → IsOfSize (size_of first) (decode_result first second)
 sized first second below = elim (cases_lt first 0xe800) [
   | inl low ↦ rw (lt-leb 0xe800 first low) (narrow_size first second low)
   | inr high ↦ rw (le-leb 0xe800 first high) (wide_size first second high below)

@@ -2,14 +2,14 @@
 use Rattle.std.proofs.Common.{◌≡◌, ℕ, zero, suc, ◌+◌, ◌<◌, ◌≤◌, Bool, true, false, not, ◌&&◌, ◌||◌, ◌==◌, bit_and, cond, Option, Some, None, List, [], ◌∷◌, refl, arith, ◌∙◌, ap}
 use Rattle.thumb_isa.specs.declared.instr.Decoded.{Decoded}
 use Rattle.thumb_isa.specs.declared.instr.Decoded.TheVariants.{Is, Undefined, Unpredictable, NotInProfile}
-use Rattle.thumb_isa.specs.Rows.{Row, fits, fits_second, rows, first_fit, decoded_of}
+use Rattle.thumb_isa.specs.Rows.{Row, fits_row, fits_second, rows, first_fit, decode_result}
 use Rattle.thumb_isa.proofs.Blocks.{all_from, all_from_at, both, none_in, none_in_at, all_in, all_in_at}
 
 -- the search stops at this place of the list, or runs past its end
 abbrev pub stops_at : ℕ → List Row → ℕ → ℕ → Bool
 stops_at i [] first second = true
-stops_at zero (row ∷ more) first second = fits row first second
-stops_at (suc i) (row ∷ more) first second = not (fits row first second) && stops_at i more first second
+stops_at zero (row ∷ more) first second = fits_row row first second
+stops_at (suc i) (row ∷ more) first second = not (fits_row row first second) && stops_at i more first second
 
 abbrev pub meaning_at : ℕ → List Row → ℕ → ℕ → Decoded
 meaning_at i [] first second = Undefined
@@ -26,10 +26,10 @@ cond_not false x y h = refl
 pub first_fit-at : (i : ℕ) (rs : List Row) (first second : ℕ) → stops_at i rs first second ≡ true → first_fit rs first second ≡ meaning_at i rs first second
 first_fit-at zero [] first second h = refl
 first_fit-at (suc i) [] first second h = refl
-first_fit-at zero (row ∷ more) first second h = cond_true (fits row first second) _ _ h
+first_fit-at zero (row ∷ more) first second h = cond_true (fits_row row first second) _ _ h
 first_fit-at (suc i) (row ∷ more) first second h =
-    let two = both (not (fits row first second)) (stops_at i more first second) h in
-    cond_not (fits row first second) _ _ two.0 ∙ first_fit-at i more first second two.1
+    let two = both (not (fits_row row first second)) (stops_at i more first second) h in
+    cond_not (fits_row row first second) _ _ two.0 ∙ first_fit-at i more first second two.1
 
 pub implied : (a b : Bool) → (not a || b) ≡ true → a ≡ true → b ≡ true
 implied true b h e = h
@@ -71,8 +71,8 @@ stops_at-in (suc i) (row ∷ more) low n second h first above below =
 
 -- the n halfwords from low up have the meaning of the row at this place
 pub decoded_at : (i low n second : ℕ) → stops_in i rows low n ≡ true
-    → (first : ℕ) → low ≤ first → first < low + n → decoded_of first second ≡ meaning_at i rows first second
-unfolding decoded_of
+    → (first : ℕ) → low ≤ first → first < low + n → decode_result first second ≡ meaning_at i rows first second
+unfolding decode_result
 decoded_at i low n second h first above below =
     first_fit-at i rows first second (stops_at-in i rows low n second h first above below)
 
@@ -128,8 +128,8 @@ module _ (low n low_2 m first second : ℕ) (above : low ≤ first) (below : fir
 
 pub decoded_over : (i low n low_2 m : ℕ) → stops_over i rows low n low_2 m ≡ true
     → (first second : ℕ) → low ≤ first → first < low + n → low_2 ≤ second → second < low_2 + m
-    → decoded_of first second ≡ meaning_at i rows first second
-unfolding decoded_of
+    → decode_result first second ≡ meaning_at i rows first second
+unfolding decode_result
 decoded_over i low n low_2 m h first second a b a2 b2 =
     first_fit-at i rows first second (stops_at-over low n low_2 m first second a b a2 b2 i rows h)
 
@@ -156,7 +156,7 @@ first_fit-kept [] [] first second h = refl
 first_fit-kept [] (row ∷ more) first second h = cc
 first_fit-kept (k ∷ ks) [] first second h = refl
 first_fit-kept (true ∷ ks) (row ∷ more) first second h =
-    ap (cond (fits row first second) (row.means first second)) (first_fit-kept ks more first second h)
+    ap (cond (fits_row row first second) (row.means first second)) (first_fit-kept ks more first second h)
 first_fit-kept (false ∷ ks) (row ∷ more) first second h =
     let two = both (not (bit_and first row.mask == row.value)) (drops_no_fit ks more first) h in
     first_fit-past _ _ _ _ _ two.0 (first_fit-kept ks more first second two.1)
@@ -180,8 +180,8 @@ drops_in_at (false ∷ ks) (row ∷ more) low n h first above below =
 
 -- the n halfwords from low up need only these rows
 pub decoded_by : (ks : List Bool) (low n second : ℕ) → drops_in ks rows low n ≡ true
-    → (first : ℕ) → low ≤ first → first < low + n → decoded_of first second ≡ first_fit (kept ks rows) first second
-unfolding decoded_of
+    → (first : ℕ) → low ≤ first → first < low + n → decode_result first second ≡ first_fit (kept ks rows) first second
+unfolding decode_result
 decoded_by ks low n second h first above below =
     first_fit-kept ks rows first second (drops_in_at ks rows low n h first above below)
 
@@ -199,7 +199,7 @@ near_drops [] low n = refl
 near_drops (row ∷ more) low n = near_step (none_in row.mask row.value low n) (near more low n) row more low n refl (near_drops more low n)
 
 -- the n halfwords from low up need only the rows that may fit one of them
-pub decoded_near : (low n second : ℕ) (first : ℕ) → low ≤ first → first < low + n → decoded_of first second ≡ first_fit (kept (near rows low n) rows) first second
+pub decoded_near : (low n second : ℕ) (first : ℕ) → low ≤ first → first < low + n → decode_result first second ≡ first_fit (kept (near rows low n) rows) first second
 decoded_near low n second = decoded_by (near rows low n) low n second (near_drops rows low n)
 
 -- the place of the row that this halfword fits
@@ -226,19 +226,19 @@ first_fit-where when i rs low n second h first above below w =
 
 -- of the n halfwords from low up, those that pass the test `when` have the meaning of the row that the halfword `like` fits
 pub decoded_where : (when : ℕ → Bool) (like low n second : ℕ) → all_from (stops_where when (place_near like low n) (near_rows low n) second) n low ≡ true
-    → (first : ℕ) → low ≤ first → first < low + n → when first ≡ true → decoded_of first second ≡ meaning_at (place_near like low n) (near_rows low n) first second
+    → (first : ℕ) → low ≤ first → first < low + n → when first ≡ true → decode_result first second ≡ meaning_at (place_near like low n) (near_rows low n) first second
 decoded_where when like low n second h first above below w =
     decoded_near low n second first above below ∙ first_fit-where when (place_near like low n) (near_rows low n) low n second h first above below w
 
 -- the n halfwords from low up have the meaning of the row that the lowest fits
 pub decoded_like : (low n second : ℕ) → stops_in (row_place rows low) rows low n ≡ true
-    → (first : ℕ) → low ≤ first → first < low + n → decoded_of first second ≡ meaning_at (row_place rows low) rows first second
+    → (first : ℕ) → low ≤ first → first < low + n → decode_result first second ≡ meaning_at (row_place rows low) rows first second
 decoded_like low n second = decoded_at (row_place rows low) low n second
 
 -- the place of the row that this pair fits
 abbrev pub place_of_pair : List Row → ℕ → ℕ → ℕ
 place_of_pair [] first second = 0
-place_of_pair (row ∷ more) first second = let later = suc (place_of_pair more first second) in cond (fits row first second) 0 later
+place_of_pair (row ∷ more) first second = let later = suc (place_of_pair more first second) in cond (fits_row row first second) 0 later
 
 abbrev pub is_unpredictable : Decoded → Bool
 is_unpredictable (Is i size) = false
@@ -262,12 +262,12 @@ first_fit-refused when rs low n second h first above below w =
 
 -- of the n halfwords from low up, those that pass the test `when` are unpredictable
 pub unpredictable_where : (when : ℕ → Bool) (low n second : ℕ) → all_from (refused_where when (near_rows low n) second) n low ≡ true
-    → (first : ℕ) → low ≤ first → first < low + n → when first ≡ true → decoded_of first second ≡ Unpredictable
+    → (first : ℕ) → low ≤ first → first < low + n → when first ≡ true → decode_result first second ≡ Unpredictable
 unpredictable_where when low n second h first above below w =
     decoded_near low n second first above below ∙ first_fit-refused when (near_rows low n) low n second h first above below w
 
 -- the rectangle of n first and m second halfwords has the meaning of the row that its lowest pair fits
 pub decoded_pair : (low n low_2 m : ℕ) → stops_over (place_of_pair rows low low_2) rows low n low_2 m ≡ true
     → (first second : ℕ) → low ≤ first → first < low + n → low_2 ≤ second → second < low_2 + m
-    → decoded_of first second ≡ meaning_at (place_of_pair rows low low_2) rows first second
+    → decode_result first second ≡ meaning_at (place_of_pair rows low low_2) rows first second
 decoded_pair low n low_2 m = decoded_over (place_of_pair rows low low_2) low n low_2 m

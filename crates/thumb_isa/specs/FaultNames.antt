@@ -1,4 +1,4 @@
--- The names of the encoder's refusals in a report (docs/instruction-set.md).
+-- The names of the encoder's refusals in a report (docs/rules/instructions.md).
 use Rattle.std.specs.Prelude.{ℕ, List, codes}
 use Rattle.thumb_isa.specs.declared.encode_fault.EncodeFault.{EncodeFault}
 use Rattle.thumb_isa.specs.declared.encode_fault.EncodeFault.TheVariants.{RegisterRange, ListEmpty, ImmediateRange, ImmediateAlign, TargetRange}

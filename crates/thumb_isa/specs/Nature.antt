@@ -1,23 +1,24 @@
--- What each instruction is (Armv6-M Architecture Reference Manual, DDI 0419, and Armv8-M, DDI 0553; docs/instruction-set.md, "What an
--- instruction is"). Every instruction has its own line in `known`. What is asked of an instruction before it is done, or of what it leaves, is
--- said of natures, and of each nature. thumb_core's `NaturesFit` is the law that the effects fit this table.
+-- The nature of each instruction (Armv6-M Architecture Reference Manual, DDI 0419, and Armv8-M, DDI 0553;
+-- docs/rules/instructions.md, "Natures").
+-- Every instruction has its own line in `known`. Questions about an instruction, before it is executed or about its
+-- effect, are defined per nature. thumb_core's `NaturesFit` is the law that the effects fit this table.
 use Rattle.std.specs.Prelude.{ℕ, ℤ, ◌<◌, Bool, true, false, Option, Some, None}
 use Rattle.thumb_isa.specs.declared.instr.Instr.{Instr}
 use Rattle.thumb_isa.specs.declared.instr.Instr.TheVariants.{ShiftImm, AddSubReg, AddSubImm3, Imm8, Alu, AddHigh, CmpHigh, MovHigh, Bx, Blx, LdrLit, MemReg, MemImm, MemSp, Adr, AddRdSp, AddSp, SubSp, Extend, Rev, Push, Pop, Hint, Stm, Ldm, BCond, Svc, B, Bl, Barrier, Cbz, BWide, MovW, MovT, Div}
 use Rattle.thumb_isa.specs.Range.{IsGeneral, InRange}
 
--- a value in a low register d that may be a copy of another's, or lie a known way from it
-pub data Derived : Type 0 where
+-- a value in a low register d that may derive from another register: a copy, or a known offset from it
+pub data Derivation : Type 0 where
   -- LSL, LSR and ASR by n; LSL by 0 is a copy
-  Shifts : (op d m n : ℕ) → Derived
+  Shifts : (op d m n : ℕ) → Derivation
   -- ADD and SUB of three bits
-  AddsThree : (sub : Bool) (d n imm : ℕ) → Derived
+  AddsThree : (sub : Bool) (d n imm : ℕ) → Derivation
   -- MOV, CMP, ADD and SUB of eight bits; CMP writes no register
-  AddsEight : (op d imm : ℕ) → Derived
+  AddsEight : (op d imm : ℕ) → Derivation
   -- the sixteen operations of two registers; TST, CMP and CMN write none
-  Combines : (op d m : ℕ) → Derived
+  Combines : (op d m : ℕ) → Derivation
   -- ADD of sp and a number
-  AddsToSp : (d : ℕ) (off : ℤ) → Derived
+  AddsToSp : (d : ℕ) (off : ℤ) → Derivation
 
 -- a load or a store of the low register t
 pub data Transfer : Type 0 where
@@ -30,28 +31,28 @@ pub data Transfer : Type 0 where
   -- at sp and an offset
   AtSp : (load : Bool) (t : ℕ) (off : ℤ) → Transfer
 
--- a way on that is not only to the next instruction
+-- a way to go on other than to the next instruction only
 pub data Branch : Type 0 where
   BranchesTo : (off : ℤ) → Branch
-  -- under a condition, else to the next instruction
+  -- under a condition; else to the next instruction
   BranchesIf : (cond : ℕ) (off : ℤ) → Branch
-  -- where a register is 0, or isn't, else to the next instruction
+  -- if a register is 0, or isn't; else to the next instruction
   BranchesOn : (nonzero : Bool) (n : ℕ) (off : ℤ) → Branch
   -- a call, by an offset or, without one, by a register
   Calls : (off : Option ℤ) → Branch
-  -- a return by a register, or a branch to where it says
+  -- a branch to a register's value, which may be a return
   ReturnsBy : (m : ℕ) → Branch
   -- a gate
   Gates : (number : ℕ) → Branch
 
 pub data Nature : Type 0 where
-  -- puts a value of which nothing is said into register d, which is neither sp nor pc, and goes on
+  -- writes an untracked value to register d, which is neither sp nor pc, and falls through
   Works : (d : ℕ) → Nature
-  -- writes no register and goes on
+  -- writes no register and falls through
   Idles : Nature
-  -- writes a low register, if any, and goes on
-  Derives : Derived → Nature
-  -- ADD and MOV of any two registers; into pc they are branches
+  -- writes a low register, if any, and falls through
+  Derives : Derivation → Nature
+  -- ADD and MOV of any two registers; into pc they branch
   AddsHigh : (d m : ℕ) → Nature
   MovesHigh : (d m : ℕ) → Nature
   Transfers : Transfer → Nature
@@ -66,64 +67,64 @@ pub data Nature : Type 0 where
   PopsList : (list : ℕ) → Nature
   Goes : Branch → Nature
 
--- what is known of an instruction: its nature, and whether the second profile alone has it
-pub record Known : Type 0 where
+-- what is known of an instruction: its nature, and whether only the second profile has it
+pub record ProfiledNature : Type 0 where
   pub nature : Nature
   pub late : Bool
 
 -- one of both profiles
-abbrev pub both : Nature → Known
-both n = record { nature = n; late = false }
+abbrev pub in_both_profiles : Nature → ProfiledNature
+in_both_profiles n = record { nature = n; late = false }
 
 -- one of the second alone
-abbrev pub late : Nature → Known
-late n = record { nature = n; late = true }
+abbrev pub in_second_profile : Nature → ProfiledNature
+in_second_profile n = record { nature = n; late = true }
 
 -- the table
-abbrev pub known : Instr → Known
-known (ShiftImm op d m n) = both (Derives (Shifts op d m n))
-known (AddSubReg sub d n m) = both (Works d)
-known (AddSubImm3 sub d n imm) = both (Derives (AddsThree sub d n imm))
-known (Imm8 op d imm) = both (Derives (AddsEight op d imm))
-known (Alu op d m) = both (Derives (Combines op d m))
-known (AddHigh d m) = both (AddsHigh d m)
-known (CmpHigh n m) = both Idles
-known (MovHigh d m) = both (MovesHigh d m)
-known (Bx m) = both (Goes (ReturnsBy m))
-known (Blx m) = both (Goes (Calls None))
-known (LdrLit t off) = both (Transfers (NearPc t off))
-known (MemReg op t n m) = both (Transfers (AtSum op t n m))
-known (MemImm op t n off) = both (Transfers (AtOffset op t n off))
-known (MemSp load t off) = both (Transfers (AtSp load t off))
-known (Adr d off) = both (Works d)
-known (AddRdSp d off) = both (Derives (AddsToSp d off))
-known (AddSp off) = both (RaisesSp off)
-known (SubSp off) = both (LowersSp off)
-known (Extend op d m) = both (Works d)
-known (Rev op d m) = both (Works d)
-known (Push list) = both (PushesList list)
-known (Pop list) = both (PopsList list)
-known (Hint n) = both Idles
-known (Stm n list) = both (StoresList n list)
-known (Ldm n list) = both (LoadsList n list)
-known (BCond cond off) = both (Goes (BranchesIf cond off))
-known (Svc imm) = both (Goes (Gates imm))
-known (B off) = both (Goes (BranchesTo off))
-known (Bl off) = both (Goes (Calls (Some off)))
-known (Barrier op option) = both Idles
-known (Cbz nonzero n off) = late (Goes (BranchesOn nonzero n off))
-known (BWide off) = late (Goes (BranchesTo off))
-known (MovW d imm) = late (Works d)
-known (MovT d imm) = late (Works d)
-known (Div signed d n m) = late (Works d)
+abbrev pub profiled_nature : Instr → ProfiledNature
+profiled_nature (ShiftImm op d m n) = in_both_profiles (Derives (Shifts op d m n))
+profiled_nature (AddSubReg sub d n m) = in_both_profiles (Works d)
+profiled_nature (AddSubImm3 sub d n imm) = in_both_profiles (Derives (AddsThree sub d n imm))
+profiled_nature (Imm8 op d imm) = in_both_profiles (Derives (AddsEight op d imm))
+profiled_nature (Alu op d m) = in_both_profiles (Derives (Combines op d m))
+profiled_nature (AddHigh d m) = in_both_profiles (AddsHigh d m)
+profiled_nature (CmpHigh n m) = in_both_profiles Idles
+profiled_nature (MovHigh d m) = in_both_profiles (MovesHigh d m)
+profiled_nature (Bx m) = in_both_profiles (Goes (ReturnsBy m))
+profiled_nature (Blx m) = in_both_profiles (Goes (Calls None))
+profiled_nature (LdrLit t off) = in_both_profiles (Transfers (NearPc t off))
+profiled_nature (MemReg op t n m) = in_both_profiles (Transfers (AtSum op t n m))
+profiled_nature (MemImm op t n off) = in_both_profiles (Transfers (AtOffset op t n off))
+profiled_nature (MemSp load t off) = in_both_profiles (Transfers (AtSp load t off))
+profiled_nature (Adr d off) = in_both_profiles (Works d)
+profiled_nature (AddRdSp d off) = in_both_profiles (Derives (AddsToSp d off))
+profiled_nature (AddSp off) = in_both_profiles (RaisesSp off)
+profiled_nature (SubSp off) = in_both_profiles (LowersSp off)
+profiled_nature (Extend op d m) = in_both_profiles (Works d)
+profiled_nature (Rev op d m) = in_both_profiles (Works d)
+profiled_nature (Push list) = in_both_profiles (PushesList list)
+profiled_nature (Pop list) = in_both_profiles (PopsList list)
+profiled_nature (Hint n) = in_both_profiles Idles
+profiled_nature (Stm n list) = in_both_profiles (StoresList n list)
+profiled_nature (Ldm n list) = in_both_profiles (LoadsList n list)
+profiled_nature (BCond cond off) = in_both_profiles (Goes (BranchesIf cond off))
+profiled_nature (Svc imm) = in_both_profiles (Goes (Gates imm))
+profiled_nature (B off) = in_both_profiles (Goes (BranchesTo off))
+profiled_nature (Bl off) = in_both_profiles (Goes (Calls (Some off)))
+profiled_nature (Barrier op option) = in_both_profiles Idles
+profiled_nature (Cbz nonzero n off) = in_second_profile (Goes (BranchesOn nonzero n off))
+profiled_nature (BWide off) = in_second_profile (Goes (BranchesTo off))
+profiled_nature (MovW d imm) = in_second_profile (Works d)
+profiled_nature (MovT d imm) = in_second_profile (Works d)
+profiled_nature (Div signed d n m) = in_second_profile (Works d)
 
 abbrev pub nature : Instr → Nature
-nature i = (known i).nature
+nature i = (profiled_nature i).nature
 
 -- ---- what is asked of a nature
 
 -- the low register that is written, if any
-abbrev pub derived_register : Derived → ℕ
+abbrev pub derived_register : Derivation → ℕ
 derived_register (Shifts op d m n) = d
 derived_register (AddsThree sub d n imm) = d
 derived_register (AddsEight op d imm) = d
@@ -152,7 +153,7 @@ is_access (PushesList list) = true
 is_access (PopsList list) = true
 is_access (Goes b) = false
 
--- where it is a branch, a call, a return by a register or a gate, that
+-- the branch, call, return by a register or SVC that it is, if it is one
 abbrev pub branch_of : Nature → Option Branch
 branch_of (Works d) = None
 branch_of Idles = None
@@ -170,7 +171,7 @@ branch_of (Goes b) = Some b
 
 -- ---- a law of the table
 
--- the register that is written is a low one, and that of an instruction that works on one is neither sp nor pc
+-- the register that is written is low, or, for an instruction that works on one, neither sp nor pc
 abbrev pub WritesWell : Nature → Type 0
 WritesWell (Works d) = IsGeneral d
 WritesWell Idles = Unit {0}

@@ -8,7 +8,7 @@ use Rattle.thumb_isa.specs.declared.instr.Decoded.{Decoded}
 use Rattle.thumb_isa.specs.declared.instr.Decoded.TheVariants.{Is, Undefined, Unpredictable, NotInProfile}
 use Rattle.thumb_isa.specs.declared.profile.Profile.{Profile}
 use Rattle.thumb_isa.specs.declared.profile.Profile.TheVariants.{One, Two}
-use Rattle.thumb_isa.specs.Fields.{field, signed}
+use Rattle.thumb_isa.specs.Fields.{field, signed_value}
 
 -- A pair of halfwords fits where the first under `mask` is `value`, and the second, if the row names it, likewise.
 pub record Row : Type 0 where
@@ -21,8 +21,8 @@ abbrev pub fits_second : Option (ℕ × ℕ) → ℕ → Bool
 fits_second None second = true
 fits_second (Some pattern) second = bit_and second pattern.0 == pattern.1
 
-abbrev pub fits : Row → ℕ → ℕ → Bool
-fits row first second = (bit_and first row.mask == row.value) && fits_second row.second second
+abbrev pub fits_row : Row → ℕ → ℕ → Bool
+fits_row row first second = (bit_and first row.mask == row.value) && fits_second row.second second
 
 -- a row of one halfword that is an instruction
 abbrev pub narrow : ℕ → ℕ → (ℕ → Instr) → Row
@@ -30,8 +30,8 @@ narrow mask value instr =
     record { mask = mask; value = value; second = None; means = λ first second. Is (instr first) 2 }
 
 -- a row of one halfword that is none
-abbrev pub refused : ℕ → ℕ → Decoded → Row
-refused mask value answer =
+abbrev pub refused_row : ℕ → ℕ → Decoded → Row
+refused_row mask value answer =
     record { mask = mask; value = value; second = None; means = λ first second. answer }
 
 -- a row of two halfwords that is an instruction
@@ -58,60 +58,60 @@ bl_offset first second =
     let s = field first 10 1 in
     let i1 = (if field second 13 1 == s then 1 else 0) in
     let i2 = (if field second 11 1 == s then 1 else 0) in
-    signed 25
+    signed_value 25
     (s * 2 ^ 24 + i1 * 2 ^ 23 + i2 * 2 ^ 22 + field first 0 10 * 2 ^ 12 + field second 0 11 * 2)
 
 -- The rows of the table. Those that are no instruction go first.
 abbrev pub rows : List Row
 rows =
     -- UNPREDICTABLE: ADD (register) of pc and pc
-    refused 0xffff 0x44ff Unpredictable
+    refused_row 0xffff 0x44ff Unpredictable
     -- CMP (register), encoding T2, of two low registers, or with pc on either side
-    ∷ refused 0xffc0 0x4500 Unpredictable
-    ∷ refused 0xff87 0x4587 Unpredictable
-    ∷ refused 0xff78 0x4578 Unpredictable
+    ∷ refused_row 0xffc0 0x4500 Unpredictable
+    ∷ refused_row 0xff87 0x4587 Unpredictable
+    ∷ refused_row 0xff78 0x4578 Unpredictable
     -- BX, BLX (register) to pc, or with one of the low three bits set
-    ∷ refused 0xff78 0x4778 Unpredictable
-    ∷ refused 0xff01 0x4701 Unpredictable
-    ∷ refused 0xff02 0x4702 Unpredictable
-    ∷ refused 0xff04 0x4704 Unpredictable
+    ∷ refused_row 0xff78 0x4778 Unpredictable
+    ∷ refused_row 0xff01 0x4701 Unpredictable
+    ∷ refused_row 0xff02 0x4702 Unpredictable
+    ∷ refused_row 0xff04 0x4704 Unpredictable
     -- PUSH, POP, and STM or LDM, of no register
-    ∷ refused 0xffff 0xb400 Unpredictable
-    ∷ refused 0xffff 0xbc00 Unpredictable
-    ∷ refused 0xf0ff 0xc000 Unpredictable
+    ∷ refused_row 0xffff 0xb400 Unpredictable
+    ∷ refused_row 0xffff 0xbc00 Unpredictable
+    ∷ refused_row 0xf0ff 0xc000 Unpredictable
     -- STM with its base n in the list and a lower register k beside it, for each k below n:
     -- the masks name the bits 10 to 8 (n), n and k
-    ∷ refused 0xff03 0xc103 Unpredictable
-    ∷ refused 0xff05 0xc205 Unpredictable
-    ∷ refused 0xff06 0xc206 Unpredictable
-    ∷ refused 0xff09 0xc309 Unpredictable
-    ∷ refused 0xff0a 0xc30a Unpredictable
-    ∷ refused 0xff0c 0xc30c Unpredictable
-    ∷ refused 0xff11 0xc411 Unpredictable
-    ∷ refused 0xff12 0xc412 Unpredictable
-    ∷ refused 0xff14 0xc414 Unpredictable
-    ∷ refused 0xff18 0xc418 Unpredictable
-    ∷ refused 0xff21 0xc521 Unpredictable
-    ∷ refused 0xff22 0xc522 Unpredictable
-    ∷ refused 0xff24 0xc524 Unpredictable
-    ∷ refused 0xff28 0xc528 Unpredictable
-    ∷ refused 0xff30 0xc530 Unpredictable
-    ∷ refused 0xff41 0xc641 Unpredictable
-    ∷ refused 0xff42 0xc642 Unpredictable
-    ∷ refused 0xff44 0xc644 Unpredictable
-    ∷ refused 0xff48 0xc648 Unpredictable
-    ∷ refused 0xff50 0xc650 Unpredictable
-    ∷ refused 0xff60 0xc660 Unpredictable
-    ∷ refused 0xff81 0xc781 Unpredictable
-    ∷ refused 0xff82 0xc782 Unpredictable
-    ∷ refused 0xff84 0xc784 Unpredictable
-    ∷ refused 0xff88 0xc788 Unpredictable
-    ∷ refused 0xff90 0xc790 Unpredictable
-    ∷ refused 0xffa0 0xc7a0 Unpredictable
-    ∷ refused 0xffc0 0xc7c0 Unpredictable
+    ∷ refused_row 0xff03 0xc103 Unpredictable
+    ∷ refused_row 0xff05 0xc205 Unpredictable
+    ∷ refused_row 0xff06 0xc206 Unpredictable
+    ∷ refused_row 0xff09 0xc309 Unpredictable
+    ∷ refused_row 0xff0a 0xc30a Unpredictable
+    ∷ refused_row 0xff0c 0xc30c Unpredictable
+    ∷ refused_row 0xff11 0xc411 Unpredictable
+    ∷ refused_row 0xff12 0xc412 Unpredictable
+    ∷ refused_row 0xff14 0xc414 Unpredictable
+    ∷ refused_row 0xff18 0xc418 Unpredictable
+    ∷ refused_row 0xff21 0xc521 Unpredictable
+    ∷ refused_row 0xff22 0xc522 Unpredictable
+    ∷ refused_row 0xff24 0xc524 Unpredictable
+    ∷ refused_row 0xff28 0xc528 Unpredictable
+    ∷ refused_row 0xff30 0xc530 Unpredictable
+    ∷ refused_row 0xff41 0xc641 Unpredictable
+    ∷ refused_row 0xff42 0xc642 Unpredictable
+    ∷ refused_row 0xff44 0xc644 Unpredictable
+    ∷ refused_row 0xff48 0xc648 Unpredictable
+    ∷ refused_row 0xff50 0xc650 Unpredictable
+    ∷ refused_row 0xff60 0xc660 Unpredictable
+    ∷ refused_row 0xff81 0xc781 Unpredictable
+    ∷ refused_row 0xff82 0xc782 Unpredictable
+    ∷ refused_row 0xff84 0xc784 Unpredictable
+    ∷ refused_row 0xff88 0xc788 Unpredictable
+    ∷ refused_row 0xff90 0xc790 Unpredictable
+    ∷ refused_row 0xffa0 0xc7a0 Unpredictable
+    ∷ refused_row 0xffc0 0xc7c0 Unpredictable
     -- NotInProfile: CPS, BKPT, MSR (register), MRS
-    ∷ refused 0xffe0 0xb660 NotInProfile
-    ∷ refused 0xff00 0xbe00 NotInProfile
+    ∷ refused_row 0xffe0 0xb660 NotInProfile
+    ∷ refused_row 0xff00 0xbe00 NotInProfile
     ∷ refused_pair 0xfff0 0xf380 0xff00 0x8800 NotInProfile
     ∷ refused_pair 0xffff 0xf3ef 0xf000 0x8000 NotInProfile
     -- LSL, LSR, ASR (immediate); LSL by 0 is MOV (register) with flags
@@ -159,12 +159,12 @@ rows =
     ∷ narrow 0xf800 0xc000 (λ h. Stm (field h 8 3) (field h 0 8))
     ∷ narrow 0xf800 0xc800 (λ h. Ldm (field h 8 3) (field h 0 8))
     -- B, encoding T1, with the conditions 0 to 7, 8 to 11, 12 and 13; SVC
-    ∷ narrow 0xf800 0xd000 (λ h. BCond (field h 8 4) (signed 9 (field h 0 8 * 2)))
-    ∷ narrow 0xfc00 0xd800 (λ h. BCond (field h 8 4) (signed 9 (field h 0 8 * 2)))
-    ∷ narrow 0xfe00 0xdc00 (λ h. BCond (field h 8 4) (signed 9 (field h 0 8 * 2)))
+    ∷ narrow 0xf800 0xd000 (λ h. BCond (field h 8 4) (signed_value 9 (field h 0 8 * 2)))
+    ∷ narrow 0xfc00 0xd800 (λ h. BCond (field h 8 4) (signed_value 9 (field h 0 8 * 2)))
+    ∷ narrow 0xfe00 0xdc00 (λ h. BCond (field h 8 4) (signed_value 9 (field h 0 8 * 2)))
     ∷ narrow 0xff00 0xdf00 (λ h. Svc (field h 0 8))
     -- B, encoding T2
-    ∷ narrow 0xf800 0xe000 (λ h. B (signed 12 (field h 0 11 * 2)))
+    ∷ narrow 0xf800 0xe000 (λ h. B (signed_value 12 (field h 0 11 * 2)))
     -- BL
     ∷ wide 0xf800 0xf000 0xd000 0xd000 (λ first second. Bl (bl_offset first second))
     -- DSB; DMB; ISB
@@ -216,16 +216,16 @@ abbrev pub first_fit : List Row → ℕ → ℕ → Decoded
 first_fit [] first second = Undefined
 first_fit (row ∷ more) first second =
     let later = first_fit more first second in
-    if fits row first second then row.means first second else later
+    if fits_row row first second then row.means first second else later
 
 -- in the first profile
-unfoldable pub decoded_of : ℕ → ℕ → Decoded
-decoded_of first second = first_fit rows first second
+unfoldable pub decode_result : ℕ → ℕ → Decoded
+decode_result first second = first_fit rows first second
 
 -- in the second, whose rows are these and those of the first
-unfoldable pub late_decoded_of : ℕ → ℕ → Decoded
-late_decoded_of first second = first_fit (late_rows ++ rows) first second
+unfoldable pub late_decode_result : ℕ → ℕ → Decoded
+late_decode_result first second = first_fit (late_rows ++ rows) first second
 
-abbrev pub decoded_for : Profile → ℕ → ℕ → Decoded
-decoded_for One first second = decoded_of first second
-decoded_for Two first second = late_decoded_of first second
+abbrev pub decode_result_for : Profile → ℕ → ℕ → Decoded
+decode_result_for One first second = decode_result first second
+decode_result_for Two first second = late_decode_result first second

@@ -1,37 +1,38 @@
-//! From halfwords to an instruction: the rows of specs/Rows.antt, cut by the top five bits. docs/instruction-set.md states the table.
+//! Decodes halfwords into instructions, by the rows of specs/Rows.antt, split by the top five bits
+//! (docs/rules/instructions.md).
 ghost use Rattle.std.specs.Prelude.{◌≡◌, ◌+◌, ◌*◌, ◌%◌, ◌^◌, ◌<◌, ◌≤◌, nat_le, ℕ};
 ghost use Rattle.thumb_isa.specs.Range.{IsInRange, IsBranch, IsOfSize, size_of};
-ghost use Rattle.thumb_isa.specs.Rows.{decoded_of, decoded_for, bl_offset};
+ghost use Rattle.thumb_isa.specs.Rows.{decode_result, decode_result_for, bl_offset};
 
-use crate::fields::{field, sign_extend, small};
+use crate::fields::{field, field_8, sign_extend};
 use crate::instr::{Decoded, Instr};
-use crate::late::late;
+use crate::late::decode_late;
 use crate::profile::Profile;
 
-/// Whether an instruction that begins with this halfword has a second one: the top five bits are 11101, 11110 or 11111.
+/// Whether an instruction with this first halfword has a second one: the top five bits are 11101, 11110 or 11111.
 pub fn is_wide(first: u16) -> bool
     ensures { result ≡ nat_le 0xe800 first }
 {
     first >> 11 >= 0b11101
 }
 
-/// The meaning of a pair of halfwords by the instruction table. The second matters only where `is_wide` holds of the
+/// Decodes a pair of halfwords by the first profile's table. The second halfword matters only if `is_wide` holds of the
 /// first.
 #[inline(always)]
 #[tactic(auto, using(crate::proofs::Table::others, crate::proofs::Laws::alone, crate::proofs::Laws::sized))]
 pub fn decode(first: u16, second: u16) -> Decoded
-    ensures row { result ≡ decoded_of first second }
+    ensures row { result ≡ decode_result first second }
     ensures range { IsInRange result }
     ensures size { IsOfSize (size_of first) result }
-    ensures alone { first < 0xe800 → (other : ℕ) → result ≡ decoded_of first other }
+    ensures alone { first < 0xe800 → (other : ℕ) → result ≡ decode_result first other }
 {
     match first >> 11 {
         0b00000..=0b00010 => shift_imm(first, second),
         0b00011 => add_subtract(first, second),
         0b00100..=0b00111 => Decoded::Is(
             Instr::Imm8 {
-                op: small(first, 11, 2),
-                d: small(first, 8, 3),
+                op: field_8(first, 11, 2),
+                d: field_8(first, 8, 3),
                 imm: u32::from(field(first, 0, 8)),
             },
             2,
@@ -40,14 +41,14 @@ pub fn decode(first: u16, second: u16) -> Decoded
         0b01001..=0b10011 => transfer(first, second),
         0b10100 => Decoded::Is(
             Instr::Adr {
-                d: small(first, 8, 3),
+                d: field_8(first, 8, 3),
                 off: i32::from(field(first, 0, 8) * 4),
             },
             2,
         ),
         0b10101 => Decoded::Is(
             Instr::AddRdSp {
-                d: small(first, 8, 3),
+                d: field_8(first, 8, 3),
                 off: i32::from(field(first, 0, 8) * 4),
             },
             2,
@@ -66,32 +67,33 @@ pub fn decode(first: u16, second: u16) -> Decoded
     }
 }
 
-/// The meaning of a pair of halfwords in a profile. The second profile is asked only where the first one knows no instruction.
+/// Decodes a pair of halfwords by a profile. The second profile's own rows are tried only if the first profile leaves
+/// the pair undefined.
 #[inline(always)]
 #[tactic(auto, using(crate::proofs::BothProfiles::kept, crate::proofs::BothProfiles::added, crate::proofs::BothProfiles::alone_for, crate::proofs::BothProfiles::sized_for))]
 pub fn decode_for(p: Profile, first: u16, second: u16) -> Decoded
-    ensures row { result ≡ decoded_for p first second }
+    ensures row { result ≡ decode_result_for p first second }
     ensures range { IsInRange result }
     ensures size { IsOfSize (size_of first) result }
-    ensures alone { first < 0xe800 → (other : ℕ) → result ≡ decoded_for p first other }
+    ensures alone { first < 0xe800 → (other : ℕ) → result ≡ decode_result_for p first other }
 {
     match decode(first, second) {
         Decoded::Undefined => match p {
             Profile::One => Decoded::Undefined,
-            Profile::Two => late(first, second),
+            Profile::Two => decode_late(first, second),
         },
         decoded => decoded,
     }
 }
 
-/// LSL, LSR, ASR (immediate).
+/// LSL, LSR or ASR (immediate).
 #[tactic(auto, using(crate::proofs::Table::shifts))]
 fn shift_imm(first: u16, second: u16) -> Decoded
     requires { first < 0x1800 }
-    ensures row { result ≡ decoded_of first second }
+    ensures row { result ≡ decode_result first second }
     ensures range { IsInRange result }
 {
-    let op = small(first, 11, 2);
+    let op = field_8(first, 11, 2);
     let n = match field(first, 6, 5) {
         0 if op != 0 => 32,
         n => u32::from(n),
@@ -99,26 +101,26 @@ fn shift_imm(first: u16, second: u16) -> Decoded
     Decoded::Is(
         Instr::ShiftImm {
             op,
-            d: small(first, 0, 3),
-            m: small(first, 3, 3),
+            d: field_8(first, 0, 3),
+            m: field_8(first, 3, 3),
             n,
         },
         2,
     )
 }
 
-/// ADD, SUB of a register or of three bits.
+/// ADD or SUB (register), or with a 3-bit immediate.
 #[tactic(auto, using(crate::proofs::Table::sums))]
 fn add_subtract(first: u16, second: u16) -> Decoded
     requires low { 0x1800 ≤ first }
     requires high { first < 0x2000 }
-    ensures row { result ≡ decoded_of first second }
+    ensures row { result ≡ decode_result first second }
     ensures range { IsInRange result }
 {
     let sub = field(first, 9, 1) == 1;
-    let d = small(first, 0, 3);
-    let n = small(first, 3, 3);
-    let third = small(first, 6, 3);
+    let d = field_8(first, 0, 3);
+    let n = field_8(first, 3, 3);
+    let third = field_8(first, 6, 3);
     if first < 0x1c00 {
         Decoded::Is(
             Instr::AddSubReg {
@@ -142,22 +144,22 @@ fn add_subtract(first: u16, second: u16) -> Decoded
     }
 }
 
-/// Data processing of registers, and BX, BLX.
+/// Data processing of registers, BX and BLX.
 #[tactic(auto, using(crate::proofs::Table::of_registers))]
 fn registers(first: u16, second: u16) -> Decoded
     requires low { 0x4000 ≤ first }
     requires high { first < 0x4800 }
-    ensures row { result ≡ decoded_of first second }
+    ensures row { result ≡ decode_result first second }
     ensures range { IsInRange result }
 {
-    let high = small(first, 7, 1) * 8 + small(first, 0, 3);
-    let m = small(first, 3, 4);
+    let high = field_8(first, 7, 1) * 8 + field_8(first, 0, 3);
+    let m = field_8(first, 3, 4);
     match first >> 8 {
         0x40..=0x43 => Decoded::Is(
             Instr::Alu {
-                op: small(first, 6, 4),
-                d: small(first, 0, 3),
-                m: small(first, 3, 3),
+                op: field_8(first, 6, 4),
+                d: field_8(first, 0, 3),
+                m: field_8(first, 3, 3),
             },
             2,
         ),
@@ -170,15 +172,15 @@ fn registers(first: u16, second: u16) -> Decoded
     }
 }
 
-/// BX, BLX (register).
+/// BX or BLX (register).
 #[tactic(auto, using(crate::proofs::Table::exchanges))]
 fn branch_exchange(first: u16, second: u16) -> Decoded
     requires low { 0x4700 ≤ first }
     requires high { first < 0x4800 }
-    ensures row { result ≡ decoded_of first second }
+    ensures row { result ≡ decode_result first second }
     ensures range { IsInRange result }
 {
-    let m = small(first, 3, 4);
+    let m = field_8(first, 3, 4);
     if m == 15 || field(first, 0, 3) != 0 {
         Decoded::Unpredictable
     } else if first < 0x4780 {
@@ -188,28 +190,28 @@ fn branch_exchange(first: u16, second: u16) -> Decoded
     }
 }
 
-/// Loads and stores of one register.
+/// Loads and stores of a single register.
 #[tactic(auto, using(crate::proofs::Table::transfers))]
 fn transfer(first: u16, second: u16) -> Decoded
     requires low { 0x4800 ≤ first }
     requires high { first < 0xa000 }
-    ensures row { result ≡ decoded_of first second }
+    ensures row { result ≡ decode_result first second }
     ensures range { IsInRange result }
 {
     match first >> 12 {
         0x4 => Decoded::Is(
             Instr::LdrLit {
-                t: small(first, 8, 3),
+                t: field_8(first, 8, 3),
                 off: i32::from(field(first, 0, 8) * 4),
             },
             2,
         ),
         0x5 => Decoded::Is(
             Instr::MemReg {
-                op: small(first, 9, 3),
-                t: small(first, 0, 3),
-                n: small(first, 3, 3),
-                m: small(first, 6, 3),
+                op: field_8(first, 9, 3),
+                t: field_8(first, 0, 3),
+                n: field_8(first, 3, 3),
+                m: field_8(first, 6, 3),
             },
             2,
         ),
@@ -217,7 +219,7 @@ fn transfer(first: u16, second: u16) -> Decoded
         _ => Decoded::Is(
             Instr::MemSp {
                 load: field(first, 11, 1) == 1,
-                t: small(first, 8, 3),
+                t: field_8(first, 8, 3),
                 off: i32::from(field(first, 0, 8) * 4),
             },
             2,
@@ -225,38 +227,38 @@ fn transfer(first: u16, second: u16) -> Decoded
     }
 }
 
-/// Loads and stores at a register plus five bits, scaled by the size of what is moved.
+/// Loads and stores with a 5-bit immediate offset, scaled by the access size.
 #[tactic(auto, using(crate::proofs::Table::transfers_imm))]
 fn transfer_imm(first: u16, second: u16) -> Decoded
     requires low { 0x6000 ≤ first }
     requires high { first < 0x9000 }
-    ensures row { result ≡ decoded_of first second }
+    ensures row { result ≡ decode_result first second }
     ensures range { IsInRange result }
 {
     match first >> 12 {
         0x6 => Decoded::Is(
             Instr::MemImm {
-                op: small(first, 11, 1),
-                t: small(first, 0, 3),
-                n: small(first, 3, 3),
+                op: field_8(first, 11, 1),
+                t: field_8(first, 0, 3),
+                n: field_8(first, 3, 3),
                 off: i32::from(field(first, 6, 5) * 4),
             },
             2,
         ),
         0x7 => Decoded::Is(
             Instr::MemImm {
-                op: 2 + small(first, 11, 1),
-                t: small(first, 0, 3),
-                n: small(first, 3, 3),
+                op: 2 + field_8(first, 11, 1),
+                t: field_8(first, 0, 3),
+                n: field_8(first, 3, 3),
                 off: i32::from(field(first, 6, 5)),
             },
             2,
         ),
         _ => Decoded::Is(
             Instr::MemImm {
-                op: 4 + small(first, 11, 1),
-                t: small(first, 0, 3),
-                n: small(first, 3, 3),
+                op: 4 + field_8(first, 11, 1),
+                t: field_8(first, 0, 3),
+                n: field_8(first, 3, 3),
                 off: i32::from(field(first, 6, 5) * 2),
             },
             2,
@@ -264,21 +266,21 @@ fn transfer_imm(first: u16, second: u16) -> Decoded
     }
 }
 
-/// The block of miscellaneous instructions.
+/// Miscellaneous 16-bit instructions.
 #[tactic(auto, using(crate::proofs::Table::miscellany))]
 fn miscellaneous(first: u16, second: u16) -> Decoded
     requires low { 0xb000 ≤ first }
     requires high { first < 0xc000 }
-    ensures row { result ≡ decoded_of first second }
+    ensures row { result ≡ decode_result first second }
     ensures range { IsInRange result }
 {
     match first >> 8 {
         0xb0 => adjust_sp(first, second),
         0xb2 => Decoded::Is(
             Instr::Extend {
-                op: small(first, 6, 2),
-                d: small(first, 0, 3),
-                m: small(first, 3, 3),
+                op: field_8(first, 6, 2),
+                d: field_8(first, 0, 3),
+                m: field_8(first, 3, 3),
             },
             2,
         ),
@@ -289,7 +291,7 @@ fn miscellaneous(first: u16, second: u16) -> Decoded
         0xbe => Decoded::NotInProfile,
         0xbf if field(first, 0, 4) == 0 => Decoded::Is(
             Instr::Hint {
-                n: small(first, 4, 4),
+                n: field_8(first, 4, 4),
             },
             2,
         ),
@@ -297,12 +299,12 @@ fn miscellaneous(first: u16, second: u16) -> Decoded
     }
 }
 
-/// ADD, SUB of an immediate to sp.
+/// ADD or SUB of an immediate to sp.
 #[tactic(auto, using(crate::proofs::Table::sp_sums))]
 fn adjust_sp(first: u16, second: u16) -> Decoded
     requires low { 0xb000 ≤ first }
     requires high { first < 0xb100 }
-    ensures row { result ≡ decoded_of first second }
+    ensures row { result ≡ decode_result first second }
     ensures range { IsInRange result }
 {
     let off = i32::from(field(first, 0, 7) * 4);
@@ -313,17 +315,17 @@ fn adjust_sp(first: u16, second: u16) -> Decoded
     }
 }
 
-/// REV, REV16, REVSH.
+/// REV, REV16 or REVSH.
 #[tactic(auto, using(crate::proofs::Table::reversals))]
 fn reverse(first: u16, second: u16) -> Decoded
     requires low { 0xba00 ≤ first }
     requires high { first < 0xbb00 }
-    ensures row { result ≡ decoded_of first second }
+    ensures row { result ≡ decode_result first second }
     ensures range { IsInRange result }
 {
-    let d = small(first, 0, 3);
-    let m = small(first, 3, 3);
-    match small(first, 6, 2) {
+    let d = field_8(first, 0, 3);
+    let m = field_8(first, 3, 3);
+    match field_8(first, 6, 2) {
         2 => Decoded::Undefined,
         op => Decoded::Is(Instr::Rev { op, d, m }, 2),
     }
@@ -334,7 +336,7 @@ fn reverse(first: u16, second: u16) -> Decoded
 fn push(first: u16, second: u16) -> Decoded
     requires low { 0xb400 ≤ first }
     requires high { first < 0xb600 }
-    ensures row { result ≡ decoded_of first second }
+    ensures row { result ≡ decode_result first second }
     ensures range { IsInRange result }
 {
     if first == 0xb400 {
@@ -353,7 +355,7 @@ fn push(first: u16, second: u16) -> Decoded
 fn pop(first: u16, second: u16) -> Decoded
     requires low { 0xbc00 ≤ first }
     requires high { first < 0xbe00 }
-    ensures row { result ≡ decoded_of first second }
+    ensures row { result ≡ decode_result first second }
     ensures range { IsInRange result }
 {
     if first == 0xbc00 {
@@ -367,15 +369,15 @@ fn pop(first: u16, second: u16) -> Decoded
     )
 }
 
-/// STM, LDM.
+/// STM or LDM.
 #[tactic(auto, using(crate::proofs::Table::lists))]
 fn multiple(first: u16, second: u16) -> Decoded
     requires low { 0xc000 ≤ first }
     requires high { first < 0xd000 }
-    ensures row { result ≡ decoded_of first second }
+    ensures row { result ≡ decode_result first second }
     ensures range { IsInRange result }
 {
-    let n = small(first, 8, 3);
+    let n = field_8(first, 8, 3);
     let list = field(first, 0, 8);
     if list == 0 {
         return Decoded::Unpredictable;
@@ -387,16 +389,16 @@ fn multiple(first: u16, second: u16) -> Decoded
     }
 }
 
-/// STM: the base may be in the list only as its lowest register.
+/// STM. The base may be in the list only as its lowest register.
 #[tactic(auto, using(crate::proofs::Table::stores))]
 fn store_multiple(first: u16, second: u16) -> Decoded
     requires low { 0xc000 ≤ first }
     requires high { first < 0xc800 }
     requires some { 0 < first % 2 ^ 8 }
-    ensures row { result ≡ decoded_of first second }
+    ensures row { result ≡ decode_result first second }
     ensures range { IsInRange result }
 {
-    let n = small(first, 8, 3);
+    let n = field_8(first, 8, 3);
     let base = u32::from(n);
     if field(first, base, 1) == 1 && field(first, 0, base) != 0 {
         Decoded::Unpredictable
@@ -411,15 +413,15 @@ fn store_multiple(first: u16, second: u16) -> Decoded
     }
 }
 
-/// B with a condition, UDF, SVC.
+/// B with a condition, UDF or SVC.
 #[tactic(auto, using(crate::proofs::Table::conditions))]
 fn conditional(first: u16, second: u16) -> Decoded
     requires low { 0xd000 ≤ first }
     requires high { first < 0xe000 }
-    ensures row { result ≡ decoded_of first second }
+    ensures row { result ≡ decode_result first second }
     ensures range { IsInRange result }
 {
-    match small(first, 8, 4) {
+    match field_8(first, 8, 4) {
         14 => Decoded::Undefined,
         15 => Decoded::Is(
             Instr::Svc {
@@ -437,12 +439,12 @@ fn conditional(first: u16, second: u16) -> Decoded
     }
 }
 
-/// The pairs that begin with 11110.
+/// Pairs whose first halfword begins with 11110.
 #[tactic(auto, using(crate::proofs::Table::pairs))]
 fn long(first: u16, second: u16) -> Decoded
     requires low { 0xf000 ≤ first }
     requires high { first < 0xf800 }
-    ensures row { result ≡ decoded_of first second }
+    ensures row { result ≡ decode_result first second }
     ensures range { IsInRange result }
 {
     match (first, second) {
@@ -456,21 +458,21 @@ fn long(first: u16, second: u16) -> Decoded
         (0xf3bf, 0x8f40..=0x8f4f) => Decoded::Is(
             Instr::Barrier {
                 op: 0,
-                option: small(second, 0, 4),
+                option: field_8(second, 0, 4),
             },
             4,
         ),
         (0xf3bf, 0x8f50..=0x8f5f) => Decoded::Is(
             Instr::Barrier {
                 op: 1,
-                option: small(second, 0, 4),
+                option: field_8(second, 0, 4),
             },
             4,
         ),
         (0xf3bf, 0x8f60..=0x8f6f) => Decoded::Is(
             Instr::Barrier {
                 op: 2,
-                option: small(second, 0, 4),
+                option: field_8(second, 0, 4),
             },
             4,
         ),
@@ -478,7 +480,7 @@ fn long(first: u16, second: u16) -> Decoded
     }
 }
 
-/// The offset of a BL, and of a B with two halfwords: S:I1:I2:imm10:imm11:0.
+/// The offset in bytes of a BL or of a 32-bit B: S:I1:I2:imm10:imm11:0.
 pub fn branch_offset(first: u16, second: u16) -> i32
     ensures value { result ≡ bl_offset first second }
     ensures even { IsBranch (2 ^ 24) result }

@@ -1,27 +1,27 @@
-//! Why an instruction has no code: what the encoder refuses, a type that layouts and reports use too (docs/instruction-set.md).
+//! Why an instruction can't be encoded. The type is here because layouts and reports use it too
+//! (docs/rules/instructions.md).
 ghost use Rattle.std.specs.Prelude.{◌≡◌, ◌≤◌, length};
 ghost use Rattle.thumb_isa.specs.FaultNames.{fault_name};
 
-/// Why an instruction has no code, in the order in which the reasons are looked for.
+/// Why an instruction can't be encoded. The first that holds is reported.
 #[derive(Clone, Copy, PartialEq, Eq, Debug)]
 pub enum EncodeFault {
-    /// A register, a register of a list, an `op` or a condition that the field does not have, or registers with which the
-    /// instruction is unpredictable.
+    /// A register, a list, an `op` or a condition that the encoding has no field value for, or registers that make the
+    /// instruction unpredictable.
     RegisterRange,
-    /// A list of no register.
+    /// An empty register list.
     ListEmpty,
-    /// A number that its field does not hold: an immediate that is too large; a shift by more than 31 of LSL, by 0 or more
-    /// than 32 of LSR and ASR; a hint or the option of a barrier above 15; an offset from a register that is too large or
-    /// negative.
+    /// An immediate outside of its field's range. LSL shifts by at most 31, LSR and ASR by 1 to 32. A hint and the
+    /// option of a barrier are at most 15. An offset from a register must not be negative or too large.
     ImmediateRange,
-    /// An offset from a register that is no multiple of what its field counts in.
+    /// An offset from a register that is no multiple of the unit of its field.
     ImmediateAlign,
-    /// A branch offset that is too far or odd.
+    /// A branch offset that is odd or too far.
     TargetRange,
 }
 
 impl EncodeFault {
-    /// The name of the refusal, as a report writes it.
+    /// The name of the refusal in reports.
     pub fn name(self) -> &'static [u8]
         ensures name { result.now ≡ fault_name self }
         ensures short { length result.now ≤ 16 }

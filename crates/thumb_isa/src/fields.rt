@@ -1,9 +1,9 @@
-//! Fields of a halfword and the extension of a sign; DDI 0419 writes encodings by them.
+//! Bit fields of halfwords, and sign extension, as DDI 0419 writes encodings.
 ghost use Rattle.std.specs.Prelude.{◌≡◌, ◌*◌, ◌%◌, ◌^◌, ◌<◌, ◌≤◌};
 ghost use Rattle.thumb_isa.specs.Fields.{field, signed_half};
 ghost use Rattle.thumb_isa.specs.Range.{IsBranch};
 
-/// The `width` bits of a halfword that begin at bit `at`.
+/// The `width` bits of a halfword from bit `at` up.
 pub fn field(half: u16, at: u32, width: u32) -> u16
     requires at_in { at < 16 }
     requires width_in { width < 16 }
@@ -12,8 +12,8 @@ pub fn field(half: u16, at: u32, width: u32) -> u16
     (half >> at) & ((1 << width) - 1)
 }
 
-/// The same for a field of at most eight bits.
-pub fn small(half: u16, at: u32, width: u32) -> u8
+/// The same for a field of at most eight bits, as a byte.
+pub fn field_8(half: u16, at: u32, width: u32) -> u8
     requires at_in { at < 16 }
     requires width_in { width ≤ 8 }
     ensures { result ≡ field half at width }
@@ -21,7 +21,7 @@ pub fn small(half: u16, at: u32, width: u32) -> u8
     field(half, at, width) as u8
 }
 
-/// A number read as a signed one, where `half` is the weight of its sign bit.
+/// Sign extension of a number whose sign bit has the weight `half`.
 pub fn sign_extend(value: u32, half: u32) -> i32
     requires half_in { half < 2 ^ 30 }
     requires fits { value < 2 * half }

@@ -1,4 +1,4 @@
-//! The rows that the second profile has besides (specs/Rows.antt, `late_rows`): what a pair means by them alone.
+//! Decodes by the second profile's own rows (specs/Rows.antt, `late_rows`).
 ghost use Rattle.std.specs.Prelude.{◌≡◌, ◌<◌, ◌≤◌, ◌⊎◌, ◌/◌, ◌^◌, true, false, if◌then◌else◌};
 ghost use Rattle.thumb_isa.specs.Fields.{field};
 ghost use Rattle.thumb_isa.specs.Laws.{late_of};
@@ -6,12 +6,12 @@ ghost use Rattle.thumb_isa.specs.Rows.{wide_imm};
 ghost use Rattle.thumb_isa.specs.Range.{IsInRange, IsGeneral};
 
 use crate::decode::branch_offset;
-use crate::fields::{field, small};
+use crate::fields::{field, field_8};
 use crate::instr::{Decoded, Instr};
 
-/// The meaning of a pair of halfwords by the second profile's own rows.
+/// Decodes a pair of halfwords by the second profile's own rows alone.
 #[tactic(auto, using(crate::proofs::LateTable::late_table))]
-pub fn late(first: u16, second: u16) -> Decoded
+pub fn decode_late(first: u16, second: u16) -> Decoded
     ensures row { result ≡ late_of first second }
     ensures range { IsInRange result }
 {
@@ -19,7 +19,7 @@ pub fn late(first: u16, second: u16) -> Decoded
         0xb1 | 0xb3 | 0xb9 | 0xbb => Decoded::Is(
             Instr::Cbz {
                 nonzero: field(first, 11, 1) == 1,
-                n: small(first, 0, 3),
+                n: field_8(first, 0, 3),
                 off: i32::from(field(first, 9, 1) * 64 + field(first, 3, 5) * 2),
             },
             2,
@@ -30,7 +30,7 @@ pub fn late(first: u16, second: u16) -> Decoded
     }
 }
 
-/// The pairs that begin with 11110.
+/// Pairs whose first halfword begins with 11110.
 #[tactic(auto, using(crate::proofs::LateTable::late_pairs))]
 fn long(first: u16, second: u16) -> Decoded
     requires low { 0xf000 ≤ first }
@@ -61,7 +61,7 @@ fn move_wide(first: u16, second: u16) -> Decoded
     ensures row { result ≡ late_of first second }
     ensures range { IsInRange result }
 {
-    let d = small(second, 8, 4);
+    let d = field_8(second, 8, 4);
     if is_general(d) {
         Decoded::Is(
             Instr::MovW {
@@ -85,7 +85,7 @@ fn move_top(first: u16, second: u16) -> Decoded
     ensures row { result ≡ late_of first second }
     ensures range { IsInRange result }
 {
-    let d = small(second, 8, 4);
+    let d = field_8(second, 8, 4);
     if is_general(d) {
         Decoded::Is(
             Instr::MovT {
@@ -99,7 +99,7 @@ fn move_top(first: u16, second: u16) -> Decoded
     }
 }
 
-/// The immediate of MOVW and MOVT: imm4:i:imm3:imm8.
+/// The 16-bit immediate of MOVW and MOVT: imm4:i:imm3:imm8.
 fn sixteen_bits(first: u16, second: u16) -> u32
     ensures value { result ≡ wide_imm first second }
     ensures fits { result < 2 ^ 16 }
@@ -119,7 +119,7 @@ fn is_general(register: u8) -> bool
     register != 13 && register != 15
 }
 
-/// SDIV, UDIV.
+/// SDIV or UDIV.
 #[tactic(auto, using(crate::proofs::LateTable::late_divisions))]
 fn division(first: u16, second: u16) -> Decoded
     requires low { 0xfb00 ≤ first }
@@ -128,15 +128,15 @@ fn division(first: u16, second: u16) -> Decoded
     ensures range { IsInRange result }
 {
     match (first, field(second, 12, 4), field(second, 4, 4)) {
-        (0xfb90..=0xfb9f, 15, 15) => divided(true, first, second),
-        (0xfbb0..=0xfbbf, 15, 15) => divided(false, first, second),
+        (0xfb90..=0xfb9f, 15, 15) => decode_division(true, first, second),
+        (0xfbb0..=0xfbbf, 15, 15) => decode_division(false, first, second),
         _ => Decoded::Undefined,
     }
 }
 
-/// SDIV, or UDIV, where the second halfword has the form of one.
+/// SDIV or UDIV, if the second halfword fits.
 #[tactic(auto, using(crate::proofs::LateTable::late_divisions))]
-fn divided(signed: bool, first: u16, second: u16) -> Decoded
+fn decode_division(signed: bool, first: u16, second: u16) -> Decoded
     requires low { (if signed then 0xfb90 else 0xfbb0) ≤ first }
     requires below { first < (if signed then 0xfba0 else 0xfbc0) }
     requires high { 0xf000 ≤ second }
@@ -144,9 +144,9 @@ fn divided(signed: bool, first: u16, second: u16) -> Decoded
     ensures row { result ≡ late_of first second }
     ensures range { IsInRange result }
 {
-    let d = small(second, 8, 4);
-    let n = small(first, 0, 4);
-    let m = small(second, 0, 4);
+    let d = field_8(second, 8, 4);
+    let n = field_8(first, 0, 4);
+    let m = field_8(second, 0, 4);
     if is_general(n) && is_general(d) && is_general(m) {
         Decoded::Is(Instr::Div { signed, d, n, m }, 4)
     } else {

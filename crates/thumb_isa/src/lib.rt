@@ -1,5 +1,5 @@
-//! The instructions of ARMv6-M (Armv6-M Architecture Reference Manual, DDI 0419) and of a second profile that adds six rows of ARMv8-M
-//! Baseline (DDI 0553), and what each pair of halfwords means.
+//! The instructions of Armv6-M (Armv6-M Architecture Reference Manual, DDI 0419) and their decoder. A second profile
+//! adds six rows of Armv8-M Baseline (DDI 0553).
 #![tactic(auto)]
 
 pub mod decode;

@@ -1,10 +1,10 @@
-//! The instructions by their natures, for matches over all of them: each instruction that the crates above don't treat by itself stands in
-//! exactly one of these patterns (`specs/Nature.antt`, whose table has them all; docs/instruction-set.md, "What an instruction is"). A match names
-//! `Instr` in scope.
+//! Groups instructions by their nature into patterns, for matches over all of them. Every instruction that the crates
+//! above don't handle by itself is in exactly one pattern (`specs/Nature.antt` has the table;
+//! docs/rules/instructions.md, "Natures"). A match that uses them must have `Instr` in scope.
 ghost use Rattle.thumb_isa.specs.Nature.{AllWriteWell};
 
-/// An instruction that puts a value of which nothing is said into one register, neither sp nor pc, and goes on. The register is bound to what
-/// is given: a name, or `_`.
+/// An instruction that writes an untracked value to one register, neither sp nor pc, and falls through. The register is
+/// bound to the argument, a name or `_`.
 #[macro_export]
 macro_rules! works {
     ($d:pat) => {
@@ -18,7 +18,7 @@ macro_rules! works {
     };
 }
 
-/// An instruction that writes no register and goes on.
+/// An instruction that writes no register and falls through.
 #[macro_export]
 macro_rules! idles {
     () => {
@@ -26,7 +26,8 @@ macro_rules! idles {
     };
 }
 
-/// An instruction that puts into a low register what may be a copy of another's value, or lie a known way from it.
+/// An instruction that writes a low register with a value that may derive from another register: a copy, or a known
+/// offset from it.
 #[macro_export]
 macro_rules! derives {
     () => {
@@ -38,7 +39,7 @@ macro_rules! derives {
     };
 }
 
-/// A load or a store of one register.
+/// A load or store of a single register.
 #[macro_export]
 macro_rules! transfers {
     () => {
@@ -49,7 +50,7 @@ macro_rules! transfers {
     };
 }
 
-/// An instruction that goes on and leaves sp: one of those above.
+/// An instruction of the groups above: it falls through and keeps sp.
 #[macro_export]
 macro_rules! plain {
     () => {
@@ -57,8 +58,8 @@ macro_rules! plain {
     };
 }
 
-/// An instruction whose fields are in range writes a low register, or works on one that is neither sp nor pc; those that may write others have
-/// natures of their own.
+/// An instruction of the groups above, with fields in range, writes at most a low register or, in `works`, one that is
+/// neither sp nor pc. Instructions that may write others have natures of their own.
 #[tactic(auto, using(crate::proofs::Natures::all_write_well))]
 pub fn all_write_well()
     ensures { AllWriteWell }

@@ -1,9 +1,11 @@
-//! Which rows of the instruction table a program may use; docs/instruction-set.md, "Profiles".
-/// A profile: the set of instructions that a program is decoded by.
+//! Profiles, which say by which rows of the instruction table a program is decoded
+//! (docs/rules/instructions.md, "Profiles").
+/// A set of instructions by which a program is decoded.
 #[derive(Clone, Copy)]
 pub enum Profile {
-    /// ARMv6-M (DDI 0419).
+    /// Armv6-M (DDI 0419).
     One,
-    /// ARMv6-M and six rows of ARMv8-M Baseline (DDI 0553): compare and branch, wide branch, 16-bit immediates, division.
+    /// Armv6-M and six rows of Armv8-M Baseline (DDI 0553): compare and branch, wide branch, 16-bit immediates,
+    /// division.
     Two,
 }

@@ -4,7 +4,7 @@ use lib.Signed.{mag}
 use mir.Val.{SFits, to_z, of_z}
 use mir.Syntax.{w32, w64}
 use borrow.Author.Rules.{sfits_of}
-use Rattle.asm_statements.specs.Computations.{offset, unsigned, of_register_number, of_two_registers_number}
+use Rattle.asm_statements.specs.Computations.{offset, unsigned_field, of_register_number, of_two_registers_number}
 use Rattle.thumb_isa.specs.declared.instr.Instr.TheVariants.{AddRdSp, AddSp, SubSp, MemImm, MemSp, Svc, LdrLit, Adr, BCond, B, Bl, BWide, Cbz}
 use Rattle.asm_object.proofs.code.instruction.Goals as goal
 
@@ -54,7 +54,7 @@ returns-in-TwoRegistersNumber c =
 pub returns-in-Svc : goal.returns-in-Svc
 returns-in-Svc c =
     let fits : SFits w64 c.in-Svc.imm = search rules in
-    rw c.in-Svc.is (ap (λ imm. Some (Svc imm)) (c.unsigned.ensures ∙ ap unsigned (to_z-of_z w64 c.in-Svc.imm fits)))
+    rw c.in-Svc.is (ap (λ imm. Some (Svc imm)) (c.unsigned_field.ensures ∙ ap unsigned_field (to_z-of_z w64 c.in-Svc.imm fits)))
 
 pub returns-in-LdrPool : goal.returns-in-LdrPool
 returns-in-LdrPool c = rw c.in-LdrPool.is (ap (λ off. Some (LdrLit c.in-LdrPool.t off)) (held c.word_literal.result _ c.word_literal.type_inv c.word_literal.ensures))

@@ -1,7 +1,7 @@
 use Rattle.std.proofs.Common.{◌≡◌, ◌++◌, replicate}
 use Rattle.std.specs.Prelude.{flat_map}
-use Rattle.unwind_codes.specs.declared.code.Code.TheVariants.{Lower}
-use Rattle.unwind_codes.specs.Bytes.{code_bytes}
+use Rattle.eh_codes.specs.declared.code.UnwindCode.TheVariants.{Lower}
+use Rattle.eh_codes.specs.Bytes.{code_bytes}
 use Rattle.asm_unwind.specs.declared.code.TheConstants.{WORDS_OF_MOST_STEP}
 use Rattle.asm_unwind.proofs.code.push_lower.Given as goal
 

@@ -1,11 +1,11 @@
 use Rattle.std.proofs.Common.{◌≡◌, ◌≤◌, ◌++◌, length}
 use Rattle.std.specs.Prelude.{All}
-use Rattle.asm_unwind.specs.Codes.{kept, reversed_bytes, IsWritable}
+use Rattle.asm_unwind.specs.Codes.{with_pads_if, reversed_bytes, IsWritable}
 use Rattle.asm_unwind.proofs.frame.push_reversed.Given as goal
 
 abbrev pub invariant-loop-rest : goal.invariant-loop-rest
 invariant-loop-rest l = record {
-  pushed : l.bytes.items ++ reversed_bytes (kept l.pads l.rest) ≡ l.initial.bytes.items ++ reversed_bytes (kept l.pads l.initial.rest);
+  pushed : l.bytes.items ++ reversed_bytes (with_pads_if l.pads l.rest) ≡ l.initial.bytes.items ++ reversed_bytes (with_pads_if l.pads l.initial.rest);
   within : length l.rest ≤ length l.initial.rest;
   writable : All IsWritable l.rest;
 }

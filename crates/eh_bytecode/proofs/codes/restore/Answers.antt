@@ -1,5 +1,5 @@
 use Rattle.std.proofs.Common.{refl, inl, inr}
-use Rattle.unwind_codes.proofs.Table.{restore, restore_none}
+use Rattle.eh_codes.proofs.Table.{restore, restore_none}
 use Rattle.eh_bytecode.proofs.Taking.{took, took_none}
 use Rattle.eh_bytecode.proofs.codes.restore.Goals as goal
 

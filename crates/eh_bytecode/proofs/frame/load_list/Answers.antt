@@ -2,7 +2,7 @@ use Rattle.std.proofs.Common.{◌≡◌, [], List, ℕ, length, ap, sym, ◌∙�
 use Rattle.std.proofs.lemmas.Grind.{common_steps}
 use Rattle.std.proofs.lemmas.Nat.{and_le_l}
 use Rattle.std.specs.Int.{bit_at}
-use Rattle.thumb_core.specs.Words.{listed, load_words, loads_from}
+use Rattle.thumb_core.specs.Words.{registers_of_list, load_words, loads_from}
 use Rattle.eh_bytecode.proofs.Lists.{plain_word}
 use Rattle.eh_bytecode.proofs.Next.{lowest_of, still_clear, listed_zero, listed_few}
 use Rattle.eh_bytecode.proofs.frame.load_list.Goals as goal
@@ -39,10 +39,10 @@ loop-rest-preserved g c =
 
 pub returns-clause-bytes : goal.returns-clause-bytes
 returns-clause-bytes g c =
-    let none : listed c.loop-rest.rest ≡ [] = listed_zero c.loop-rest.rest c.loop-rest-test.false in
+    let none : registers_of_list c.loop-rest.rest ≡ [] = listed_zero c.loop-rest.rest c.loop-rest-test.false in
     omega (arith, ap length none, c.loop-rest.invariant.counted)
 
 pub returns-clause-ok : goal.returns-clause-ok
 returns-clause-ok g c =
-    let none : listed c.loop-rest.rest ≡ [] = listed_zero c.loop-rest.rest c.loop-rest-test.false in
+    let none : registers_of_list c.loop-rest.rest ≡ [] = listed_zero c.loop-rest.rest c.loop-rest-test.false in
     sym c.loop-rest.invariant.to_do ∙ ap (λ (xs : List ℕ). load_words (g.B.Bus.memory c.args.bus.now).segments c.args.a (loads_from c.loop-rest.at xs) c.loop-rest.r) none

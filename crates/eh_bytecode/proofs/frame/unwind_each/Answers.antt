@@ -6,8 +6,8 @@ use Rattle.eh_bytecode.proofs.frame.unwind_each.Goals.{in-Some+in-Some-take_code
 
 pub loop-first-init : goal.loop-first-init
 loop-first-init g c = record {
-  within = omega (arith, ap length c.again-left.ensures);
-  to_do = started _ _ _ _ _ c.begin-state.ensures c.again-left.ensures;
+  within = omega (arith, ap length c.copy-left.ensures);
+  to_do = started _ _ _ _ _ c.begin_unwind-state.ensures c.copy-left.ensures;
 }
 
 pub returns-in_default-take_code : goal.returns-in_default-take_code

@@ -6,9 +6,9 @@ use Rattle.eh_bytecode.proofs.once.pops_once.Goals as goal
 
 pub loop-first-init : goal.loop-first-init
 loop-first-init c = record {
-  within = omega (arith, ap length c.again-left.ensures);
+  within = omega (arith, ap length c.copy-left.ensures);
   size = refl;
-  to_do = left_start c.args.codes.now c.again-left.result clear_marks all_clear c.again-left.ensures;
+  to_do = left_start c.args.codes.now c.copy-left.result clear_marks all_clear c.copy-left.ensures;
 }
 
 pub returns-in_default-take_code : goal.returns-in_default-take_code

@@ -1,5 +1,5 @@
 use Rattle.std.proofs.Common.{length, ap, sym, ◌∙◌, refl, arith}
-use Rattle.eh_bytecode.specs.declared.recipe.Sum.{Sum}
+use Rattle.eh_bytecode.specs.declared.recipe.PartialRecipe.{PartialRecipe}
 use Rattle.eh_bytecode.specs.Recipe.{is_far}
 use Rattle.eh_bytecode.proofs.Summing.{sum_started, sum_bad, sum_ends, sum_goes, sum_nothing, last_recipe}
 use Rattle.eh_bytecode.proofs.Taking.{took_code, took_nothing, took_less}
@@ -8,9 +8,9 @@ use Rattle.eh_bytecode.proofs.recipe.summarise.Goals.{in-Some+in-Some-take_code+
 
 pub loop-first-init : goal.loop-first-init
 loop-first-init c = record {
-  within = omega (arith, ap length c.again-left.ensures);
-  near = ap is_far (ap (λ (s : Sum). s.vsp) c.begin-sum.ensures);
-  to_do = sum_started _ _ _ c.begin-sum.ensures c.again-left.ensures;
+  within = omega (arith, ap length c.copy-left.ensures);
+  near = ap is_far (ap (λ (s : PartialRecipe). s.vsp) c.empty_recipe-sum.ensures);
+  to_do = sum_started _ _ _ c.empty_recipe-sum.ensures c.copy-left.ensures;
 }
 
 pub returns-in_default-take_code : goal.returns-in_default-take_code

@@ -12,7 +12,7 @@ barrier-b-requires g c =
     cleanup_block (word (g.B.Bus.memory c.args.bus.now)) c.args.core.now.globals _ c.in-Ok.block _
     (ap (λ (p : Result (ℕ × CleanupWords) CxaFault × Globals × Memory). p.0) c.in-Ok.ensures.words)
 
-pub entered-requires : goal.entered-requires
-entered-requires g c =
+pub enter_landing-requires : goal.enter_landing-requires
+enter_landing-requires g c =
     cleanup_block (word (g.B.Bus.memory c.args.bus.now)) c.args.core.now.globals _ c.in-Ok.block _
     (ap (λ (p : Result (ℕ × CleanupWords) CxaFault × Globals × Memory). p.0) c.in-Ok.ensures.words)

@@ -1,10 +1,10 @@
 use Rattle.std.proofs.Common.{◌≡◌, ◌∙◌, refl, arith}
-use Rattle.eh_kit.specs.Program.{drawn}
+use Rattle.eh_kit.specs.Program.{random_number}
 use Rattle.eh_kit.proofs.Joined.{before_first, before_next, drawn_more, whole_text}
 use Rattle.eh_kit.proofs.program_text.generate.Goals as goal
 
 pub loop-function-init : goal.loop-function-init
-unfolding drawn
+unfolding random_number
 loop-function-init c = record {
   number_drawn = refl;
   text = before_first _ _ _ _ _ c.new-out.ensures.items c.in_ok-extend_from_slice.ensures.items c.in_ok-push_caller.ensures;

@@ -1,7 +1,7 @@
 use Rattle.std.proofs.Common.{◌≡◌, rules}
 use Rattle.std.proofs.lemmas.Fn.{always_returns_same}
 use Rattle.std.proofs.lemmas.List.Sorted.{IsNonDecreasingBy-from_sort_by_key}
-use Rattle.unwind_codes.specs.declared.row.Entry.{Entry}
+use Rattle.eh_codes.specs.declared.row.Entry.{Entry}
 use Rattle.eh_link.proofs.Sorting.{sorted_is}
 use Rattle.eh_link.proofs.index.sort_rows.Goals as goal
 

@@ -1,6 +1,6 @@
 use Rattle.std.proofs.Common.{◌∙◌, ap, arith, length}
 use Rattle.std.proofs.lemmas.List.Sums.{sum_by-drop_more}
-use Rattle.relocatable_object.specs.declared.object.Object.{Object}
+use Rattle.asm_relocatable.specs.declared.object.Object.{Object}
 use Rattle.eh_link.proofs.places.index_end.Goals as goal
 
 pub returns-then-rows-at-clause-none : goal.returns-then-rows-at-clause-none

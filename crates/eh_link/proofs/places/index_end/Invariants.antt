@@ -1,6 +1,6 @@
 use Rattle.std.proofs.Common.{◌≡◌, ◌≤◌, ◌+◌, ◌*◌, drop, length}
 use Rattle.std.specs.List.{sum_by}
-use Rattle.unwind_codes.specs.declared.row.TheConstants.{ROW_SIZE}
+use Rattle.eh_codes.specs.declared.row.TheConstants.{ROW_SIZE}
 use Rattle.eh_link.specs.Layout.{index_size}
 use Rattle.eh_link.specs.declared.places.TheConstants.{REACH}
 use Rattle.eh_link.proofs.places.index_end.Given as goal

@@ -1,8 +1,8 @@
 use Rattle.std.proofs.Common.{Some, None}
 use Rattle.std.proofs.lemmas.Bool.{lt-ltb, le-ltb}
-use Rattle.guest_gates.specs.declared.gates.TheConstants.{INPUT_GATE}
+use Rattle.run_gates.specs.declared.gates.TheConstants.{INPUT_GATE}
 use Rattle.eh_gates.specs.State.{State, state_of}
-use Rattle.machines_agree.specs.two_machines.Checked.{program_of}
+use Rattle.sim_machines.specs.Checked.{program_of}
 use Rattle.eh_machine.proofs.Events.{end_turned, plain_turned, gate_told, plain_gate_told, given_end, given_plain, given_gate_told, given_gate, as_gate, ok_gate, fault_free, fault_free_went}
 use Rattle.eh_bus.proofs.MapLaws.{map_trans}
 use Rattle.eh_machine.proofs.Confirmed.{passes_map}

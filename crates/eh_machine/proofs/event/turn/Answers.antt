@@ -1,6 +1,6 @@
 use Rattle.eh_gates.specs.declared.state.Turned.TheVariants.{Ended}
 use Rattle.eh_gates.specs.State.{State, state_of}
-use Rattle.machines_agree.specs.two_machines.Checked.{program_of}
+use Rattle.sim_machines.specs.Checked.{program_of}
 use Rattle.eh_machine.proofs.Events.{end_turned, given_end, fault_free_end}
 use Rattle.eh_machine.proofs.Following.{follows_once}
 use Rattle.eh_machine.proofs.event.turn.Goals as goal

@@ -2,7 +2,7 @@ use Rattle.std.proofs.Common.{refl, subst}
 use Rattle.eh_bus.specs.Memory.{Memory}
 use Rattle.eh_bus.specs.Map.{SameMap}
 use Rattle.eh_machine.proofs.Confirmed.{passes_map}
-use Rattle.machines_agree.specs.two_machines.Checked.{program_of}
+use Rattle.sim_machines.specs.Checked.{program_of}
 use Rattle.eh_machine.proofs.Events.{went_told, went_given, turned_as_before, given_as_before}
 use Rattle.eh_machine.proofs.Passing.{same_fetched, same_told, same_state}
 use Rattle.eh_machine.proofs.event.turn_at.Goals as goal

@@ -3,7 +3,7 @@ use Rattle.eh_bus.specs.Memory.{Memory}
 use Rattle.eh_machine.specs.Cached.{IsConfirmed}
 use Rattle.eh_machine.proofs.Confirmed.{stays}
 use Rattle.eh_gates.specs.State.{State, state_of}
-use Rattle.machines_agree.specs.two_machines.Checked.{program_of}
+use Rattle.sim_machines.specs.Checked.{program_of}
 use Rattle.eh_machine.proofs.Events.{end_turned, given_end, fault_free_end}
 use Rattle.eh_machine.proofs.event.turn_unconfirmed.Goals as goal
 

@@ -1,7 +1,7 @@
 use Rattle.std.proofs.Common.{ℕ, refl, sym, ap, ◌∙◌, arith}
 use Rattle.thumb_core.specs.declared.regs.Stepped.TheVariants.{Done}
 use Rattle.eh_gates.specs.State.{State, state_of}
-use Rattle.machines_agree.specs.two_machines.Program.{profile_in}
+use Rattle.sim_machines.specs.Program.{profile_in}
 use Rattle.eh_machine.specs.Passes.{at_of}
 use Rattle.eh_machine.proofs.Passing.{went_on, was_done, tested_passes, guarded_is, at_step, pushes_there, in_stack, straight, no_test, as_done, goes_after}
 use Rattle.eh_machine.proofs.pass.fall_through.Goals as goal

@@ -1,4 +1,4 @@
-use Rattle.machines_agree.specs.two_machines.Checked.{program_of}
+use Rattle.sim_machines.specs.Checked.{program_of}
 use Rattle.eh_machine.proofs.pass.fast_path.Goals as goal
 
 pub returns-in-FallThrough : goal.returns-in-FallThrough

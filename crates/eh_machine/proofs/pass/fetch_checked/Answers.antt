@@ -1,6 +1,6 @@
 use Rattle.std.proofs.Common.{refl, sym, ◌∙◌}
 use Rattle.eh_gates.specs.State.{state_of}
-use Rattle.machines_agree.specs.two_machines.Checked.{program_of}
+use Rattle.sim_machines.specs.Checked.{program_of}
 use Rattle.eh_machine.proofs.Passing.{ended, by_trap, unchecked, trap_passes, in_profile, does_in_profile}
 use Rattle.eh_machine.proofs.pass.fetch_checked.Goals as goal
 

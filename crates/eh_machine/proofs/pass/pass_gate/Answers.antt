@@ -6,14 +6,14 @@ use Rattle.thumb_core.specs.Registers.{with_next}
 use Rattle.thumb_core.specs.Step.{instr_for}
 use Rattle.thumb_core.specs.declared.regs.Regs.{Regs}
 use Rattle.thumb_core.specs.declared.regs.TheConstants.{SP}
-use Rattle.step_ahead.specs.Ahead.{pushed}
+use Rattle.thumb_ahead.specs.Ahead.{pushed_registers}
 use Rattle.eh_cxa.specs.Words.{word}
 use Rattle.eh_cxa.specs.Cleanup.{innermost_of}
 use Rattle.eh_gates.specs.declared.state.Core.{Core}
 use Rattle.eh_gates.specs.State.{State, state_of}
-use Rattle.machines_agree.specs.two_machines.Machine.{Passed}
-use Rattle.machines_agree.specs.two_machines.Program.{profile_in}
-use Rattle.machines_agree.specs.two_machines.Checked.{program_of}
+use Rattle.sim_machines.specs.Machine.{PassResult}
+use Rattle.sim_machines.specs.Program.{profile_in}
+use Rattle.sim_machines.specs.Checked.{program_of}
 use Rattle.eh_machine.proofs.Passing.{ended, went_on, stopped, tested_passes, tests_are, reguarded_is, reguarded_none, gate_done, gate_passes, no_landing, back_at, at_step, branches_there, pushes_there, leaves_there}
 use Rattle.eh_machine.proofs.pass.pass_gate.Goals as goal
 
@@ -35,7 +35,7 @@ returns-in-Some g c =
     record {
       passes = ended p core old _ _ c.in-Some.end (λ events.
           let s : State = state_of core old events in
-          let one : Core → Passed = λ k. (Err c.in-Some.end, state_of k m events) in
+          let one : Core → PassResult = λ k. (Err c.in-Some.end, state_of k m events) in
           ap one (back_at core c.args.at.now.size regs next)
           ∙ stopped p s at what regs m m landing c.home-low.result.0 c.args.branches c.refusal.result c.in-Some.end c.requires.fetched.roles.reached there c.execute-what.ensures.effect
           c.in_default.not-Trap refl (ap (λ (h : ℕ × ℕ). h.0) c.home-low.ensures) c.requires.told.taken is c.in-Some.is same)
@@ -57,7 +57,7 @@ returns g c =
     let stays : slice_index regs.r SP ≡ sp = ap (λ (r : Regs). slice_index r.r SP) next in
     let landing = innermost_of (word old) core.globals in
     let is = c.refusal.ensures.is ∙ no_landing p landing c.home-low.result.0 core.regs.pc sp c.args.branches what regs stays in
-    let none : 0 ≡ length (pushed at.0) = ap length (sym c.requires.told.pushes) in
+    let none : 0 ≡ length (pushed_registers at.0) = ap length (sym c.requires.told.pushes) in
     let idle = sym (reguarded_none c.args.at.now.saves sp m) in
     record {
       passes = went_on p core old _ _ what (λ events.

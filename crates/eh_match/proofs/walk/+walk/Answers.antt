@@ -2,7 +2,7 @@ use Rattle.std.proofs.Common.{rules, ◌≡◌, ◌∷◌, ◌-◌, ◌∙◌, a
 use Rattle.std.specs.List.{fold}
 use Rattle.eh_types.specs.Graph.{bases_of}
 use Rattle.eh_match.specs.declared.path.Path.{Path}
-use Rattle.eh_match.specs.Walk.{along, noted}
+use Rattle.eh_match.specs.Walk.{along, with_path_if_wanted}
 use Rattle.eh_match.proofs.Walks.{walked, walk_begun, walk_on}
 use Rattle.eh_match.proofs.walk.+walk.Goals as goal
 
@@ -16,6 +16,6 @@ loop-base-preserved g t c =
     let graph = c.args.graph.now in
     let segments = (g.B.Bus.memory c.args.bus.now).segments in
     let steps : c.loop-base.base-iterator ≡ c.in-Some.base ∷ c.next.new.self = search rules in
-    let seen : c.walk-seen.result ≡ fold (noted graph c.args.wanted) c.loop-base.seen (walked graph segments (c.args.left - 1) (along segments c.args.path.now c.in-Some.base)) =
-    c.walk-seen.ensures ∙ ap (λ (p : Path). fold (noted graph c.args.wanted) c.loop-base.seen (walked graph segments (c.args.left - 1) p)) c.along.ensures in
+    let seen : c.walk-seen.result ≡ fold (with_path_if_wanted graph c.args.wanted) c.loop-base.seen (walked graph segments (c.args.left - 1) (along segments c.args.path.now c.in-Some.base)) =
+    c.walk-seen.ensures ∙ ap (λ (p : Path). fold (with_path_if_wanted graph c.args.wanted) c.loop-base.seen (walked graph segments (c.args.left - 1) p)) c.with_step.ensures in
     (tt, tt, walk_on graph segments c.args.wanted c.args.left c.args.path.now c.loop-base.seen c.walk-seen.result c.loop-base.base-iterator c.in-Some.base c.next.new.self _ steps seen c.loop-base.invariant.2)

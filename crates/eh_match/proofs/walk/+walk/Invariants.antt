@@ -1,6 +1,6 @@
 use Rattle.std.proofs.Common.{◌≡◌, ◌-◌}
 use Rattle.std.specs.List.{fold, flat_map}
-use Rattle.eh_match.specs.Walk.{along, noted}
+use Rattle.eh_match.specs.Walk.{along, with_path_if_wanted}
 use Rattle.eh_match.proofs.Walks.{walked}
 use Rattle.eh_match.proofs.walk.+walk.Given as goal
 
@@ -12,4 +12,4 @@ abbrev pub invariant-loop-base : goal.invariant-loop-base
 invariant-loop-base g l =
     let segments = (g.B.Bus.memory l.bus).segments in
     (goal.iterator-loop-base g).can_next l.base-iterator × (goal.iterator-loop-base g).is_finite l.base-iterator
-    × (fold (noted l.graph l.wanted) l.seen (flat_map (λ b. walked l.graph segments (l.left - 1) (along segments l.path b)) l.base-iterator) ≡ fold (noted l.graph l.wanted) l.fn.seen (walked l.graph segments l.left l.path))
+    × (fold (with_path_if_wanted l.graph l.wanted) l.seen (flat_map (λ b. walked l.graph segments (l.left - 1) (along segments l.path b)) l.base-iterator) ≡ fold (with_path_if_wanted l.graph l.wanted) l.fn.seen (walked l.graph segments l.left l.path))

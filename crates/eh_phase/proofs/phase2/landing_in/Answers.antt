@@ -1,14 +1,14 @@
 use Rattle.std.proofs.Common.{rules, ◌≡◌, ◌∙◌, sym, ap, None, false, ◌∷◌}
 use Rattle.std.specs.Prelude.{◌&&◌, not}
 use Rattle.eh_phase.specs.Firsts.{first_some}
-use Rattle.eh_phase.specs.Phases.{entered_item, stands_at}
+use Rattle.eh_phase.specs.Phases.{enter_item, stands_at}
 use Rattle.eh_phase.specs.Calls.{frame_at}
 use Rattle.eh_phase.proofs.After.{left, left_on}
 use Rattle.eh_phase.proofs.phase2.landing_in.Goals as goal
 
 pub loop-item-preserved : goal.loop-item-preserved
 loop-item-preserved c =
-    let f = entered_item c.args.goal.now (frame_at c.args.cursor.now) in
+    let f = enter_item c.args.goal.now (frame_at c.args.cursor.now) in
     let s : c.loop-item.item-iterator ≡ c.in-Some.item ∷ c.next.new.self = search rules in
     let k : f c.in-Some.item ≡ None = sym c.in_default.ensures in
     let e : (c.loop-item.before && not (stands_at c.args.from c.in-Some.item)) ≡ false = search rules in

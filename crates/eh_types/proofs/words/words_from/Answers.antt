@@ -1,5 +1,5 @@
 use Rattle.std.proofs.Common.{sym, ◌∙◌, ap, arith, ◌-◌, ◌+◌, ◌*◌, ◌≡◌, true, false, ◌||◌, Bool}
-use Rattle.eh_types.specs.Words.{words_from, joined}
+use Rattle.eh_types.specs.Words.{words_from, any_writable}
 use Rattle.eh_types.proofs.Reading.{words_some, words_end, last_word}
 use Rattle.eh_types.proofs.words.words_from.Goals as goal
 use Rattle.eh_types.proofs.words.words_from.Goals.{then-writable, else-writable}
@@ -29,7 +29,7 @@ loop-left-preserved c =
       | then-writable w ↦ or_true c.loop-left.writable _ c.if-writable.writable w.if-writable.true (w.writable-is ∙ w.if-writable.true)
       | else-writable w ↦ or_false c.loop-left.writable _ c.if-writable.writable w.if-writable.false (w.writable-is ∙ w.may_write-writable.ensures)
     ] in
-    (step ∙ ap (λ (b : Bool). joined b (words_from c.args.image.now.segments (c.loop-left.at + 4 * c.words_in-here.result) (c.loop-left.left - c.words_in-here.result))) which, omega (arith, end))
+    (step ∙ ap (λ (b : Bool). any_writable b (words_from c.args.image.now.segments (c.loop-left.at + 4 * c.words_in-here.result) (c.loop-left.left - c.words_in-here.result))) which, omega (arith, end))
 
 pub returns : goal.returns
 returns c = last_word c.args.image.now c.args.a c.loop-left.at c.args.count c.loop-left.left c.loop-left.writable (omega (arith, c.loop-left-test.false)) c.loop-left.invariant.0

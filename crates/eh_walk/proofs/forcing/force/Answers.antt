@@ -1,6 +1,6 @@
 use Rattle.std.proofs.Common.{rules, ◌≡◌, None, Ok, Err, sym, ◌∙◌, arith}
 use Rattle.eh_gates.specs.State.{state_of}
-use Rattle.eh_machine.specs.two_machines.Checked.{program_of}
+use Rattle.sim_machines.specs.Checked.{program_of}
 use Rattle.eh_walk.specs.Sites.{site_state}
 use Rattle.eh_walk.specs.declared.stopping.ForceFault.TheVariants.{NotSite}
 use Rattle.eh_walk.proofs.ForcedActs.{forces, at_no_site, at_site}
@@ -19,14 +19,14 @@ returns-in_default-clause-recorded g c =
 
 pub returns-in-Ok-clause-bytes : goal.returns-in-Ok-clause-bytes
 returns-in-Ok-clause-bytes g c =
-    c.fly.ensures ∙ sym (at_site (program_of c.args.a.now) c.args.stop c.args.ty (state_of c.args.core.now (g.B.Bus.memory c.args.shared.now.bus) c.args.events.now) c.in-Some.from c.innermost_sp.result c.holds-2.result
+    c.allocate_and_fly.ensures ∙ sym (at_site (program_of c.args.a.now) c.args.stop c.args.ty (state_of c.args.core.now (g.B.Bus.memory c.args.shared.now.bus) c.args.events.now) c.in-Some.from c.innermost_sp.result c.holds-2.result
     c.tables-t.result.index c.tables-t.result.types.now (Ok c.in-Ok.stop)
     (sym c.in-Some.ensures) c.tables-t.ensures.index c.tables-t.ensures.types c.innermost_sp.ensures.words c.holds-2.ensures.holds c.in-Ok.ensures)
 
 pub returns-in-Ok-clause-recorded : goal.returns-in-Ok-clause-recorded
 returns-in-Ok-clause-recorded g c =
-    forces c.args.a.now c.args.stop c.args.ty (state_of c.args.core.now (g.B.Bus.memory c.args.shared.now.bus) c.args.events.now) (state_of c.fly.new.core (g.B.Bus.memory c.fly.new.shared.bus) c.fly.new.events) c.fly.result (rw c.image.ensures.image at c.functions.ensures.sound) c.holds.ensures (let h = c.ranges.ty.fits in omega arith)
-    (c.fly.ensures ∙ sym (at_site (program_of c.args.a.now) c.args.stop c.args.ty (state_of c.args.core.now (g.B.Bus.memory c.args.shared.now.bus) c.args.events.now) c.in-Some.from c.innermost_sp.result c.holds-2.result
+    forces c.args.a.now c.args.stop c.args.ty (state_of c.args.core.now (g.B.Bus.memory c.args.shared.now.bus) c.args.events.now) (state_of c.allocate_and_fly.new.core (g.B.Bus.memory c.allocate_and_fly.new.shared.bus) c.allocate_and_fly.new.events) c.allocate_and_fly.result (rw c.image.ensures.image at c.functions.ensures.sound) c.holds.ensures (let h = c.ranges.ty.fits in omega arith)
+    (c.allocate_and_fly.ensures ∙ sym (at_site (program_of c.args.a.now) c.args.stop c.args.ty (state_of c.args.core.now (g.B.Bus.memory c.args.shared.now.bus) c.args.events.now) c.in-Some.from c.innermost_sp.result c.holds-2.result
     c.tables-t.result.index c.tables-t.result.types.now (Ok c.in-Ok.stop)
     (sym c.in-Some.ensures) c.tables-t.ensures.index c.tables-t.ensures.types c.innermost_sp.ensures.words c.holds-2.ensures.holds c.in-Ok.ensures))
 

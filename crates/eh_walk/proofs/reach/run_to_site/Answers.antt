@@ -1,6 +1,6 @@
 use Rattle.std.proofs.Common.{refl, sym, ◌∙◌, arith}
 use Rattle.eh_gates.specs.State.{state_of}
-use Rattle.eh_machine.specs.two_machines.Checked.{program_of}
+use Rattle.sim_machines.specs.Checked.{program_of}
 use Rattle.eh_walk.proofs.Reaching.{starts_onward, turn_goes_on, turn_ends, stands, runs_out}
 use Rattle.eh_walk.proofs.reach.run_to_site.Goals as goal
 
@@ -26,7 +26,7 @@ loop-done-preserved g c = record {
   input_kept = c.in-Went.ensures.faults.input.kept (λ e. cc) ∙ c.loop-done.invariant.input_kept;
   out_kept = c.in-Went.ensures.faults.out.kept (λ e. cc) ∙ c.loop-done.invariant.out_kept;
   same = c.loop-done.invariant.same;
-  left = omega (arith, c.left_after-machine.ensures, c.loop-done.invariant.left);
+  left = omega (arith, c.budget_after_event-machine.ensures, c.loop-done.invariant.left);
 }
 
 pub returns-then-stands_there-clause-told : goal.returns-then-stands_there-clause-told

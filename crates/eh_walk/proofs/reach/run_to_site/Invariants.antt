@@ -1,6 +1,6 @@
 use Rattle.std.proofs.Common.{◌≡◌, ◌-◌}
 use Rattle.eh_gates.specs.State.{state_of}
-use Rattle.eh_machine.specs.two_machines.Checked.{program_of}
+use Rattle.sim_machines.specs.Checked.{program_of}
 use Rattle.eh_walk.proofs.Reaching.{Onwards}
 use Rattle.eh_walk.proofs.reach.run_to_site.Given as goal
 

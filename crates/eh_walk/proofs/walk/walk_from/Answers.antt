@@ -21,7 +21,7 @@ loop-at-preserved g c =
     let whole = frames_of c.args.t.now.index stack None c.args.site (all_of c.args.regs.now) in
     let step = goes_on c.args.t.now.index stack low c.args.most whole c.loop-at.at c.loop-at.frames.items c.loop-at.invariant c.in-Inside.next
     (omega (arith, c.loop-at.frames.ok.0)) (sym c.in-Inside.ensures) in
-    subst (λ fs. Walked c.args.t.now.index stack c.args.most whole c.in-Inside.next fs) (ap (λ f. c.loop-at.frames.items ++ (f ∷ [])) (sym c.frame_shown.ensures) ∙ sym c.in_ok-push-in-Inside.ensures.items) step
+    subst (λ fs. Walked c.args.t.now.index stack c.args.most whole c.in-Inside.next fs) (ap (λ f. c.loop-at.frames.items ++ (f ∷ [])) (sym c.walk_frame_at.ensures) ∙ sym c.in_ok-push-in-Inside.ensures.items) step
 
 pub returns-in-Nothing : goal.returns-in-Nothing
 returns-in-Nothing g c =
@@ -35,8 +35,8 @@ returns-in-Last g c =
     let stack = stack_of (g.B.Bus.memory c.args.bus.now) in
     let low = (g.met.B.Bus.is_map c.args.bus.now).home.high in
     let whole = frames_of c.args.t.now.index stack None c.args.site (all_of c.args.regs.now) in
-    last_given c.args.t.now.index stack low c.args.most whole c.loop-at.at c.loop-at.frames.items c.loop-at.invariant c.ended_by.result c.in-Last.end
-    (omega (arith, c.loop-at.frames.ok.0)) (sym c.in-Last.ensures) c.ended_by.ensures.frames c.ended_by.ensures.end
+    last_given c.args.t.now.index stack low c.args.most whole c.loop-at.at c.loop-at.frames.items c.loop-at.invariant c.backtrace_with_last.result c.in-Last.end
+    (omega (arith, c.loop-at.frames.ok.0)) (sym c.in-Last.ensures) c.backtrace_with_last.ensures.frames c.backtrace_with_last.ensures.end
 
 pub returns-then-is_covered : goal.returns-then-is_covered
 returns-then-is_covered g c =

@@ -1,5 +1,5 @@
 use Rattle.std.proofs.Common.{sym}
-use Rattle.eh_machine.specs.two_machines.Checked.{program_of}
+use Rattle.sim_machines.specs.Checked.{program_of}
 use Rattle.eh_walk.proofs.Backtraces.{walked_from, activations}
 use Rattle.eh_walk.proofs.walking.backtrace.Goals as goal
 

@@ -5,12 +5,12 @@ use Rattle.elf_image.specs.declared.format.ProgramHeader.{ProgramHeader}
 use Rattle.elf_image.proofs.Listed.{map_pushed}
 use Rattle.elf_image.proofs.segment.segments.Goals as goal
 
-pub loaded-requires : goal.loaded-requires
-loaded-requires c = c.requires c.loop-h.h-index _ c.loop-h-test.true
+pub loaded_segment-requires : goal.loaded_segment-requires
+loaded_segment-requires c = c.requires c.loop-h.h-index _ c.loop-h-test.true
 
 pub loop-h-preserved : goal.loop-h-preserved
 loop-h-preserved c =
-    map_pushed (λ h. segment_of c.args.bytes.now h) c.args.headers.now c.loop-h.h-index _ c.loop-h.segments.items _ c.loaded.result c.loop-h-test.true c.loop-h.invariant c.in_ok-push.ensures.items c.loaded.ensures
+    map_pushed (λ h. segment_of c.args.bytes.now h) c.args.headers.now c.loop-h.h-index _ c.loop-h.segments.items _ c.loaded_segment.result c.loop-h-test.true c.loop-h.invariant c.in_ok-push.ensures.items c.loaded_segment.ensures
 
 pub returns : goal.returns
 returns c =

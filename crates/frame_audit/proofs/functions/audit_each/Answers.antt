@@ -1,7 +1,7 @@
 use Rattle.std.proofs.Common.{◌+◌, List, take, sym, ap, ◌∙◌, subst}
 use Rattle.elf_image.specs.Image.{Image}
 use Rattle.frame_check.proofs.Wells.{placed_item}
-use Rattle.frame_audit.specs.Listing.{Audited, IsAudited, AreAudited}
+use Rattle.frame_audit.specs.Listing.{FunctionAudit, IsAudited, AreAudited}
 use Rattle.frame_audit.proofs.Listed.{audited_item}
 use Rattle.frame_audit.proofs.functions.audit_each.Goals as goal
 
@@ -19,4 +19,4 @@ loop-f-preserved c =
     (c.functions-f-items.ensures.functions ∙ ap (λ (i : Image). i.functions) c.image.ensures) c.loop-f-test.true c.f-item.is c.loop-f.invariant.audited
     (subst (λ (i : Image). IsAudited i c.f-item.result found) covered c.in_ok-found.ensures)
     in
-    record { audited = subst (λ (xs : List Audited). AreAudited c.args.index.now (take (c.loop-f.f-index + 1) c.args.index.now.functions) xs) (sym c.in_ok-push.ensures.items) audited; cover = covered }
+    record { audited = subst (λ (xs : List FunctionAudit). AreAudited c.args.index.now (take (c.loop-f.f-index + 1) c.args.index.now.functions) xs) (sym c.in_ok-push.ensures.items) audited; cover = covered }

@@ -8,7 +8,7 @@ loop-k-init c = clobber_start c.args.list c.args.fact.now _ refl
 
 pub loop-k-preserved : goal.loop-k-preserved
 loop-k-preserved c = elim c.if-list-k-eq1.branch [
-  | then-list-k-eq1 w ↦ clobber_next c.loop-k.k c.args.list c.loop-k.left c.if-list-k-eq1.left (omega arith) w.if-list-k-eq1.true (w.left-is ∙ w.lose.ensures) ∙ c.loop-k.invariant
+  | then-list-k-eq1 w ↦ clobber_next c.loop-k.k c.args.list c.loop-k.left c.if-list-k-eq1.left (omega arith) w.if-list-k-eq1.true (w.left-is ∙ w.forget_register.ensures) ∙ c.loop-k.invariant
   | else-list-k-eq1 w ↦ clobber_past c.loop-k.k c.args.list c.loop-k.left c.if-list-k-eq1.left (omega arith) w.if-list-k-eq1.false w.left-is ∙ c.loop-k.invariant
 ]
 

@@ -1,6 +1,6 @@
 use Rattle.std.proofs.Common.{arith, ap, ◌∙◌}
 use Rattle.thumb_core.proofs.Listed.{listed_from}
-use Rattle.frame_facts.specs.Lists.{loaded}
+use Rattle.frame_facts.specs.Lists.{load_registers}
 use Rattle.frame_facts.proofs.Walks.{load_start, load_next, load_past, load_end}
 use Rattle.frame_facts.proofs.lists.load.Goals as goal
 use Rattle.frame_facts.proofs.lists.load.Goals.{then-list-k-eq1, else-list-k-eq1}
@@ -8,7 +8,7 @@ use Rattle.frame_facts.proofs.lists.load.Goals.{then-list-k-eq1, else-list-k-eq1
 pub loop-k-init : goal.loop-k-init
 loop-k-init c = record {
   few = omega arith;
-  to_do = ap (loaded c.args.p.now c.args.fact.now 0 (listed_from 0 c.args.list)) c.requires ∙ load_start c.args.p.now c.args.fact.now c.args.list;
+  to_do = ap (load_registers c.args.p.now c.args.fact.now 0 (listed_from 0 c.args.list)) c.requires ∙ load_start c.args.p.now c.args.fact.now c.args.list;
 }
 
 pub loop-k-preserved : goal.loop-k-preserved

@@ -1,6 +1,6 @@
 use Rattle.std.proofs.Common.{◌≡◌}
 use Rattle.std.specs.List.{list_any}
-use Rattle.gnu_tables.specs.Chains.{actions_of}
+use Rattle.gnu_lsda.specs.Chains.{actions_of}
 use Rattle.gnu_descriptors.specs.Scopes.{is_cleanup}
 use Rattle.gnu_descriptors.proofs.scopes.has_cleanup.Given as goal
 

@@ -1,5 +1,5 @@
 use Rattle.std.proofs.Common.{◌≡◌, ◌++◌, flat_map}
-use Rattle.gnu_tables.specs.Chains.{actions_of}
+use Rattle.gnu_lsda.specs.Chains.{actions_of}
 use Rattle.gnu_descriptors.specs.Scopes.{catches_of}
 use Rattle.gnu_descriptors.proofs.scopes.push_catches.Given as goal
 

@@ -1,8 +1,8 @@
 use Rattle.std.proofs.Common.{refl, ◌∙◌, arith}
-use Rattle.eh_machine.proofs.event_runs.Progress.{starts, goes_on, ends, spent}
-use Rattle.given_input.proofs.Loops.{given_starts, given_goes_on, given_ends, given_spent}
+use Rattle.run_events.proofs.Progress.{starts, goes_on, ends, spent}
+use Rattle.run_gates.proofs.Loops.{given_starts, given_goes_on, given_ends, given_spent}
 use Rattle.eh_gates.specs.State.{State}
-use Rattle.eh_machine.specs.two_machines.Checked.{program_of}
+use Rattle.sim_machines.specs.Checked.{program_of}
 use Rattle.eh_machine.proofs.Events.{ended_counts}
 use Rattle.thumb_core.specs.declared.ends.End.{End}
 use Rattle.thumb_core.specs.declared.ends.End.TheVariants.{Budget}

@@ -1,9 +1,9 @@
 use Rattle.std.proofs.Common.{◌≡◌, IfSome}
-use Rattle.eh_machine.proofs.event_runs.Progress.{Progress}
-use Rattle.given_input.proofs.Loops.{GivenProgress}
+use Rattle.run_events.proofs.Progress.{Progress}
+use Rattle.run_gates.proofs.Loops.{GivenProgress}
 use Rattle.eh_gates.specs.State.{State, state_of}
 use Rattle.thumb_core.specs.declared.ends.End.{End}
-use Rattle.eh_machine.specs.two_machines.Checked.{program_of}
+use Rattle.sim_machines.specs.Checked.{program_of}
 use Rattle.gnu_machine.specs.GnuMachine.{gnu_machine_of}
 use Rattle.gnu_machine.proofs.run.gnu_run.Given as goal
 

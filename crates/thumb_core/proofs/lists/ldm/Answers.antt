@@ -14,7 +14,7 @@ returns-after-list-n-eq0 g c =
       | then-list-n-eq0 w ↦
           let clear : bit_at c.args.list c.args.n ≡ 0 = grind (arith, common_steps) in
           let answer = ldm_after c.args.n c.args.list c.args.size c.args.regs.now (g.B.Bus.memory c.args.bus.now) c.load_low.new.r (rw c.reg-a.ensures at low) c.requires.list_in (omega arith) clear in
-          rw (c.advance.ensures, w.regs-is, w.put.ensures, c.in-Ok.ensures.bytes, c.reg-a.ensures) (sym (rw whole at answer))
+          rw (c.advance.ensures, w.regs-is, w.set_register.ensures, c.in-Ok.ensures.bytes, c.reg-a.ensures) (sym (rw whole at answer))
       | else-list-n-eq0 w ↦
           let set : bit_at c.args.list c.args.n ≡ 1 = grind (arith, common_steps) in
           rw (c.advance.ensures, w.regs-is)

@@ -14,7 +14,7 @@ returns-then-list-eq0 g c =
     record { count = omega arith; size = c.load_low.array_long; loaded = c.in-Ok.ensures.ok } in
     let clear : bit_at c.args.list 15 ≡ 0 = grind (arith, common_steps) in
     let plain = pop_plain c.args.list c.args.size c.args.regs.now (g.B.Bus.memory c.args.bus.now) c.load_low.new.r (rw c.reg-a.ensures at low) c.requires clear in
-    rw (c.advance.ensures, c.put.ensures, c.in-Ok.ensures.bytes, c.reg-a.ensures) (sym plain)
+    rw (c.advance.ensures, c.set_register.ensures, c.in-Ok.ensures.bytes, c.reg-a.ensures) (sym plain)
 
 pub returns-in-Err-load32 : goal.returns-in-Err-load32
 returns-in-Err-load32 g c =
@@ -39,4 +39,4 @@ returns g c =
     let set : bit_at c.args.list 15 ≡ 1 = grind (arith, common_steps) in
     let load = rw (c.in-Ok.ensures.bytes, c.reg-a.ensures) at c.in-Ok-load32.ensures in
     let answer = pop_return c.args.list c.args.size c.in-Ok-load32.word c.args.regs.now (g.B.Bus.memory c.args.bus.now) c.load_low.new.r (rw c.reg-a.ensures at low) c.requires set (sym load) (omega arith) (omega arith) in
-    rw (c.go_to.ensures, c.put-2.ensures, c.in-Ok.ensures.bytes, c.reg-a.ensures) (sym answer)
+    rw (c.go_to.ensures, c.set_register-2.ensures, c.in-Ok.ensures.bytes, c.reg-a.ensures) (sym answer)

@@ -1,5 +1,5 @@
 use Rattle.std.proofs.Common.{arith, refl}
-use Rattle.unwind_codes.proofs.Table.{raise, lower, range, range_and_lr, finish, none}
+use Rattle.eh_codes.proofs.Table.{raise, lower, range, range_and_lr, finish, none}
 use Rattle.eh_bytecode.proofs.Taking.{took, took_none}
 use Rattle.eh_bytecode.proofs.codes.Codes.take_code.Goals as goal
 

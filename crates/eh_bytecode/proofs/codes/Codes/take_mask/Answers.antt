@@ -1,5 +1,5 @@
 use Rattle.std.proofs.Common.{arith, refl}
-use Rattle.unwind_codes.proofs.Table.{mask_sp}
+use Rattle.eh_codes.proofs.Table.{mask_sp}
 use Rattle.eh_bytecode.proofs.Taking.{took_none}
 use Rattle.eh_bytecode.proofs.TakenCodes.{no_second, mask_alone, took_refuse, took_mask}
 use Rattle.eh_bytecode.proofs.codes.Codes.take_mask.Goals as goal

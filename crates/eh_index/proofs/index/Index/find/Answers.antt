@@ -1,6 +1,6 @@
 use Rattle.std.proofs.Common.{◌≡◌, ◌-◌, Option, Some, None, sym, ◌∙◌, ap, subst, arith}
 use Rattle.elf_image.specs.Image.{Image}
-use Rattle.unwind_codes.specs.declared.row.Entry.{Entry}
+use Rattle.eh_codes.specs.declared.row.Entry.{Entry}
 use Rattle.eh_index.specs.Rows.{entries_of}
 use Rattle.eh_index.specs.Covering.{covering, IsCovering}
 use Rattle.eh_index.specs.Laws.{IsEntry}

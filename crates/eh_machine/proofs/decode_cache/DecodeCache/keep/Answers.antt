@@ -11,5 +11,5 @@ returns-clause-confirmed g c = λ is.
     c.put.ensures.confirmed (g.B.Bus.memory c.args.bus.now) is (record {
       within = c.round_of-confirmed.ensures.within is.begun;
       kept = λ e. refl;
-      stands = λ e. c.stand_fast-is_fast.ensures.fast (c.round_of-confirmed.ensures.fast is.begun e) c.in-Some.ensures;
+      stands = λ e. c.are_read_only-is_fast.ensures.fast (c.round_of-confirmed.ensures.fast is.begun e) c.in-Some.ensures;
     })

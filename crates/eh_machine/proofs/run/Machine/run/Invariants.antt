@@ -1,10 +1,10 @@
 use Rattle.std.proofs.Common.{◌≡◌, IfSome}
-use Rattle.machines_agree.proofs.event_runs.Progress.{Progress}
-use Rattle.given_input.proofs.Loops.{GivenProgress}
+use Rattle.run_events.proofs.Progress.{Progress}
+use Rattle.run_gates.proofs.Loops.{GivenProgress}
 use Rattle.eh_gates.specs.State.{State, state_of}
-use Rattle.machines_agree.specs.two_machines.Machine.{machine_of}
+use Rattle.sim_machines.specs.Machine.{machine_of}
 use Rattle.thumb_core.specs.declared.ends.End.{End}
-use Rattle.machines_agree.specs.two_machines.Checked.{program_of}
+use Rattle.sim_machines.specs.Checked.{program_of}
 use Rattle.eh_machine.specs.Cached.{IsCache, IsConfirmed}
 use Rattle.eh_machine.proofs.run.Machine.run.Given as goal
 

@@ -5,5 +5,5 @@ use Rattle.frame_check.proofs.roles.Roles.put.Goals as goal
 
 pub returns : goal.returns
 returns c =
-    put_here c.args.self.now (table c.ready.new.places.items c.ready.new.roles.items) c.args.a c.in_ok-at.at c.args.role c.ready.ensures.sound c.requires
-    (subst (λ (t : Table). Ready t (table c.ready.new.places.items c.ready.new.roles.items) (c.args.a / 2) c.in_ok-at.at) c.self.view_is c.in_ok-at.ensures.ready)
+    put_here c.args.self.now (table c.place_for.new.places.items c.place_for.new.roles.items) c.args.a c.in_ok-at.at c.args.role c.place_for.ensures.sound c.requires
+    (subst (λ (t : Table). Ready t (table c.place_for.new.places.items c.place_for.new.roles.items) (c.args.a / 2) c.in_ok-at.at) c.self.view_is c.in_ok-at.ensures.ready)

@@ -1,5 +1,5 @@
 use Rattle.std.proofs.Common.{◌≡◌, length}
-use Rattle.image_memory.specs.Profiles.{profile_of}
+use Rattle.run_images.specs.Profiles.{profile_of}
 use Rattle.frame_graph.specs.Places.{is_place, halfword_of}
 use Rattle.frame_graph.specs.KeptPlaces.{ArePlaces}
 use Rattle.frame_graph.proofs.flow_graph.FlowGraph.put_places.Given as goal

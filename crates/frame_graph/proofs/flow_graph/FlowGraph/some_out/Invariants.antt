@@ -1,6 +1,7 @@
 use Rattle.std.proofs.Common.{◌≡◌}
 use Rattle.std.specs.List.{list_any}
-use Rattle.frame_graph.specs.Sites.{is_one, lands_out}
+use Rattle.frame_entries.specs.Scopes.{is_one}
+use Rattle.frame_graph.specs.Sites.{lands_out}
 use Rattle.frame_graph.proofs.flow_graph.FlowGraph.some_out.Given as goal
 
 abbrev pub invariant-loop-item : goal.invariant-loop-item

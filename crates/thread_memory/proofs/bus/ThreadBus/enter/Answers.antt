@@ -9,14 +9,14 @@ invariant_of-self g c = record {
   within = c.requires;
   at_home = home_is c.args.thread c.requires;
   its_own = c.home_of-self.ensures;
-  plain = stays_plain (changes_from c.args.ran c.args.thread 0 c.note.new.self.slots) (g.B.Bus.memory c.args.self.now.inner) (g.B.Bus.memory c.show.new.bus) c.show.ensures.memory c.args.self.now.plain;
-  few = c.note.new.self.few;
-  free = c.show.ensures.free c.note.ensures.free;
+  plain = stays_plain (changes_from c.args.ran c.args.thread 0 c.update_after.new.self.slots) (g.B.Bus.memory c.args.self.now.inner) (g.B.Bus.memory c.show.new.bus) c.show.ensures.memory c.args.self.now.plain;
+  few = c.update_after.new.self.few;
+  free = c.show.ensures.free c.update_after.ensures.free;
 }
 
 pub returns-clause-memory : goal.returns-clause-memory
 returns-clause-memory g c =
-    enters c.args.ran c.args.thread c.args.self.now.thread c.note.new.self.slots (g.B.Bus.memory c.args.self.now.inner) (g.B.Bus.memory c.show.new.bus) c.args.self.now.guards c.show.ensures.memory
+    enters c.args.ran c.args.thread c.args.self.now.thread c.update_after.new.self.slots (g.B.Bus.memory c.args.self.now.inner) (g.B.Bus.memory c.show.new.bus) c.args.self.now.guards c.show.ensures.memory
 
 pub returns-clause-map : goal.returns-clause-map
 returns-clause-map g c = c.show.ensures.map

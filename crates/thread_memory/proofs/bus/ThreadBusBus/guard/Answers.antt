@@ -1,4 +1,4 @@
-use Rattle.bus_memories.proofs.CallLaws.{guards_keep_map}
+use Rattle.mem_buses.proofs.CallLaws.{guards_keep_map}
 use Rattle.eh_bus.proofs.GuardOrder.{inserted_rises}
 use Rattle.thread_memory.proofs.bus.ThreadBusBus.guard.Goals as goal
 

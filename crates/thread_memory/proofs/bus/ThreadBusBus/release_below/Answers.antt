@@ -1,4 +1,4 @@
-use Rattle.bus_memories.proofs.CallLaws.{guards_keep_map}
+use Rattle.mem_buses.proofs.CallLaws.{guards_keep_map}
 use Rattle.eh_bus.proofs.GuardOrder.{filter_rises}
 use Rattle.eh_bus.specs.declared.map.TheConstants.{STACK_END}
 use Rattle.thread_memory.proofs.bus.ThreadBusBus.release_below.Goals as goal

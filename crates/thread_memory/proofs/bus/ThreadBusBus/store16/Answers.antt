@@ -1,5 +1,5 @@
 use Rattle.std.proofs.Common.{◌≡◌, None, Some, inl, inr, refl, sym}
-use Rattle.bus_memories.proofs.CallLaws.{guards_keep_map, undone}
+use Rattle.mem_buses.proofs.CallLaws.{guards_keep_map, undone}
 use Rattle.thread_memory.proofs.Seeing.{seen_map}
 use Rattle.thread_memory.proofs.Stores.{store_reaches, store_through}
 use Rattle.thread_memory.specs.Seen.{aligned_hit}

@@ -1,5 +1,5 @@
 use Rattle.std.proofs.Common.{◌≡◌, Some, inr, refl, sym}
-use Rattle.bus_memories.proofs.CallLaws.{guards_keep_map}
+use Rattle.mem_buses.proofs.CallLaws.{guards_keep_map}
 use Rattle.thread_memory.proofs.Seeing.{seen_map}
 use Rattle.thread_memory.proofs.Stores.{store_reaches}
 use Rattle.thread_memory.specs.Seen.{aligned_hit}

@@ -1,5 +1,5 @@
 use Rattle.std.proofs.Common.{arith}
-use Rattle.bus_memories.proofs.CallLaws.{guards_keep_map, run_undone}
+use Rattle.mem_buses.proofs.CallLaws.{guards_keep_map, run_undone}
 use Rattle.thread_memory.proofs.Runs.{run_through}
 use Rattle.thread_memory.proofs.Seeing.{seen_map}
 use Rattle.thread_memory.proofs.Freeing.{plain_after_run, free_after_run}

@@ -1,5 +1,0 @@
-use Rattle.accepted_code.proofs.Bounded.{are_in_range}
-use Rattle.accepted_code.proofs.fields_are_in_range.Goals as goal
-
-pub returns : goal.returns
-returns c = are_in_range

@@ -1,5 +1,0 @@
-use Rattle.accepted_code.proofs.Reading as reading
-use Rattle.accepted_code.proofs.recipes_finish.Goals as goal
-
-pub returns : goal.returns
-returns c = reading.recipes_finish

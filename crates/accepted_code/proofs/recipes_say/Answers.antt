@@ -1,5 +1,0 @@
-use Rattle.accepted_code.proofs.Folding as folding
-use Rattle.accepted_code.proofs.recipes_say.Goals as goal
-
-pub returns : goal.returns
-returns c = folding.recipes_say

@@ -1,5 +1,0 @@
-use Rattle.accepted_code.proofs.Results.{unwound_registers}
-use Rattle.accepted_code.proofs.registers_stay.Goals as goal
-
-pub returns : goal.returns
-returns c = unwound_registers

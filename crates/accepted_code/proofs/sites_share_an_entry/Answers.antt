@@ -1,5 +1,0 @@
-use Rattle.accepted_code.proofs.Entries.{entry_of_start}
-use Rattle.accepted_code.proofs.sites_share_an_entry.Goals as goal
-
-pub returns : goal.returns
-returns c = entry_of_start

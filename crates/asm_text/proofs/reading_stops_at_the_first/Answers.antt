@@ -1,5 +1,0 @@
-use Rattle.asm_text.proofs.Refusing.{stops_at_first}
-use Rattle.asm_text.proofs.reading_stops_at_the_first.Goals as goal
-
-pub returns : goal.returns
-returns c = stops_at_first

@@ -1,7 +1,0 @@
-use Rattle.std.proofs.Common.{◌≡◌, length}
-use Rattle.eh_bus.proofs.BuiltLemmas.{Spaced}
-use Rattle.bus_cost.specs.declared.TheConstants.{FIRST, STEP}
-use Rattle.bus_cost.proofs.segments.Given as goal
-
-abbrev pub invariant-loop-number : goal.invariant-loop-number
-invariant-loop-number l = record { count : length l.all.items ≡ l.number; spaced : Spaced l.all.items FIRST STEP }

@@ -1,8 +1,0 @@
-use Rattle.bus_memories.proofs.CallLaws.{paged_map, undone, store_keeps_map}
-use Rattle.bus_memories.proofs.paged.PagedBusBus.store8.Goals as goal
-
-pub returns-clause-undone : goal.returns-clause-undone
-returns-clause-undone c = undone 1 _ _ _ _ _ (paged_map c.args.self.now) c.put8.ensures
-
-pub returns-clause-keeps : goal.returns-clause-keeps
-returns-clause-keeps c = store_keeps_map 1 _ _ _ _ _ c.put8.ensures

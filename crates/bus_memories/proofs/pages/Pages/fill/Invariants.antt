@@ -1,9 +1,0 @@
-use Rattle.std.proofs.Common.{◌-◌, ◌≤◌}
-use Rattle.bus_memories.specs.Pages.{Filled}
-use Rattle.bus_memories.proofs.pages.Pages.fill.Given as goal
-
-abbrev pub invariant-pages : goal.invariant-pages
-invariant-pages l = record { within : l.done ≤ l.size; filled : Filled l.initial.self l.self l.start l.done l.given l.owner }
-
-abbrev pub decreases-pages : goal.decreases-pages
-decreases-pages l = l.size - l.done

@@ -1,8 +1,0 @@
--- The memory of a paged bus.
-use Rattle.eh_bus.specs.Memory.{Memory}
-use Rattle.bus_memories.specs.Pages.{byte_of, segments_at}
-use Rattle.bus_memories.specs.declared.paged.PagedBus.{PagedBus}
-use Rattle.eh_bus.specs.declared.map.TheConstants.{STACK_END, STACK_START}
-
-abbrev pub memory_of : PagedBus → Memory
-memory_of bus = record { segments = segments_at (byte_of bus.pages) bus.parts.items; guards = bus.guards; home = (STACK_START, STACK_END) }

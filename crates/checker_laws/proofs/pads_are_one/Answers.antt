@@ -1,5 +1,0 @@
-use Rattle.checker_laws.proofs.Pads.{pads_one}
-use Rattle.checker_laws.proofs.pads_are_one.Goals as goal
-
-pub returns : goal.returns
-returns c = pads_one

@@ -1,0 +1,32 @@
+use Rattle.std.proofs.Common.{◌≡◌, ◌+◌, ◌-◌, ℕ, List, [], ◌∷◌, ◌++◌, true, refl, sym, ap, ◌∙◌, arith, length, rules, tests}
+use Rattle.std.specs.Prelude.{nat_le}
+use Rattle.std.specs.Borrow.{Bor}
+use Rattle.std.proofs.Math.Seq.{take-append_seam}
+use Rattle.std.proofs.lemmas.List.{map-append, get_or_push, length-append}
+use Rattle.cmd_input.specs.Words.{run_command, with_budget, budget_of}
+use Rattle.cmd_answers.specs.Words.{texts}
+use Rattle.cmd_input.specs.declared.words.Task.{Task}
+use Rattle.cmd_input.proofs.words.run_form.Goals as goal
+
+-- the last word is the budget
+run_command-push : (t : Task) (names : List (List ℕ)) (number : List ℕ) → run_command t (names ++ number ∷ []) ≡ with_budget t names (budget_of number)
+unfolding run_command
+run_command-push t names number =
+    let size : length (names ++ number ∷ []) ≡ length names + 1 = length-append names (number ∷ []) in
+    let back : length (names ++ number ∷ []) - 1 ≡ length names = omega (arith, size) in
+    let some : nat_le 1 (length (names ++ number ∷ [])) ≡ true = rw size (search (rules, tests)) in
+    rw (some, back, take-append_seam names (number ∷ []), get_or_push names number [] (length names) refl) refl
+
+by_split : (t : Task) (words names : List (Bor (List ℕ))) (number : Bor (List ℕ)) → words ≡ names ++ number ∷ [] → run_command t (texts words) ≡ with_budget t (texts names) (budget_of number.now)
+by_split t words names number e = rw (e, map-append) (run_command-push t (texts names) number.now)
+
+pub returns : goal.returns
+returns c =
+    c.files_form.ensures ∙ ap (with_budget c.args.task (texts c.in_ok-number.names.now)) c.in_ok-budget.ensures
+    ∙ sym (by_split c.args.task c.args.words.now c.in_ok-number.names.now c.in_ok-number.number.now c.in_ok-number.ensures.cases.0)
+
+pub returns-in_err-budget : goal.returns-in_err-budget
+returns-in_err-budget c =
+    rw c.from_residual-in_err-budget.ensures
+    (ap (with_budget c.args.task (texts c.in_ok-number.names.now)) c.in_err-budget.ensures
+    ∙ sym (by_split c.args.task c.args.words.now c.in_ok-number.names.now c.in_ok-number.number.now c.in_ok-number.ensures.cases.0))

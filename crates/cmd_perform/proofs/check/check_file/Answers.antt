@@ -1,0 +1,25 @@
+use Rattle.std.proofs.Common.{refl}
+use Rattle.cmd_input.specs.Building.{refusal_of}
+use Rattle.cmd_input.specs.Accepting.{BytesReportsBy, IsUnaccepted}
+use Rattle.cmd_perform.specs.CheckReport.{ChecksAccepted}
+use Rattle.cmd_input.specs.Finding.{file_bytes}
+use Rattle.cmd_perform.specs.Yields.{RefusedOf}
+use Rattle.cmd_perform.proofs.Doing.{keeps_bytes, keeps_fault}
+use Rattle.cmd_perform.proofs.Runners.{check_asks, check_leaves}
+use Rattle.cmd_perform.proofs.check.check_file.Goals as goal
+
+pub returns-in-Ok-Ok : goal.returns-in-Ok-Ok
+returns-in-Ok-Ok g c = λ input faults.
+    let name = c.args.name.now in
+    let found = rw c.in-Ok-Ok.field-0-is at c.in-Ok-Ok.ensures.found in
+    let asked = rw c.in-Ok-Ok.field-0-is at c.in-Ok-Ok.ensures.asked in
+    keeps_bytes _ (file_bytes name) (BytesReportsBy ChecksAccepted) (RefusedOf IsUnaccepted) (check_asks name) (check_leaves name) _ _ input _ _ faults _ _ _ _ found.told found.kept _ refl asked
+    (rw c.as_slice.ensures at c.check_bytes.ensures)
+
+pub returns-in-Ok-Err : goal.returns-in-Ok-Err
+returns-in-Ok-Err g c = λ input faults.
+    let name = c.args.name.now in
+    let found = rw c.in-Ok-Err.field-0-is at c.in-Ok-Err.ensures.found in
+    let asked = rw c.in-Ok-Err.field-0-is at c.in-Ok-Err.ensures.asked in
+    keeps_fault _ (file_bytes name) (BytesReportsBy ChecksAccepted) (RefusedOf IsUnaccepted) (check_asks name) (check_leaves name) _ _ input _ _ faults _ _ _ (refusal_of c.in-Ok-Err.fault) found.told
+    c.answer_files_fault.ensures.status _ refl asked c.answer_files_fault.ensures.line

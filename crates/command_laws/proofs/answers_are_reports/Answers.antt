@@ -1,5 +1,0 @@
-use Rattle.command_laws.proofs.Answers.{answers}
-use Rattle.command_laws.proofs.answers_are_reports.Goals as goal
-
-pub returns : goal.returns
-returns c = answers

@@ -1,5 +1,0 @@
-use Rattle.command_laws.proofs.Lines.{refusals}
-use Rattle.command_laws.proofs.refusals_are_written.Goals as goal
-
-pub returns : goal.returns
-returns c = refusals

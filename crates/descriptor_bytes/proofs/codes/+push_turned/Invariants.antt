@@ -1,5 +1,0 @@
-use Rattle.std.proofs.Common.{length}
-use Rattle.descriptor_bytes.proofs.codes.+push_turned.Given as goal
-
-abbrev pub decreases-push_turned : goal.decreases-push_turned
-decreases-push_turned l = length l.words.now

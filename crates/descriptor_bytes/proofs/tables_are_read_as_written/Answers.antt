@@ -1,5 +1,0 @@
-use Rattle.descriptor_bytes.proofs.Tables.{law_of_tables}
-use Rattle.descriptor_bytes.proofs.tables_are_read_as_written.Goals as goal
-
-pub returns : goal.returns
-returns c = law_of_tables

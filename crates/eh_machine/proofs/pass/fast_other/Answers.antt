@@ -1,5 +1,0 @@
-use Rattle.std.proofs.Common.{refl}
-use Rattle.eh_machine.proofs.pass.fast_other.Goals as goal
-
-pub call-requires-clause-call : goal.call-requires-clause-call
-call-requires-clause-call g c = record { off = _; is = refl }

@@ -1,0 +1,4 @@
+-- What crates above this one use of `sim_runs` and don't list, so that the ways down from each crate stay few.
+pub use Rattle.sim_runs.proofs.OneEvent
+pub use Rattle.sim_runs.proofs.RunsOn
+pub use Rattle.sim_runs.proofs.WholeRuns

@@ -1,2 +1,0 @@
--- What the crates above cite of image_memory.
-pub use Rattle.image_memory.specs.Start

@@ -1,3 +1,0 @@
--- What the crates above cite of machines_agree.
-pub use Rattle.machines_agree.specs.Beyond
-pub use Rattle.machines_agree.specs.Turned

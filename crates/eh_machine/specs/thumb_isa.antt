@@ -1,3 +1,0 @@
--- What the crates above cite of thumb_isa.
-pub use Rattle.thumb_isa.specs.Rows
-pub use Rattle.thumb_isa.specs.declared

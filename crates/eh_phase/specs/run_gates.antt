@@ -1,0 +1,3 @@
+-- What crates above this one use of `run_gates` and don't list, so that the ways down from each crate stay few.
+pub use Rattle.run_gates.specs.Ends
+pub use Rattle.run_gates.specs.Gates

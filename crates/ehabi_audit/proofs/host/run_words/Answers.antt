@@ -1,0 +1,4 @@
+use Rattle.ehabi_audit.proofs.host.run_words.Goals as goal
+
+pub returns-clause-answer : goal.returns-clause-answer
+returns-clause-answer g c = rw (c.deref.ensures.value, c.in_ok-texts.ensures) at c.audit_main.ensures

@@ -1,5 +1,0 @@
-use Rattle.ehabi_audit_top.proofs.Entries.{lines_are_of_refused}
-use Rattle.ehabi_audit_top.proofs.laws.lines_are_of_refused.Goals as goal
-
-pub returns : goal.returns
-returns c = lines_are_of_refused

@@ -1,4 +1,0 @@
-use Rattle.ehabi_commands.proofs.generated.built_program.Goals as goal
-
-pub returns : goal.returns
-returns c = rw (c.in_ok-sources.ensures, c.new-source.ensures, c.of_vec.ensures, c.in_ok-text.ensures) at c.built.ensures

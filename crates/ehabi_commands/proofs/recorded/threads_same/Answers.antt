@@ -1,7 +1,0 @@
-use Rattle.ehabi_commands.proofs.SameRuns.{program_by_segments, threads_same}
-use Rattle.ehabi_commands.proofs.recorded.threads_same.Goals as goal
-
-pub returns : goal.returns
-returns g c =
-    let image = rw c.image.ensures.image at c.functions.ensures.sound in
-    threads_same c.args.accepted.now (program_by_segments c.args.accepted.now _ image c.holds.ensures (g.met.B.Bus.is_map c.args.bus.now).segments c.requires.start) c.schedules_same.ensures

@@ -1,3 +1,0 @@
--- What the crates above cite of thread_run.
-pub use Rattle.thread_run.specs.Elements
-pub use Rattle.thread_run.specs.Schedules

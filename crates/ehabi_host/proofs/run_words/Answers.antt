@@ -1,4 +1,0 @@
-use Rattle.ehabi_host.proofs.run_words.Goals as goal
-
-pub returns-clause-answer : goal.returns-clause-answer
-returns-clause-answer g c = rw (c.deref.ensures.value, c.in_ok-texts.ensures) at c.ehabi_main.ensures

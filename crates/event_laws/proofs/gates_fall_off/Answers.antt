@@ -1,5 +1,0 @@
-use Rattle.event_laws.proofs.GoingOn.{fall_off}
-use Rattle.event_laws.proofs.gates_fall_off.Goals as goal
-
-pub returns : goal.returns
-returns c = fall_off

@@ -1,5 +1,0 @@
-use Rattle.event_laws.proofs.Heads.{stay_heads}
-use Rattle.event_laws.proofs.heads_stay_heads.Goals as goal
-
-pub returns : goal.returns
-returns c = stay_heads

@@ -1,5 +1,0 @@
-use Rattle.event_laws.proofs.Stack.{never_raise}
-use Rattle.event_laws.proofs.lowerings_never_raise.Goals as goal
-
-pub returns : goal.returns
-returns c = never_raise

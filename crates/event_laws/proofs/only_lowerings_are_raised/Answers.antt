@@ -1,5 +1,0 @@
-use Rattle.event_laws.proofs.Stack.{only_raised}
-use Rattle.event_laws.proofs.only_lowerings_are_raised.Goals as goal
-
-pub returns : goal.returns
-returns c = only_raised

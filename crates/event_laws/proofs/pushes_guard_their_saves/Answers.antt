@@ -1,5 +1,0 @@
-use Rattle.event_laws.proofs.Saves.{guard_their_saves}
-use Rattle.event_laws.proofs.pushes_guard_their_saves.Goals as goal
-
-pub returns : goal.returns
-returns c = guard_their_saves

@@ -1,5 +1,0 @@
-use Rattle.event_laws.proofs.Saves.{refused_end}
-use Rattle.event_laws.proofs.refused_stores_end.Goals as goal
-
-pub returns : goal.returns
-returns c = refused_end

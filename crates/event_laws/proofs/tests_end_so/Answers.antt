@@ -1,5 +1,0 @@
-use Rattle.event_laws.proofs.Tests.{end_so}
-use Rattle.event_laws.proofs.tests_end_so.Goals as goal
-
-pub returns : goal.returns
-returns c = end_so

@@ -1,5 +1,0 @@
-use Rattle.flow.proofs.Ends.{decides}
-use Rattle.flow.proofs.valid_facts_decide.Goals as goal
-
-pub returns : goal.returns
-returns g c = decides g.row.F.Denot g.row.C.Denot g.V.Vagueness.at_most

@@ -1,5 +1,0 @@
-use Rattle.forced_landings.proofs.InOrder.{forcings_land_in_order}
-use Rattle.forced_landings.proofs.forcings_land_in_order.Goals as goal
-
-pub returns : goal.returns
-returns c = forcings_land_in_order c.flights_land_in_order.ensures

@@ -1,2 +1,0 @@
--- What the crates above cite of flow.
-pub use Rattle.flow.specs.Flow

@@ -1,6 +1,0 @@
-use Rattle.std.proofs.Common.{◌≡◌, drop}
-use Rattle.frame_facts.proofs.Staying.{stayed}
-use Rattle.frame_facts.proofs.facts.stay_met.Given as goal
-
-abbrev pub invariant-loop-k : goal.invariant-loop-k
-invariant-loop-k l = stayed (drop l.k l.held) (drop l.k l.other) ≡ stayed l.held l.other

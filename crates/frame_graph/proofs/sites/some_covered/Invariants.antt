@@ -1,9 +1,0 @@
-use Rattle.std.proofs.Common.{◌≡◌}
-use Rattle.std.specs.List.{list_any}
-use Rattle.frame_graph.specs.Sites.{is_one, covers}
-use Rattle.frame_graph.proofs.sites.some_covered.Given as goal
-
-abbrev pub invariant-loop-item : goal.invariant-loop-item
-invariant-loop-item l =
-    goal.iterator-loop-item.can_next l.item-iterator × goal.iterator-loop-item.is_finite l.item-iterator
-    × (list_any (is_one (covers l.site)) l.item-iterator ≡ list_any (is_one (covers l.site)) l.fn.descs)

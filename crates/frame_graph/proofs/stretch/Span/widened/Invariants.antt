@@ -1,6 +1,0 @@
-use Rattle.std.proofs.Common.{Some}
-use Rattle.frame_graph.specs.Stretch.{IsWithin}
-use Rattle.frame_graph.proofs.stretch.Span.widened.Given as goal
-
-abbrev pub invariant-loop-item : goal.invariant-loop-item
-invariant-loop-item l = IsWithin (Some l.span) l.self

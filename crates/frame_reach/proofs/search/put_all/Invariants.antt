@@ -1,6 +1,0 @@
-use Rattle.std.proofs.Common.{take}
-use Rattle.frame_reach.specs.Search.{IsSound, Grows, ArePut}
-use Rattle.frame_reach.proofs.search.put_all.Given as goal
-
-abbrev pub invariant-loop-edge : goal.invariant-loop-edge
-invariant-loop-edge l = record { sound : IsSound l.flow_graph l.found; grows : Grows l.initial.found l.found; put : ArePut l.found (take l.edge-index l.edges) }

@@ -1,5 +1,0 @@
-use Rattle.frames_same.proofs.PadStands.{pad_stands}
-use Rattle.frames_same.proofs.pads_are_stood_at.Goals as goal
-
-pub returns : goal.returns
-returns c = λ x s site is k here. pad_stands x is s k site here

@@ -1,5 +1,0 @@
-use Rattle.gate_laws.proofs.CallAnswers.{calls_answer as told}
-use Rattle.gate_laws.proofs.calls_answer.Goals as goal
-
-pub returns : goal.returns
-returns c = told

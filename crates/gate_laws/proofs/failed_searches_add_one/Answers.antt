@@ -1,5 +1,0 @@
-use Rattle.gate_laws.proofs.Throws.{add_one}
-use Rattle.gate_laws.proofs.failed_searches_add_one.Goals as goal
-
-pub returns : goal.returns
-returns c = add_one

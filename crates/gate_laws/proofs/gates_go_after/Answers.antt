@@ -1,5 +1,0 @@
-use Rattle.gate_laws.proofs.Landings.{go_after}
-use Rattle.gate_laws.proofs.gates_go_after.Goals as goal
-
-pub returns : goal.returns
-returns c = go_after

@@ -1,5 +1,0 @@
-use Rattle.gate_laws.proofs.Landings.{landings}
-use Rattle.gate_laws.proofs.landings_are_as_told.Goals as goal
-
-pub returns : goal.returns
-returns c = landings

@@ -1,5 +1,0 @@
-use Rattle.gate_laws.proofs.Pointers.{are_given}
-use Rattle.gate_laws.proofs.objects_are_given.Goals as goal
-
-pub returns : goal.returns
-returns c = are_given

@@ -1,5 +1,0 @@
-use Rattle.gate_laws.proofs.Pointers.{can_be_loaded}
-use Rattle.gate_laws.proofs.pointers_can_be_loaded.Goals as goal
-
-pub returns : goal.returns
-returns c = can_be_loaded

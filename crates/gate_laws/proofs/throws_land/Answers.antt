@@ -1,5 +1,0 @@
-use Rattle.gate_laws.proofs.Landings.{throws_land}
-use Rattle.gate_laws.proofs.throws_land.Goals as goal
-
-pub returns : goal.returns
-returns c = throws_land

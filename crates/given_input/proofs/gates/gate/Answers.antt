@@ -1,6 +1,0 @@
-use Rattle.std.proofs.Common.{arith}
-use Rattle.given_input.proofs.Inputs.{given_failed}
-use Rattle.given_input.proofs.gates.gate.Goals as goal
-
-pub returns-in-Err-clause-given : goal.returns-in-Err-clause-given
-returns-in-Err-clause-given g c = given_failed c.args.number (record c.args.regs.now { pc = c.args.pc }) c.args.regs.now _ (omega arith)

@@ -1,6 +1,0 @@
-use Rattle.std.proofs.Common.{arith}
-use Rattle.given_input.proofs.Inputs.{one_byte}
-use Rattle.given_input.proofs.gates.next_byte.Goals as goal
-
-pub returns-in-Ok-clause-small : goal.returns-in-Ok-clause-small
-returns-in-Ok-clause-small g c = one_byte _ (omega arith)

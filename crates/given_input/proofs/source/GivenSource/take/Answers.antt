@@ -1,6 +1,0 @@
-use Rattle.std.proofs.Common.{rules}
-use Rattle.given_input.proofs.Inputs.{taken}
-use Rattle.given_input.proofs.source.GivenSource.take.Goals as goal
-
-pub returns-in-Some-clause-bytes : goal.returns-in-Some-clause-bytes
-returns-in-Some-clause-bytes c = (taken c.args.self.now.byte c.in-Some.byte c.args.buf.now c.in-Some.is (search rules), λ e. absurd cc)

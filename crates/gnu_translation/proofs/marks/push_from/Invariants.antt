@@ -1,6 +1,0 @@
-use Rattle.std.proofs.Common.{◌≡◌, ◌++◌}
-use Rattle.gnu_translation.specs.Marks.{marks_from}
-use Rattle.gnu_translation.proofs.marks.push_from.Given as goal
-
-abbrev pub invariant-loop-k : goal.invariant-loop-k
-invariant-loop-k l = l.marks.items ≡ l.initial.marks.items ++ marks_from l.image l.start l.k

@@ -1,5 +1,0 @@
-use Rattle.gnu_translation_laws.proofs.Good.{law_of_code}
-use Rattle.gnu_translation_laws.proofs.code_stays.Goals as goal
-
-pub returns : goal.returns
-returns c = law_of_code

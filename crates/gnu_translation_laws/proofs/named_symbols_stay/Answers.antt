@@ -1,5 +1,0 @@
-use Rattle.gnu_translation_laws.proofs.Names.{law_of_names}
-use Rattle.gnu_translation_laws.proofs.named_symbols_stay.Goals as goal
-
-pub returns : goal.returns
-returns c = law_of_names

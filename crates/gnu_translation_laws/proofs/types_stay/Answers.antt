@@ -1,5 +1,0 @@
-use Rattle.gnu_translation_laws.proofs.Names.{law_of_types}
-use Rattle.gnu_translation_laws.proofs.types_stay.Goals as goal
-
-pub returns : goal.returns
-returns c = law_of_types

@@ -1,5 +1,0 @@
-use Rattle.gnu_verdicts.proofs.Made.{law_of_entries}
-use Rattle.gnu_verdicts.proofs.rewritten_entries_are_read.Goals as goal
-
-pub returns : goal.returns
-returns c = law_of_entries

@@ -1,5 +1,0 @@
-use Rattle.gnu_verdicts.proofs.Accepted.{law_of_verdicts}
-use Rattle.gnu_verdicts.proofs.verdicts_are_gnus.Goals as goal
-
-pub returns : goal.returns
-returns c = law_of_verdicts

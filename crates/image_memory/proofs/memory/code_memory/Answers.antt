@@ -1,5 +1,0 @@
-use Rattle.image_memory.proofs.Building.{no_zeros}
-use Rattle.image_memory.proofs.memory.code_memory.Goals as goal
-
-pub returns : goal.returns
-returns c = rw (no_zeros c.args.code.now) at c.build.ensures.memory

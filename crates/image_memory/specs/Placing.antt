@@ -1,7 +1,0 @@
--- Segments of an image as segments to build.
-use Rattle.elf_image.specs.Segments.{Segment}
-use Rattle.eh_bus.specs.declared.segment.SegmentSpec.{SegmentSpec}
-
--- the segment that is asked for
-abbrev pub placed : SegmentSpec → Segment
-placed spec = record { start = spec.start; bytes = spec.bytes.now; size = spec.size; write = spec.write; exec = spec.exec }

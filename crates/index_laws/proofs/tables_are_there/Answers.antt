@@ -1,5 +1,0 @@
-use Rattle.index_laws.proofs.Tables.{law_of_tables}
-use Rattle.index_laws.proofs.tables_are_there.Goals as goal
-
-pub returns : goal.returns
-returns c = law_of_tables

@@ -1,4 +1,0 @@
-pub mod Landings
-pub mod ByteLandings
-pub mod Due
-pub mod LandingLaws

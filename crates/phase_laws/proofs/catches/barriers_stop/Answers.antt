@@ -1,5 +1,0 @@
-use Rattle.phase_laws.proofs.Heard.{barriers_stop}
-use Rattle.phase_laws.proofs.catches.barriers_stop.Goals as goal
-
-pub returns : goal.returns
-returns c = barriers_stop

@@ -1,6 +1,0 @@
-use Rattle.std.proofs.Common.{arith}
-use Rattle.plain_run.proofs.Cached.{set_line}
-use Rattle.plain_run.proofs.decode_cache.DecodeCache.put.Goals as goal
-
-pub returns : goal.returns
-returns c = record { lines = set_line c.args.self.now.lines c.line_of.result c.args.line (omega arith) c.requires.cache.lines c.requires.of }

@@ -1,9 +1,0 @@
-//! Runs of raw code, without unwinding (docs/runs.md). One event is one instruction; there is no checker, no word is guarded,
-//! and the gates are 0 to 2.
-#![tactic(auto)]
-
-mod decode_cache;
-mod event;
-mod run;
-
-pub use run::flat_run;

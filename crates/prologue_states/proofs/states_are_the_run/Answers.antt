@@ -1,6 +1,0 @@
-use Rattle.prologue_states.proofs.Straight.{states}
-use Rattle.prologue_states.proofs.Prologues.{effects_agree}
-use Rattle.prologue_states.proofs.states_are_the_run.Goals as goal
-
-pub returns : goal.returns
-returns c = λ s m are even low. states s m are even (effects_agree s m even low are)

@@ -1,5 +1,0 @@
-use Rattle.report_laws.proofs.OneReport.{refusals}
-use Rattle.report_laws.proofs.refusals_are_one.Goals as goal
-
-pub returns : goal.returns
-returns c = refusals c.programs_are_one.ensures

@@ -1,5 +1,0 @@
-use Rattle.report_laws.proofs.Written.{written}
-use Rattle.report_laws.proofs.reports_are_written.Goals as goal
-
-pub returns : goal.returns
-returns c = written

@@ -1,0 +1,4 @@
+pub mod Ends
+pub mod Gates
+pub mod Given
+pub mod Runs

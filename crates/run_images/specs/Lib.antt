@@ -1,0 +1,5 @@
+pub mod Placing
+pub mod Start
+pub mod Profiles
+pub mod run_gates
+pub mod thumb_core

@@ -1,0 +1,5 @@
+pub mod Events
+pub mod PushEvents
+pub mod Returning
+pub mod sim_code
+pub mod sim_relation

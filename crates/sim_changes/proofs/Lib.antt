@@ -1,0 +1,6 @@
+mod Memories
+mod Frees
+mod Starting
+pub mod Forced
+mod Barred
+pub mod sim_steps

@@ -1,0 +1,6 @@
+pub mod Frames
+pub mod Landings
+pub mod LandingLaws
+pub mod frame_flow
+pub mod frame_graph
+pub mod sim_relation

@@ -1,0 +1,20 @@
+mod Beside
+mod Kept
+mod DueSteps
+mod PadsBySp
+mod Reached
+mod LandsDue
+mod Landed
+mod FlightDue
+mod Plain
+mod Walked
+mod Tamed
+mod Others
+mod Flies
+mod Threw
+mod Ended
+mod OneEvent
+mod Runs
+mod Flights
+mod SameLandings
+pub mod sim_resumes

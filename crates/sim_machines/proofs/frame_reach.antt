@@ -1,0 +1,4 @@
+-- What crates above this one use of `frame_reach` and don't list, so that the ways down from each crate stay few.
+pub use Rattle.frame_check.proofs.frame_reach.Existing
+pub use Rattle.frame_check.proofs.frame_reach.Found
+pub use Rattle.frame_check.proofs.frame_reach.Stands

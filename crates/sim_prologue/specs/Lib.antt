@@ -1,0 +1,2 @@
+pub mod PrologueLaws
+pub mod sim_code

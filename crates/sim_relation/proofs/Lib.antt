@@ -1,0 +1,16 @@
+pub mod Flows
+pub mod First
+pub mod Goes
+pub mod Moves
+pub mod Callee
+pub mod SpTests
+pub mod SimpleTurns
+pub mod Traps
+pub mod CountedLists
+pub mod Moved
+pub mod Tame
+pub mod Written
+pub mod Slots
+pub mod Onward
+pub mod sim_code
+pub mod sim_machines

@@ -1,0 +1,5 @@
+-- What crates above this one use of `sim_machines` and don't list, so that the ways down from each crate stay few.
+pub use Rattle.sim_machines.specs.ActivationMachine
+pub use Rattle.sim_machines.specs.Activations
+pub use Rattle.sim_machines.specs.Agreeing
+pub use Rattle.sim_machines.specs.Throws

@@ -1,0 +1,5 @@
+pub mod Outside
+pub mod ResumeLaws
+pub mod EndEvents
+pub mod Flying
+pub mod sim_frames

@@ -1,0 +1,2 @@
+-- What crates above this one use of `sim_resumes` and don't list, so that the ways down from each crate stay few.
+pub use Rattle.sim_resumes.specs.Flying

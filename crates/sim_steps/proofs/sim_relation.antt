@@ -1,0 +1,5 @@
+-- What crates above this one use of `sim_relation` and don't list, so that the ways down from each crate stay few.
+pub use Rattle.sim_relation.proofs.CountedLists
+pub use Rattle.sim_relation.proofs.Flows
+pub use Rattle.sim_relation.proofs.Goes
+pub use Rattle.sim_relation.proofs.Moves

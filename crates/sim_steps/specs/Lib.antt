@@ -1,0 +1,5 @@
+pub mod Steps
+pub mod StepLaws
+pub mod GateEvents
+pub mod CallEvents
+pub mod sim_relation

@@ -1,5 +1,0 @@
-use Rattle.source_laws.proofs.Room.{law_of_aligns, law_of_zeroed}
-use Rattle.source_laws.proofs.room_is_as_given.Goals as goal
-
-pub returns : goal.returns
-returns c = record { aligns = law_of_aligns; zeroed = law_of_zeroed }

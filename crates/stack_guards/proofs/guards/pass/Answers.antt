@@ -1,7 +1,0 @@
-use Rattle.std.proofs.Common.{arith}
-use Rattle.stack_guards.proofs.FlagLemmas.{none_released}
-use Rattle.stack_guards.proofs.guards.pass.Goals as goal
-
-pub returns-else-clear-home-lt-HOME_NUMBERS-clause-released : goal.returns-else-clear-home-lt-HOME_NUMBERS-clause-released
-returns-else-clear-home-lt-HOME_NUMBERS-clause-released c =
-    none_released c.args.numbers.now c.args.home _ _ (c.requires.flags.each c.args.home c.requires.home) (omega arith)

@@ -1,5 +1,0 @@
-mod Memories
-mod Frees
-mod Starting
-pub mod Forced
-mod Barred

@@ -1,5 +1,0 @@
-use Rattle.std.proofs.Common.{refl}
-use Rattle.state_laws.proofs.starts_are_fresh.Goals as goal
-
-pub returns : goal.returns
-returns c p = refl

@@ -1,5 +1,0 @@
-use Rattle.table_laws.proofs.Moving.{finishes}
-use Rattle.table_laws.proofs.code_bytes.codes_finish.Goals as goal
-
-pub returns : goal.returns
-returns c = finishes

@@ -1,6 +1,0 @@
-use Rattle.table_laws.proofs.Scopes.{zero_ends}
-use Rattle.table_laws.proofs.Marked.{cleanups_are_read}
-use Rattle.table_laws.proofs.descriptors.cleanups_are_read.Goals as goal
-
-pub returns : goal.returns
-returns c = record { end = zero_ends; cleanup = cleanups_are_read }

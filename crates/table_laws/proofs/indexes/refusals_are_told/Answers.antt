@@ -1,5 +1,0 @@
-use Rattle.table_laws.proofs.Told.{refusals_are_told}
-use Rattle.table_laws.proofs.indexes.refusals_are_told.Goals as goal
-
-pub returns : goal.returns
-returns c = refusals_are_told

@@ -1,5 +1,0 @@
-use Rattle.text_laws.proofs.Traces.{traces}
-use Rattle.text_laws.proofs.traces_are_written.Goals as goal
-
-pub returns : goal.returns
-returns c = traces

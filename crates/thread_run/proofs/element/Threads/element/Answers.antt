@@ -1,6 +1,0 @@
-use Rattle.thread_memory.specs.Seen.{seen}
-use Rattle.thread_run.proofs.element.Threads.element.Goals as goal
-
-pub element_confirmed-requires-clause-ready : goal.element_confirmed-requires-clause-ready
-element_confirmed-requires-clause-ready g c =
-    c.doubt.ensures.ready (seen (g.B.Bus.memory c.args.self.now.shared.bus.inner) c.args.self.now.shared.bus.guards c.args.self.now.shared.bus.thread)

@@ -1,5 +1,0 @@
-use Rattle.std.proofs.Common.{refl}
-use Rattle.thread_run.proofs.laws.numbers_in_digits.Goals as goal
-
-pub returns : goal.returns
-returns c = record { gate = refl; none = refl }

@@ -1,4 +1,0 @@
--- What the crates above cite of guest_gates.
-pub use Rattle.guest_gates.specs.Ends
-pub use Rattle.guest_gates.specs.Gates
-pub use Rattle.guest_gates.specs.declared

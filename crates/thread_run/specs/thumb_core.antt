@@ -1,6 +1,0 @@
--- What the crates above cite of thumb_core.
-pub use Rattle.thumb_core.specs.Laws
-pub use Rattle.thumb_core.specs.Outcome
-pub use Rattle.thumb_core.specs.Step
-pub use Rattle.thumb_core.specs.Words
-pub use Rattle.thumb_core.specs.declared

@@ -1,7 +1,0 @@
-use Rattle.frames_same.specs.two_machines.Checked.{program_of}
-use Rattle.frames_same.specs.two_machines.Program.{program_tables}
-use Rattle.throws_keep.proofs.ThrowLeaves.{throw_gate_keeps, rethrow_gate_keeps}
-use Rattle.throws_keep.proofs.throw_gates_keep.Goals as goal
-
-pub returns : goal.returns
-returns c = λ x s next imm is k does. (throw_gate_keeps x is s k imm does (program_tables (program_of x)) next, rethrow_gate_keeps x is s k imm does (program_tables (program_of x)) next)

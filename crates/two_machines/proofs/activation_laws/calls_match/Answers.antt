@@ -1,5 +1,0 @@
-use Rattle.two_machines.proofs.CallEvents.{calls_match}
-use Rattle.two_machines.proofs.activation_laws.calls_match.Goals as goal
-
-pub returns : goal.returns
-returns c = calls_match

@@ -1,5 +1,0 @@
-use Rattle.two_machines.proofs.RecordedGates.{searches_fail}
-use Rattle.two_machines.proofs.activation_laws.failed_searches_add_their_event.Goals as goal
-
-pub returns : goal.returns
-returns c = searches_fail

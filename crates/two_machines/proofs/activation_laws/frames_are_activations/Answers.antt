@@ -1,5 +1,0 @@
-use Rattle.two_machines.proofs.GivesBack.{frames_are}
-use Rattle.two_machines.proofs.activation_laws.frames_are_activations.Goals as goal
-
-pub returns : goal.returns
-returns c = frames_are

@@ -1,5 +1,0 @@
-use Rattle.two_machines.proofs.Landed.{landings_match}
-use Rattle.two_machines.proofs.activation_laws.landings_match.Goals as goal
-
-pub returns : goal.returns
-returns c = landings_match

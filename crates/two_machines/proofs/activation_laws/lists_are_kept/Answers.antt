@@ -1,5 +1,0 @@
-use Rattle.two_machines.proofs.KeepingLists.{lists_kept}
-use Rattle.two_machines.proofs.activation_laws.lists_are_kept.Goals as goal
-
-pub returns : goal.returns
-returns c = lists_kept

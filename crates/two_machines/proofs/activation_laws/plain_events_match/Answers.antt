@@ -1,5 +1,0 @@
-use Rattle.two_machines.proofs.Matching.{plain_match}
-use Rattle.two_machines.proofs.activation_laws.plain_events_match.Goals as goal
-
-pub returns : goal.returns
-returns c = plain_match

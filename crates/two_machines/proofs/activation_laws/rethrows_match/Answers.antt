@@ -1,5 +1,0 @@
-use Rattle.two_machines.proofs.Rethrowing.{rethrows_match}
-use Rattle.two_machines.proofs.activation_laws.rethrows_match.Goals as goal
-
-pub returns : goal.returns
-returns c = rethrows_match

@@ -1,5 +1,0 @@
-use Rattle.two_machines.proofs.Returning.{returns_match}
-use Rattle.two_machines.proofs.activation_laws.returns_match.Goals as goal
-
-pub returns : goal.returns
-returns c = returns_match

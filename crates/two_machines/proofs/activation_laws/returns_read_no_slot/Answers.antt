@@ -1,5 +1,0 @@
-use Rattle.two_machines.proofs.SlotWords.{reads_no_slot}
-use Rattle.two_machines.proofs.activation_laws.returns_read_no_slot.Goals as goal
-
-pub returns : goal.returns
-returns c = reads_no_slot

@@ -1,5 +1,0 @@
-use Rattle.two_machines.proofs.Saving.{saves_become}
-use Rattle.two_machines.proofs.activation_laws.saves_become_slots.Goals as goal
-
-pub returns : goal.returns
-returns c = saves_become

@@ -1,5 +1,0 @@
-use Rattle.two_machines.proofs.Saving.{are_guarded}
-use Rattle.two_machines.proofs.activation_laws.slots_are_guarded.Goals as goal
-
-pub returns : goal.returns
-returns c = are_guarded

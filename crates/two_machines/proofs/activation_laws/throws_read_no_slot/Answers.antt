@@ -1,5 +1,0 @@
-use Rattle.two_machines.proofs.ThrowWords.{throws_read_none}
-use Rattle.two_machines.proofs.activation_laws.throws_read_no_slot.Goals as goal
-
-pub returns : goal.returns
-returns c = throws_read_none

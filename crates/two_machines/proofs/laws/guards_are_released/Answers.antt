@@ -1,5 +1,0 @@
-use Rattle.two_machines.proofs.Released.{are_released}
-use Rattle.two_machines.proofs.laws.guards_are_released.Goals as goal
-
-pub returns : goal.returns
-returns c = are_released

@@ -1,3 +1,0 @@
--- What the crates above cite of eh_types.
-pub use Rattle.eh_types.specs.Graph
-pub use Rattle.eh_types.specs.declared

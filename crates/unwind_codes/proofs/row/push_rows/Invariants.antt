@@ -1,6 +1,0 @@
-use Rattle.std.proofs.Common.{◌≡◌, ◌++◌, drop}
-use Rattle.unwind_codes.specs.Rows.{rows_bytes}
-use Rattle.unwind_codes.proofs.row.push_rows.Given as goal
-
-abbrev pub invariant-loop-row : goal.invariant-loop-row
-invariant-loop-row l = l.bytes.items ++ rows_bytes l.at (drop l.row-index l.rows) ≡ l.initial.bytes.items ++ rows_bytes l.place l.rows

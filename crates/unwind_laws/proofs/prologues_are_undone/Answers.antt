@@ -1,6 +1,0 @@
-use Rattle.unwind_laws.proofs.Caller.{law_of_prologues}
-use Rattle.unwind_laws.proofs.Entries.{law_of_reading}
-use Rattle.unwind_laws.proofs.prologues_are_undone.Goals as goal
-
-pub returns : goal.returns
-returns c = record { read = law_of_reading; taken_back = law_of_prologues }
