@@ -1,5 +1,5 @@
 #!/usr/bin/env python3
-"""Writes the image that the stored run of ehabi_audit audits (crates/ehabi_audit/data/unwell.elf), by the layout of docs/elf.md.
+"""Writes the image that the stored run of ehabi_audit audits (crates/ehabi_audit/data/unwell.elf), by the layout of docs/rules/elf.md.
 
 main is `push {r3, r4, lr}; movs r4, #1; bl leaf; pop {r3, r4, pc}`, and its entry takes nothing back. leaf is `bx lr`, and its entry takes
 nothing back. far is `push {r7, lr}; svc #18; pop {r7, pc}`, and its entry's codes are reserved. The type symbol leads to zeros.

@@ -1,5 +1,5 @@
 #!/usr/bin/env bash
-# How long `build` takes to read, assemble, link and write generated programs (docs/generated-programs.md) of 500, 1,000, 2,000
+# How long `build` takes to read, assemble, link and write generated programs (docs/guide/command-line.md) of 500, 1,000, 2,000
 # and 4,000 functions, and how much memory it has at most. Every function has an unwind entry, a call and two labels, and three
 # of four have a pad and a table. Prints a line each. Needs GNU time.
 set -eu
@@ -8,11 +8,11 @@ work=$(mktemp -d)
 trap 'rm -rf "$work"' EXIT
 "$top/ehabi_run" >/dev/null || true
 # rt builds a program by running it
-(cd "$top/crates/ehabi_generate" && rt run -- 1 1) >"$work/said" 2>&1 || { tail -n 20 "$work/said" >&2; exit 1; }
+(cd "$top/crates/bench_generate" && rt run -- 1 1) >"$work/said" 2>&1 || { tail -n 20 "$work/said" >&2; exit 1; }
 
 measure() {
     local begun ended
-    "$top/crates/ehabi_generate/out/ehabi_generate" 1 "$1" >"$work/source.s"
+    "$top/crates/bench_generate/out/bench_generate" 1 "$1" >"$work/source.s"
     begun=$(date +%s%N)
     (cd "$work" && /usr/bin/time -f %M -o memory "$top/out/ehabi_run" build source.s >image)
     ended=$(date +%s%N)

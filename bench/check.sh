@@ -1,5 +1,5 @@
 #!/usr/bin/env bash
-# How long `check` takes on the images of generated programs (docs/generated-programs.md) of 2,000 and of 4,000 functions, which
+# How long `check` takes on the images of generated programs (docs/guide/command-line.md) of 2,000 and of 4,000 functions, which
 # has 47,000 lines, and how much memory it has at most. Beside it stands how long other tools take to print what the same image
 # says: `readelf -u` its unwind tables, `objdump -d` its instructions. Of each the first is taken that is installed: the one for
 # Arm, LLVM's objdump, the host's. Readelf looks for the index by its section, so it is given a copy of the image with a section
@@ -11,11 +11,11 @@ work=$(mktemp -d)
 trap 'rm -rf "$work"' EXIT
 "$top/ehabi_run" >/dev/null || true
 # rt builds a program by running it
-(cd "$top/crates/ehabi_generate" && rt run -- 1 1) >"$work/said" 2>&1 || { tail -n 20 "$work/said" >&2; exit 1; }
+(cd "$top/crates/bench_generate" && rt run -- 1 1) >"$work/said" 2>&1 || { tail -n 20 "$work/said" >&2; exit 1; }
 
 # the image of a generated program of so many functions
 image() {
-    "$top/crates/ehabi_generate/out/ehabi_generate" 1 "$1" >"$work/source.s"
+    "$top/crates/bench_generate/out/bench_generate" 1 "$1" >"$work/source.s"
     (cd "$work" && "$top/out/ehabi_run" build source.s >image)
     [ "$(head -c 4 "$work/image")" = $'\x7fELF' ] || { echo "$1 functions: not built" >&2; head -c 200 "$work/image" >&2; exit 1; }
 }

@@ -2,7 +2,7 @@
 # What `check` costs on images that are made to cost it much, each at a size and at twice the size: gates under descriptors of which none
 # is in scope, calls under cleanups in scope that have one landing pad, an executable segment of zeros, functions under one table of
 # descriptors, gates under an entry of many code bytes, and types that overlap. Prints a line each, with the answer, seconds and
-# megabytes. The larger ones are near the limits of docs/elf.md and docs/flow-graphs.md, or at them. A run is cut off after
+# megabytes. The larger ones are near the limits of docs/rules/elf.md and docs/rules/acceptance.md, or at them. A run is cut off after
 # 300 seconds. How long it takes and what it holds is said of the build that is measured: one from `rt try` has run-time checks
 # and takes many times as long. Needs GNU time and python3. `EHABI_RUN=PROGRAM bench/check_cost.sh` measures another build of the program.
 set -eu

@@ -19,8 +19,8 @@ program=${EHABI_RUN:-}
 generate=${EHABI_GENERATE:-}
 if [ -z "$generate" ]; then
     # rt builds a program by running it
-    (cd "$top/crates/ehabi_generate" && rt run -- 1 1) >"$work/said" 2>&1 || { tail -n 20 "$work/said" >&2; exit 1; }
-    generate=$top/crates/ehabi_generate/out/ehabi_generate
+    (cd "$top/crates/bench_generate" && rt run -- 1 1) >"$work/said" 2>&1 || { tail -n 20 "$work/said" >&2; exit 1; }
+    generate=$top/crates/bench_generate/out/bench_generate
 fi
 cc -O2 -o "$work/plain" "$top/bench/plain_core.c"
 write_loops "$work"

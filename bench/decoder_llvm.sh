@@ -1,5 +1,5 @@
 #!/usr/bin/env bash
-# Compares the decoder, in both profiles, with llvm-mc's disassembler for Armv6-M and for Armv8-M Baseline (docs/instruction-set.md): each of the
+# Compares the decoder, in both profiles, with llvm-mc's disassembler for Armv6-M and for Armv8-M Baseline (docs/rules/instructions.md): each of the
 # 65,536 first halfwords, with several second ones where it begins two, and for each row of two halfwords so many pairs that differ from it in
 # at most three bits of its pattern. What is an instruction here has to be the same one there, with the same fields; what is undefined here has
 # to be none there, UDF and the instructions of DDI 0553 and DDI 0419 apart that these profiles leave out. Unpredictable pairs, and those of
@@ -13,15 +13,15 @@ command -v llvm-mc >/dev/null || { echo "llvm-mc is not installed"; exit 2; }
 work=$(mktemp -d)
 trap 'rm -rf "$work"' EXIT
 mkdir -p "$work/crates/both_profiles/src"
-cp -r "$top/crates/thumb_isa" "$top/crates/case_rows" "$work/crates/"
+cp -r "$top/crates/thumb_isa" "$top/crates/test_rows" "$work/crates/"
 rm -rf "$work"/crates/*/out
 cp "$top/HANDLES" "$work/"
-printf 'thumb_isa:\ncase_rows:\nboth_profiles: case_rows thumb_isa\n' >"$work/crates.txt"
+printf 'thumb_isa:\ntest_rows:\nboth_profiles: test_rows thumb_isa\n' >"$work/crates.txt"
 cat >"$work/crates/both_profiles/src/main.rt" <<'RATTLE'
 //! What pairs of halfwords mean in both profiles.
 #![tactic(auto)]
 
-use case_rows::{Asked, Unanswered, first_word, run_file};
+use test_rows::{Asked, Unanswered, first_word, run_file};
 use std::alloc::Global;
 use std::io::Error;
 use thumb_isa::decode::decode_for;

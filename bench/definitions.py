@@ -5,7 +5,7 @@ usage: bench/definitions.py CRATE.FILE.NAME.. [-- CRATE.FILE.NAME..]
 
 A name is that of a definition in crates/CRATE/specs/FILE.antt. Those after `--` are taken as believed: what they rest on isn't listed. A row
 says which of a file's definitions others ask for. Types of the code (`declared`) and the toolkit's own definitions are left out.
-docs/trusted.md has two such lists."""
+docs/inside/headline.md has two such lists."""
 import os
 import re
 import sys

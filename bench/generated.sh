@@ -1,5 +1,5 @@
 #!/usr/bin/env bash
-# What the generated programs of number 1 (docs/generated-programs.md) with 500, 1,000, 2,000 and 4,000 functions take: `build` of
+# What the generated programs of number 1 (docs/guide/command-line.md) with 500, 1,000, 2,000 and 4,000 functions take: `build` of
 # the source, `check` and `run` of the image, and `gen`, which does all of it. Times are the least of ten. How many events a run has
 # is found by halving its budget, and how many it does a second is by how much longer `run` takes than `check`. Memory is the most
 # that `gen` has. Prints a line each, after the date. Needs GNU time and awk.
@@ -9,7 +9,7 @@ work=$(mktemp -d)
 trap 'rm -rf "$work"' EXIT
 "$top/ehabi_run" >/dev/null || true
 # rt builds a program by running it
-(cd "$top/crates/ehabi_generate" && rt run -- 1 1) >"$work/said" 2>&1 || { tail -n 20 "$work/said" >&2; exit 1; }
+(cd "$top/crates/bench_generate" && rt run -- 1 1) >"$work/said" 2>&1 || { tail -n 20 "$work/said" >&2; exit 1; }
 cd "$work"
 
 # sets the least nanoseconds of ten calls of the program with these words, whose text goes to the file said
@@ -46,7 +46,7 @@ count_events() {
 
 measure() {
     local build check run
-    "$top/crates/ehabi_generate/out/ehabi_generate" 1 "$1" >source.s
+    "$top/crates/bench_generate/out/bench_generate" 1 "$1" >source.s
     timed build source.s
     build=$nanoseconds
     cp said image

@@ -1,7 +1,7 @@
 #!/usr/bin/env bash
 # Changes each of the 24 bytes of a C++ compiler's table to every other value, 6,120 images, and compares what `gnu` says of each with a reader
-# of its own, written here from docs/gnu-tables.md ("What is refused"): the fault of the entry, or that there is none. Prints how often each
-# answer came, and what differs. The image is that of the first rows of crates/ehabi_cases/data/gnu.txt. Needs python3.
+# of its own, written here from docs/rules/gnu-tables.md ("What is refused"): the fault of the entry, or that there is none. Prints how often each
+# answer came, and what differs. The image is that of the first rows of crates/test_commands_main/data/gnu.txt. Needs python3.
 # `EHABI_RUN=PROGRAM bench/gnu_bytes.sh` asks another build of the program.
 set -eu
 top=$(cd "$(dirname "$0")/.." && pwd)

@@ -1,5 +1,5 @@
 #!/usr/bin/env python3
-"""Writes an image with so many generic entries of GNU's, by the layout of docs/elf.md: bench/gnu_cost.sh measures with it.
+"""Writes an image with so many generic entries of GNU's, by the layout of docs/rules/elf.md: bench/gnu_cost.sh measures with it.
 
 usage: bench/gnu_image.py ROWS own|shared
 

@@ -1,6 +1,6 @@
 #!/usr/bin/env bash
 # Changes an image or a source at random, again and again for so many seconds, and gives what comes of it to the program: `check`
-# and `run` of an image, `build`, `check` and `run` of a source (docs/command-line.md). It stops at the first answer that is none
+# and `run` of an image, `build`, `check` and `run` of a source (docs/guide/command-line.md). It stops at the first answer that is none
 # of the program's own: a signal, a status or a last line that the command doesn't have, a byte on standard error, two commands
 # that disagree about one file, more than 2 s of a processor, or more than 200 MB. The file that shows it is kept, and its name is
 # printed. With --past-slow it keeps files that take too long, and goes on. At the end it prints how many inputs it made, and how

@@ -2,7 +2,7 @@
 # Refuses the program's requests for memory, one in each run: the first, the second, and so on through all of them, of `run` of a
 # program that throws and catches and writes k, and of `gen 1 4`. Each run then has to answer 9, where what it wrote is a first
 # part of the report, and all of what the guest writes if anything; or it gives the whole report, where less memory did as well
-# (docs/command-line.md). The requests are those of the C library's malloc and realloc, of which the program takes all its memory,
+# (docs/guide/command-line.md). The requests are those of the C library's malloc and realloc, of which the program takes all its memory,
 # so those of the start of the process are among them. Prints a line for each command, and ends with 1 where a run answered otherwise.
 # Needs cc.
 #

@@ -1,16 +1,16 @@
 #!/usr/bin/env bash
 # What a frame of a walk, and one on the way of a forced unwinding to its stop, costs the host: host instructions by valgrind's callgrind, as the
 # difference of one over so many frames and one of a single frame, so that neither the start of the program nor the check of the image plays a
-# part. The frames are those of tower.s among the walks of the program machine_cases, of a function that lowers sp by 4 and whose caller is itself: each has two code bytes
+# part. The frames are those of tower.s among the walks of the program test_machine_main, of a function that lowers sp by 4 and whose caller is itself: each has two code bytes
 # and no descriptor, so the unwinding is refused in the last frame. Prints a line for each number and kind.
 set -eu
 top=$(cd "$(dirname "$0")/.." && pwd)
 work=$(mktemp -d)
 trap 'rm -rf "$work"' EXIT
-cases=$top/crates/machine_cases
+cases=$top/crates/test_machine_main
 # rt builds a program by running it
 (cd "$cases" && rt run) >"$work/said" 2>&1 || true
-[ -x "$cases/out/machine_cases" ] || { tail -n 20 "$work/said" >&2; exit 1; }
+[ -x "$cases/out/test_machine_main" ] || { tail -n 20 "$work/said" >&2; exit 1; }
 # the program reads each of its files of cases; all but one are empty here
 mkdir "$work/walks" "$work/threads"
 (cd "$cases/data" && find . -name '*.txt') | while read -r name; do : >"$work/$name"; done
@@ -26,7 +26,7 @@ instructions() {
         printf 'tower.s; run 5; reg E 800D; reg D 3FFC0000; force %X : NoStop\n' $(($2 - 1)) >"$work/walks/states.txt"
     fi
     (cd "$work" && valgrind --tool=callgrind --callgrind-out-file="$work/callgrind" \
-        "$cases/out/machine_cases" >"$work/out" 2>"$work/err")
+        "$cases/out/test_machine_main" >"$work/out" 2>"$work/err")
     grep -qx "walks/states.txt: 1 of 1" "$work/out" || { echo "$1, $2 frames: another answer" >&2; exit 1; }
     awk '/Collected/ { print $4 }' "$work/err"
 }
